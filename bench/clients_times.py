@@ -5,11 +5,10 @@ import sys
 import tempfile
 
 import durable_times
-import store_times
+import programs
+from programs import HERE, ROOT
 
-HERE = os.path.dirname(os.path.abspath(__file__))
-BINDINGS = os.path.join(HERE, "..", "bindings")
-BUILD = os.path.join(BINDINGS, "c", "build")
+BINDINGS = os.path.join(ROOT, "bindings")
 TURNS = 3
 SECONDS = "2"
 SYNCS = 2_000
@@ -17,13 +16,13 @@ SYNCS = 2_000
 
 def program_of_rust(folder):
     subprocess.run(["cargo", "build", "--quiet", "--release", "--offline", "--example", "clients_bench", "--target-dir", folder],
-                   cwd=os.path.join(BINDINGS, "rust"), check=True)
+                   cwd=os.path.join(BINDINGS, "rust"), check=True, env={**os.environ, "COLOCK_LIB_DIR": programs.library()})
     return os.path.join(folder, "release", "examples", "clients_bench")
 
 
 def told(folder, *words):
     """What a program prints, lines of a name and a number. Its databases are in the folder."""
-    environment = {**os.environ, "PYTHONPATH": os.path.join(BINDINGS, "python"), "COLOCK_LIBRARY": os.path.join(BUILD, "libcolock.so"), "TMPDIR": folder}
+    environment = {**os.environ, "PYTHONPATH": os.path.join(BINDINGS, "python"), "COLOCK_LIBRARY": os.path.join(programs.library(), "libcolock.so"), "TMPDIR": folder}
     done = subprocess.run(words, check=True, stdout=subprocess.PIPE, text=True, env=environment)
     return {name: float(number) for name, number in (line.split(" ") for line in done.stdout.splitlines())}
 
@@ -54,10 +53,9 @@ def of_python(folder):
 
 
 def main():
-    """COLOCK names another program than that of the repository. Databases are beside this file, and not in memory."""
+    """Databases are beside this file, and not in memory."""
     with tempfile.TemporaryDirectory(dir=HERE) as folder:
-        os.environ["COLOCK"] = os.path.abspath(os.environ.get("COLOCK") or store_times.built("colock"))
-        subprocess.run(["make", "--quiet", "library"], cwd=os.path.join(BINDINGS, "c"), check=True)
+        os.environ["COLOCK"] = programs.built("colock")
         loop = SYNCS / durable_times.seconds(durable_times.driver(folder), "loop", os.path.join(folder, "loop"), 16, SYNCS)[0]
         print(f"{os.cpu_count()} processors, the most of {TURNS} turns; the disk's loop has {loop:,.0f} syncs a second", flush=True)
         of_rust(folder)

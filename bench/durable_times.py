@@ -6,9 +6,10 @@ import shutil
 import subprocess
 import tempfile
 
-import store_times
+import programs
+import type_texts
+from programs import HERE
 
-HERE = os.path.dirname(os.path.abspath(__file__))
 WINDOWS = (1, 16, 64)
 COUNT = 2_000
 
@@ -82,14 +83,12 @@ def epoch(colock, program, folder, *options):
     return seconds(program, "epoch", colock, path, 326_666, *options)
 
 
-def time_durable():
-    """One run on one disk: the folder is beside this file, and not in /tmp, which may be memory. COLOCK names another program."""
+def main():
+    """One run on one disk: the folder is beside this file, and not in /tmp, which may be memory."""
     with tempfile.TemporaryDirectory(dir=HERE) as folder:
-        colock, program = os.environ.get("COLOCK") or store_times.built("colock"), driver(folder)
-        with open(os.path.join(folder, "one.objects"), "w", encoding="ascii") as file:
-            file.write("object undo 0\nend\n")
-        with open(os.path.join(folder, "modulo.type"), "w", encoding="ascii") as file:
-            file.write("\n".join(store_times.modulo()) + "\n")
+        colock, program = programs.built("colock"), driver(folder)
+        programs.written(folder, "one.objects", "object undo 0\nend\n")
+        programs.written(folder, "modulo.type", type_texts.modulo())
         once = COUNT / seconds(program, "sqlite", os.path.join(folder, "sqlite.db"), COUNT)[0]
         print(f"SQLite, an UPDATE each: {once:.0f} commits a second")
         for window, options in itertools.product(WINDOWS, ((), ("--fast",))):

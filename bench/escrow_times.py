@@ -1,11 +1,13 @@
 """Times of numbers in escrow beside other ways to share a number, and of a number without a table beside a table, as
-rows of markdown tables."""
+rows of CSV."""
+import csv
 import os
-import subprocess
 import sys
 import tempfile
 
+import programs
 import store_times
+import type_texts
 import workers_times
 
 WORKERS = 16
@@ -42,56 +44,39 @@ AMOUNTS = (1, 9)
 LASTING = (1,)
 
 
-def made(family, greatest, amounts):
-    """The text of a family's type."""
-    colock = os.environ.get("COLOCK") or store_times.built("colock")
-    return subprocess.run([colock, "make", family, str(greatest), *map(str, amounts)], check=True, capture_output=True,
-                          text=True).stdout
-
-
-def write(folder, name, text, initial):
-    """The file of a type, beginning at a state."""
-    with open(os.path.join(folder, name + ".type"), "w", encoding="ascii") as file:
-        file.write(text.replace("\ninitial 0\n", f"\ninitial {initial}\n"))
-
-
 def write_types(folder):
     """The same table, beginning at each number."""
-    text = made("counter", GREATEST, AMOUNTS)
     for initial in (FAR, NEAR):
-        write(folder, str(initial), text, initial)
+        programs.written(folder, f"{initial}.type", type_texts.made("counter", GREATEST, AMOUNTS, initial))
 
 
-def declared_text(name, amounts):
+def declared_text(name, amounts, initial):
     """The text of the table or of the number."""
     if name == "table":
-        return made("stock", DECLARED[name], amounts)
-    lines = ["number number", f"max {DECLARED[name]}", "initial 0"]
-    lines += [f"{word} {amount}" for word in ("take", "give") for amount in amounts]
-    return "\n".join([*lines, "end", ""])
+        return type_texts.made("stock", DECLARED[name], amounts, initial)
+    lines = ["number number", f"max {DECLARED[name]}", f"initial {initial}"]
+    return type_texts.text_of(lines + [f"{word} {amount}" for word in ("take", "give") for amount in amounts])
 
 
 def write_declared(folder):
     """The table and the number, beginning in the middle and near a bound, and those that go on without end."""
     for name, greatest in DECLARED.items():
-        write(folder, f"{name}-far", declared_text(name, AMOUNTS), greatest // 2)
-        write(folder, f"{name}-near", declared_text(name, AMOUNTS), NEAR)
-        write(folder, f"{name}-lasting", declared_text(name, LASTING), greatest // 2)
+        for place, amounts, initial in (("far", AMOUNTS, greatest // 2), ("near", AMOUNTS, NEAR), ("lasting", LASTING, greatest // 2)):
+            programs.written(folder, f"{name}-{place}.type", declared_text(name, amounts, initial))
 
 
-def programs(folder):
+def begun(folder):
     """The words by which each program begins, the kind among them."""
     at_once = workers_times.plain(folder, "at_once")
     pausing = workers_times.plain(folder, "pausing", "--cfg", "pausing")
-    ours = [store_times.built("benches"), "workers"]
+    ours = [programs.library_of_rust(folder), "workers"]
     begin = {kind: [*ours, kind] for kind in ("escrow", "undo", "intentions")}
     return begin | {"plain": [pausing, "escrow", "escrow"], "object": [at_once, "object", "undo"]}
 
 
 def told(program, path, jobs, tries, think, calls):
     """Milliseconds, commits, and calls that were busy, of a run."""
-    begin, *words = program
-    run = store_times.printed([begin], [*words, path, *map(str, (WORKERS, jobs, tries, think)), *calls])
+    run = programs.printed([*program, path, WORKERS, jobs, tries, think, *calls])
     return int(run["nanoseconds"]) / 1e6, int(run["commits"]), int(run["busy"])
 
 
@@ -112,12 +97,10 @@ def row(started, folder, title, pace, initial, calls, rounds):
             few = think > 0 and program == "object"
             seen[program].append(told(started[program], path, jobs // WORKERS if few else jobs, tries, think, calls))
     best = {program: max(runs, key=rate) for program, runs in seen.items()}
-    cells = [title, name]
-    cells += [f"{rate(best[program]) * 1e3:,.0f}" for program in PROGRAMS]
-    cells += [f"{best[program][1]:,}" for program in PROGRAMS[:4]]
-    cells += [f"{max(run[2] for run in seen['escrow']):,}"]
-    cells += [f"{rate(best['plain']) / rate(best['escrow']):.2f}", f"{rate(best['escrow']) / rate(best['object']):.1f}"]
-    return "| " + " | ".join(cells) + " |"
+    cells = [title, name, *(f"{rate(best[program]) * 1e3:.0f}" for program in PROGRAMS)]
+    cells += [best[program][1] for program in PROGRAMS[:4]]
+    cells.append(max(run[2] for run in seen["escrow"]))
+    return [*cells, f"{rate(best['plain']) / rate(best['escrow']):.2f}", f"{rate(best['escrow']) / rate(best['object']):.1f}"]
 
 
 def declared_row(started, folder, title, pace, place, calls, rounds):
@@ -130,50 +113,46 @@ def declared_row(started, folder, title, pace, place, calls, rounds):
             path = os.path.join(folder, f"{declared}-{place}.type")
             seen[declared].append(told(started["escrow"], path, jobs, tries, think, calls))
     best = {declared: max(runs, key=rate) for declared, runs in seen.items()}
-    cells = [title, name, *(f"{rate(run) * 1e3:,.0f}" for run in best.values()), *(f"{run[1]:,}" for run in best.values())]
-    cells += [f"{max(run[2] for run in runs):,}" for runs in seen.values()]
-    return "| " + " | ".join([*cells, f"{rate(best['table']) / rate(best['number']):.2f}"]) + " |"
+    cells = [title, name, *(f"{rate(run) * 1e3:.0f}" for run in best.values()), *(run[1] for run in best.values())]
+    cells += [max(run[2] for run in runs) for runs in seen.values()]
+    return [*cells, f"{rate(best['table']) / rate(best['number']):.2f}"]
+
+
+def write_rows(head, rows):
+    out = csv.writer(sys.stdout, lineterminator="\n")
+    out.writerow(head)
+    for row in rows:
+        out.writerow(row)
+        sys.stdout.flush()
 
 
 def show_declared(started, folder, rounds):
     """The number beside the table: the jobs of workers, and what goes on without end, with the most memory."""
     write_declared(folder)
-    print(DECLARED_HEAD.format(WORKERS))
-    for title, initial, calls in WORK:
-        for pace in PACES:
-            print(declared_row(started, folder, title, pace, "far" if initial == FAR else "near", calls, rounds), flush=True)
-    benches = store_times.built("benches")
+    rows = (declared_row(started, folder, title, pace, "far" if initial == FAR else "near", calls, rounds)
+            for title, initial, calls in WORK for pace in PACES)
+    write_rows(DECLARED_HEAD, rows)
+    library = started["escrow"][0]
     for declared in DECLARED:
         print(f"\n{declared}: one call a transaction, 16 of them open, that goes on")
-        store_times.show_lasting(folder, [benches, "lasting"], "escrow", str(MILLIONS), f"{declared}-lasting")
+        store_times.show_lasting(library, "escrow", type_texts.at(folder, f"{declared}-lasting"), MILLIONS)
 
 
-DECLARED_HEAD = """
-| jobs of {} workers | | table: commits a second | number: commits a second | table: commits | number: commits | busy at the table | busy at the number | time of the number to the table's |
-|---|---|---|---|---|---|---|---|---|"""
+DECLARED_HEAD = ["calls", "jobs", *(f"{name} {what}" for what in ("commits a second", "committed", "busy") for name in DECLARED),
+                 "time of the number to the table's"]
 
-HEAD = """
-| jobs of {} workers | | {} | {} | busy in escrow | time to plain | to object |
-|---|---|{}---|---|---|"""
+HEAD = ["calls", "jobs", *(f"{program} commits a second" for program in PROGRAMS),
+        *(f"{program} committed" for program in PROGRAMS[:4]), "busy in escrow", "time to plain", "commits to object"]
 
 
 def main(rounds):
     with tempfile.TemporaryDirectory() as folder:
         write_types(folder)
-        started = programs(folder)
-        print(f"{os.cpu_count()} processors, best of {rounds} rounds")
-        rates = " | ".join(f"{program}: commits a second" for program in PROGRAMS)
-        commits = " | ".join(f"{program}: commits" for program in PROGRAMS[:4])
-        print(HEAD.format(WORKERS, rates, commits, "---|" * 9))
-        for title, initial, calls in WORK:
-            for pace in PACES:
-                print(row(started, folder, title, pace, initial, calls, int(rounds)), flush=True)
+        started = begun(folder)
+        print(f"{os.cpu_count()} processors, best of {rounds} rounds, {WORKERS} workers", file=sys.stderr)
+        rows = (row(started, folder, title, pace, initial, calls, rounds) for title, initial, calls in WORK for pace in PACES)
+        write_rows(HEAD, rows)
         print("\none call a transaction, 16 of them open, at a number that goes on")
-        store_times.write_types(folder)
-        benches = store_times.built("benches")
-        store_times.show_lasting(folder, [benches, "lasting"], "escrow", str(MILLIONS))
-        show_declared(started, folder, int(rounds))
-
-
-if __name__ == "__main__":
-    main(sys.argv[1] if len(sys.argv) > 1 else "3")
+        lasting = programs.written(folder, "lasting.type", type_texts.made("counter", GREATEST, [1]))
+        store_times.show_lasting(started["escrow"][0], "escrow", lasting, MILLIONS)
+        show_declared(started, folder, rounds)

@@ -5,10 +5,9 @@ import subprocess
 import sys
 import tempfile
 
-import store_times
+import programs
 
-HERE = os.path.dirname(os.path.abspath(__file__))
-TEXTS = os.path.join(HERE, "..", "crates", "test_support", "src", "type_texts.rt")
+TEXTS = os.path.join(programs.ROOT, "crates", "test_support", "src", "type_texts.rt")
 BATCH = 1000
 
 # The worked types that the checker accepts, by kind.
@@ -27,31 +26,24 @@ def write_types(folder):
             file.write(texts[name])
 
 
-def plain_program(folder):
-    program = os.path.join(folder, "plain_follow")
-    source = os.path.join(HERE, "plain_follow", "main.rs")
-    subprocess.run(["rustc", "-O", "--edition", "2024", "-o", program, source], check=True)
-    return program
-
-
-def follow_batch(folder, programs, kind, seed, histories):
+def follow_batch(folder, both, kind, seed, histories):
     """Lets stores follow this many histories of a seed: how many changed events were made."""
-    benches, plain = programs
+    library, plain = both
     types = [os.path.join(folder, name) for name in TYPES[kind]]
     numbers = os.path.join(folder, "numbers")
     with open(numbers, "wb") as file:
         subprocess.run([plain, kind, str(seed), str(histories), *types], check=True, stdout=file)
-    run = subprocess.run([benches, "followed", kind, numbers, *types], capture_output=True, text=True)
+    run = subprocess.run([library, "followed", kind, numbers, *types], capture_output=True, text=True)
     words = run.stdout.split()
     if run.returncode or words[:4] != ["histories", str(histories), "changed", str(histories)]:
         sys.exit(f"{kind}, seed {seed}: {run.stdout}{run.stderr}")
     return int(words[-1])
 
 
-def follow_kind(folder, programs, kind, histories):
+def follow_kind(folder, both, kind, histories):
     """Lets stores of a kind follow this many histories, and prints what came of them."""
     batches = [min(BATCH, histories - at) for at in range(0, histories, BATCH)]
-    made = sum(follow_batch(folder, programs, kind, seed, count) for seed, count in enumerate(batches))
+    made = sum(follow_batch(folder, both, kind, seed, count) for seed, count in enumerate(batches))
     print(f"{kind}: {histories:,} histories followed; of as many changed events {made:,} made by a command, "
           f"{histories - made:,} by none", flush=True)
     return made
@@ -59,10 +51,9 @@ def follow_kind(folder, programs, kind, histories):
 
 def main(histories):
     halves = {"undo": histories - histories // 2, "intentions": histories // 2}
-    benches = store_times.built("benches")
     with tempfile.TemporaryDirectory() as folder:
         write_types(folder)
-        programs = benches, plain_program(folder)
-        made = sum(follow_kind(folder, programs, kind, count) for kind, count in halves.items())
+        both = programs.library_of_rust(folder), programs.plain(folder, "plain_follow", "plain_follow/main.rs")
+        made = sum(follow_kind(folder, both, kind, count) for kind, count in halves.items())
     print(f"both: {histories:,} histories followed; {made:,} changed events made by a command, "
           f"{histories - made:,} by none")

@@ -6,10 +6,10 @@ import sys
 import tempfile
 import time
 
-import store_times
+import programs
+import type_texts
+from programs import HERE, KINDS
 
-HERE = os.path.dirname(os.path.abspath(__file__))
-KINDS = ("undo", "intentions")
 COMMANDS = 1_000_000
 
 # The calls of a script, by its type, and the greatest number of the counter.
@@ -18,14 +18,6 @@ MOST = 1000
 
 # Events, transactions and objects of a history that no program here has run.
 WIDE = (1_000_000, 300_000, 256)
-
-
-def plain_program(folder):
-    program = os.path.join(folder, "plain_run")
-    source = os.path.join(HERE, "plain_run", "main.rs")
-    subprocess.run(["rustc", "-O", "-C", "codegen-units=1", "-C", "target-cpu=x86-64-v2",
-                    "--edition", "2024", "-o", program, source], check=True)
-    return program
 
 
 def written(folder, name, words):
@@ -40,8 +32,7 @@ def written(folder, name, words):
 
 def write_types(folder):
     written(folder, "counter.type", ["counter", MOST])
-    with open(os.path.join(folder, "modulo.type"), "w", encoding="ascii") as file:
-        file.write("\n".join(store_times.modulo()) + "\n")
+    programs.written(folder, "modulo.type", type_texts.modulo())
 
 
 def once(command, output):
@@ -59,10 +50,10 @@ def digest(path):
         return hashlib.file_digest(file, "sha256").hexdigest()
 
 
-def outputs(folder, programs, words):
+def outputs(folder, both, words):
     """Where each program's output is, of which the bytes must be the same."""
-    paths = [os.path.join(folder, f"output{place}") for place in range(len(programs))]
-    for program, path in zip(programs, paths):
+    paths = [os.path.join(folder, f"output{place}") for place in range(len(both))]
+    for program, path in zip(both, paths):
         with open(path, "wb") as file:
             status = once([program, *words], file)[3]
         if status != 0:
@@ -72,12 +63,12 @@ def outputs(folder, programs, words):
     return paths
 
 
-def least(programs, words, rounds):
+def least(both, words, rounds):
     """Of each program the least seconds, processor's seconds and bytes, by turns."""
-    seen = [[] for _ in programs]
+    seen = [[] for _ in both]
     with open(os.devnull, "wb") as nowhere:
         for _ in range(rounds):
-            for runs, program in zip(seen, programs):
+            for runs, program in zip(seen, both):
                 runs.append(once([program, *words], nowhere)[:3])
     return [[min(run[place] for run in runs) for place in range(3)] for runs in seen]
 
@@ -114,12 +105,12 @@ def cases(folder):
             yield f"{name}, {kind}", path, os.path.join(folder, name + ".type")
 
 
-def time_run(folder, programs, rounds):
+def time_run(folder, both, rounds):
     for title, script, of in cases(folder):
         words = ["run", script, of]
-        outputs(folder, programs, words)
-        show(title, COMMANDS, least(programs, words, rounds))
-        show_parts(programs[-1], words, COMMANDS, rounds)
+        outputs(folder, both, words)
+        show(title, COMMANDS, least(both, words, rounds))
+        show_parts(both[-1], words, COMMANDS, rounds)
 
 
 def lines_of(path):
@@ -127,26 +118,25 @@ def lines_of(path):
         return sum(1 for _ in file)
 
 
-def time_audit(folder, programs, rounds):
+def time_audit(folder, both, rounds):
     histories = []
     for title, script, of in cases(folder):
         path = script.replace(".script", ".history")
-        os.rename(outputs(folder, programs[-1:], ["run", script, of])[0], path)
+        os.rename(outputs(folder, both[-1:], ["run", script, of])[0], path)
         histories.append((title + ", run", path, of))
     wide = written(folder, "wide.history", ["history", *WIDE, MOST])
     histories.append(("300,000 transactions, 256 objects", wide, os.path.join(folder, "counter.type")))
     for title, path, of in histories:
         words, lines = ["audit", path, of], lines_of(path)
-        outputs(folder, programs, words)
-        show(title, lines, least(programs, words, rounds))
-        show_parts(programs[-1], words, lines, rounds)
+        outputs(folder, both, words)
+        show(title, lines, least(both, words, rounds))
+        show_parts(both[-1], words, lines, rounds)
 
 
 def main(what, rounds):
-    ours = os.environ.get("COLOCK") or store_times.built("colock")
     with tempfile.TemporaryDirectory() as folder:
         write_types(folder)
-        programs = [ours, plain_program(folder)]
+        both = [programs.built("colock"), programs.plain(folder, "plain_run", "plain_run/main.rs")]
         print(f"{os.cpu_count()} processors, least of {rounds} rounds")
         show_header()
-        (time_run if what == "run" else time_audit)(folder, programs, int(rounds))
+        (time_run if what == "run" else time_audit)(folder, both, rounds)

@@ -1,4 +1,4 @@
-"""Texts for the benches of `run` and `audit`: scripts and histories that are the same each time."""
+"""Scripts and histories that are the same each time, for `run`, `audit` and the reader of scripts."""
 import random
 import sys
 
@@ -48,6 +48,39 @@ def script(kind, calls, commands, seed=SEED):
     while made.open:
         made.end(0)
     return [f"max {max(2, commands)}"] + [f"object {kind} 0"] * OBJECTS + made.lines + ["end"]
+
+
+def numbers(seed=1):
+    """Numbers below 2 ** 31 from a linear congruence."""
+    while True:
+        seed = (seed * 6364136223846793005 + 1442695040888963407) % 2 ** 64
+        yield seed >> 33
+
+
+def reading_commands(count, calls=7, names=("inc:1", "dec:1", "read")):
+    """Commands to be read: each of the transactions makes this many calls and ends, and another begins in its place."""
+    chance = numbers()
+    made = [0] * OPEN
+    number = list(range(OPEN))
+    begun = OPEN
+    lines = ["begin"] * OPEN
+    while len(lines) < count:
+        slot = next(chance) % OPEN
+        if made[slot] < calls:
+            made[slot] += 1
+            x, name = next(chance) % OBJECTS, names[next(chance) % len(names)]
+            lines.append(f"call {number[slot]} {x} {name}")
+        else:
+            word = "abort" if next(chance) % 100 < ABORTS_OF_100 else "commit"
+            lines += [f"{word} {number[slot]}", "begin"]
+            made[slot], number[slot], begun = 0, begun, begun + 1
+    return lines[:count]
+
+
+def reading(count):
+    """The lines of a script of this many commands that is read, and not run."""
+    objects = [f"object {'undo' if x % 2 == 0 else 'intentions'} 0" for x in range(OBJECTS)]
+    return ["max 1000000", *objects, *reading_commands(count), "end"]
 
 
 class History:

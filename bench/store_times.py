@@ -4,11 +4,9 @@ import subprocess
 import sys
 import tempfile
 
-HERE = os.path.dirname(os.path.abspath(__file__))
-CRATES = os.path.join(HERE, "..", "crates")
-COMMANDS = 200_000
-TURNS = 5
-KINDS = ("undo", "intentions")
+import programs
+import type_texts
+from programs import COMMANDS, KINDS, TURNS
 
 # (type, objects, transactions that are always open, calls of each, what else happens)
 WORKLOADS = [
@@ -68,88 +66,34 @@ LAWS = [
 ]
 
 
-def modulo():
-    """A counter of 1,024 states that goes on with 0, and that nothing but itself is called at."""
-    steps = [f"step {s} 0 {(s + 1) % 1024}" for s in range(1024)]
-    return ["type modulo", "states 1024", "initial 0", "op inc:1 ok"] + steps + ["end"]
-
-
-def of_one_state(name, ops, steps, pairs):
-    """A type of one state, with these operations, the legal ones, and conflicts of both kinds."""
-    lines = [f"type {name}", "states 1", "initial 0"] + [f"op {op}" for op in ops]
-    lines += [f"step 0 {k} 0" for k in steps]
-    lines += [f"conflict {kind} {p} {q}" for kind in KINDS for p, q in pairs]
-    return lines + ["end"]
-
-
-def names(calls):
-    """This many calls, each with one operation."""
-    return of_one_state(f"names{calls}", [f"call:{k} ok" for k in range(calls)], range(calls), [])
-
-
-def replies(ops):
-    """One call with this many operations, of which the last alone is legal."""
-    return of_one_state(f"replies{ops}", [f"call reply:{k}" for k in range(ops)], [ops - 1], [])
-
-
-def rival():
-    """Two calls, of which one conflicts with itself."""
-    return of_one_state("rival", ["shared ok", "alone ok"], [0, 1], [(1, 1)])
-
-
-def built(crate):
-    """The program of a crate, which is proved where that hasn't been done."""
-    subprocess.run(["rt", "run"], cwd=os.path.join(CRATES, crate), capture_output=True)
-    return os.path.join(CRATES, crate, "out", crate)
-
-
-def write_types(folder):
-    """Writes each type file."""
-    texts = {"modulo": modulo(), "rival": rival()}
-    texts |= {f"names{calls}": names(calls) for calls in (1, 8, 64)}
-    texts |= {f"replies{ops}": replies(ops) for ops in (1, 8, 64)}
-    for name, lines in texts.items():
-        with open(os.path.join(folder, name + ".type"), "w", encoding="ascii") as file:
-            file.write("\n".join(lines) + "\n")
-    colock = built("colock")
-    for family, size in (("counter", "1000"), ("account", "50")):
-        with open(os.path.join(folder, family + ".type"), "w", encoding="ascii") as file:
-            subprocess.run([colock, "make", family, size, "1"], check=True, stdout=file)
-
-
-def plain_program(folder):
-    program = os.path.join(folder, "plain_store")
-    source = os.path.join(HERE, "plain_store", "main.rs")
-    subprocess.run(["rustc", "-O", "-C", "codegen-units=1", "-C", "target-cpu=x86-64-v2",
-                    "--edition", "2024", "-o", program, source], check=True)
-    return program
-
-
-def words_of(folder, kind, workload, commands, rounds):
+def workload_words(folder, kind, workload, commands):
     name, *numbers = workload
-    path = os.path.join(folder, name + ".type")
-    return [kind, path, *map(str, numbers), str(commands), str(rounds)]
+    return [kind, type_texts.at(folder, name), *numbers, commands]
 
 
-def printed(program, words):
-    text = subprocess.run([*program, *words], check=True, capture_output=True, text=True).stdout
-    return dict(line.split(" ") for line in text.split("\n") if line)
+class Asked:
+    """The commands of workloads, written to files by the library's program, and the words by which programs take them."""
 
+    def __init__(self, folder):
+        self.folder, self.library, self.paths = folder, programs.library_of_rust(folder), {}
 
-def outcome(program, words):
-    """The nanoseconds of a run, and what came of it."""
-    lines = printed(program, words)
-    del lines["event_bytes"]
-    return int(lines.pop("nanoseconds")), lines
+    def path(self, kind, workload, commands):
+        """The file of the commands, which are the same for each kind."""
+        if (workload, commands) not in self.paths:
+            words = [self.library, "commands", *workload_words(self.folder, kind, workload, commands)]
+            with open(os.path.join(self.folder, f"{len(self.paths)}.commands"), "w", encoding="ascii") as file:
+                subprocess.run([*map(str, words)], check=True, stdout=file)
+            self.paths[workload, commands] = file.name
+        return self.paths[workload, commands]
 
+    def by_file(self, program, kind, workload, rounds, commands=COMMANDS):
+        """The words of a program that reads the commands."""
+        name, objects, *_ = workload
+        return [*program, kind, type_texts.at(self.folder, name), objects, self.path(kind, workload, commands), rounds]
 
-def least(programs, words):
-    """The least nanoseconds of each program, by turns. What came of their runs must be the same."""
-    seen = [[outcome(program, words) for program in programs] for _ in range(TURNS)]
-    outcomes = [lines for turn in seen for _, lines in turn]
-    if any(lines != outcomes[0] for lines in outcomes):
-        sys.exit(f"{' '.join(words)}: the programs differ")
-    return [min(turn[i][0] for turn in seen) for i in range(len(programs))]
+    def by_words(self, program, kind, workload, rounds, commands=COMMANDS):
+        """The words of a program that makes the commands."""
+        return [*program, *workload_words(self.folder, kind, workload, commands), rounds]
 
 
 def title(kind, workload):
@@ -158,17 +102,15 @@ def title(kind, workload):
     return f"{kind}: {name} on {objects}, {open}x{calls}{what}"
 
 
-def show_times(folder, programs, rounds):
+def show_times(asked, store, plain, rounds):
     """Each workload beside the plain program, and then the pairs."""
     print(f"{'nanoseconds a command':44} {'colock':>8} {'plain':>8} {'ratio':>6}")
     ours = {}
     for kind in KINDS:
         for workload in WORKLOADS:
-            words = words_of(folder, kind, workload, COMMANDS, rounds)
-            store, plain = least(programs, words)
-            ours[kind, workload] = store
-            print(f"{title(kind, workload):44} {store / COMMANDS:8.1f} {plain / COMMANDS:8.1f} "
-                  f"{store / plain:6.2f}", flush=True)
+            time, beside = programs.least([asked.by_file(store, kind, workload, rounds), asked.by_words([plain], kind, workload, rounds)])
+            ours[kind, workload] = time
+            print(f"{title(kind, workload):44} {time / COMMANDS:8.1f} {beside / COMMANDS:8.1f} {time / beside:6.2f}", flush=True)
     print(f"\n{'of two of these':84} {'ratio':>6}")
     for kind in KINDS:
         for first, second in PAIRS:
@@ -176,38 +118,45 @@ def show_times(folder, programs, rounds):
             print(f"{title(kind, first) + ' / ' + title(kind, second):84} {ratio:6.2f}")
 
 
-def heap_bytes(program, words):
+def heap_bytes(words):
     """All bytes that a run allocates, as valgrind counts them."""
-    run = subprocess.run(["valgrind", *program, *words], check=True, capture_output=True, text=True)
+    run = subprocess.run(["valgrind", *map(str, words)], check=True, capture_output=True, text=True)
     line = next(line for line in run.stderr.split("\n") if "total heap usage" in line)
     return int(line.split("frees, ")[1].split(" bytes")[0].replace(",", ""))
 
 
-def show_bytes(folder, program):
+def show_bytes(asked, store):
     """The bytes of an event, and of a round in which no transaction begins."""
-    words = words_of(folder, "undo", ("account", 1, 0, 0, "plain"), 0, 1)
-    print(f"\nan event: {printed(program, words)['event_bytes']} bytes")
     for objects in (1, 256):
         workload = ("account", objects, 0, 0, "plain")
-        once, twice = (heap_bytes(program, words_of(folder, "undo", workload, 0, rounds))
-                       for rounds in (1, 2))
-        print(f"a store of {objects} of account, no transaction: {twice - once} bytes")
+        once, twice = (asked.by_file(store, "undo", workload, rounds, 0) for rounds in (1, 2))
+        if objects == 1:
+            print(f"\nan event: {programs.printed(once)['event_bytes']} bytes")
+        print(f"a store of {objects} of account, no transaction: {heap_bytes(twice) - heap_bytes(once)} bytes")
 
 
-def show_following(folder, program, rounds):
+def show_following(asked, program, rounds):
     """The time in which a store follows the events of a run, beside that of the run."""
     print(f"{'nanoseconds a command, and an event':44} {'run':>8} {'follow':>8} {'ratio':>6}")
     for kind in KINDS:
         for workload in WORKLOADS:
-            words = words_of(folder, kind, workload, COMMANDS, rounds)
-            turns = [printed(program, words) for _ in range(TURNS)]
-            run, follow = (min(int(turn[what]) for turn in turns) for what in ("run", "follow"))
+            turns = [programs.printed(asked.by_file([program], kind, workload, rounds)) for _ in range(TURNS)]
+            run, follow = (min(int(turn[what]) for turn in turns) for what in ("nanoseconds", "follow"))
             print(f"{title(kind, workload):44} {run / COMMANDS:8.1f} {follow / COMMANDS:8.1f} {follow / run:6.2f}", flush=True)
 
 
-def show_lasting(folder, program, kind, millions, name="counter"):
-    """The first and the last of this many million events, and the most memory of the run."""
-    words = [*program, kind, os.path.join(folder, name + ".type"), millions]
+def show_laws(asked, store, rounds):
+    """Nanoseconds a command, by what a cost may depend on."""
+    for what, rows in LAWS:
+        print(f"\n{what}")
+        for row, kind, workload, commands in rows:
+            time, = programs.least([asked.by_file(store, kind, workload, rounds, commands)])
+            print(f"{row:>20} {time / commands:10.1f}", flush=True)
+
+
+def show_lasting(library, kind, path, millions):
+    """The first and the last of this many million events at a type, and the most memory of the run."""
+    words = [library, "lasting", kind, path, str(millions)]
     with subprocess.Popen(words, stdout=subprocess.PIPE, text=True) as run:
         lines = [line.split() for line in run.stdout]
         _, status, used = os.wait4(run.pid, 0)
@@ -220,29 +169,23 @@ def show_lasting(folder, program, kind, millions, name="counter"):
           f"at most {used.ru_maxrss / 1024:.1f} MB")
 
 
-def show_laws(folder, program, rounds):
-    """Nanoseconds a command, by what a cost may depend on."""
-    for what, rows in LAWS:
-        print(f"\n{what}")
-        for row, kind, workload, commands in rows:
-            words = words_of(folder, kind, workload, commands, rounds)
-            time, = least([program], words)
-            print(f"{row:>20} {time / commands:10.1f}", flush=True)
+def lasting(millions):
+    with tempfile.TemporaryDirectory() as folder:
+        type_texts.write_all(folder)
+        show_lasting(programs.library_of_rust(folder), "undo", type_texts.at(folder, "counter"), millions)
 
 
 def main(what, rounds):
-    benches = built("benches")
-    store = [benches, "store"]
     with tempfile.TemporaryDirectory() as folder:
-        write_types(folder)
-        if what == "lasting":
-            show_lasting(folder, [benches, "lasting"], "undo", rounds)
-            return
+        type_texts.write_all(folder)
+        asked = Asked(folder)
         print(f"{os.cpu_count()} processors, least of {TURNS} turns of {rounds} rounds")
         if what == "follow":
-            show_following(folder, [benches, "follow"], rounds)
-        elif what == "store":
-            show_times(folder, [store, [plain_program(folder)]], rounds)
-            show_bytes(folder, store)
-        else:
-            show_laws(folder, store, rounds)
+            show_following(asked, programs.library_of_c(folder), rounds)
+            return
+        store = [programs.built("benches"), "one"]
+        if what == "laws":
+            show_laws(asked, store, rounds)
+            return
+        show_times(asked, store, programs.plain(folder, "plain_store", "plain_store/main.rs"), rounds)
+        show_bytes(asked, store)

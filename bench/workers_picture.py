@@ -1,11 +1,13 @@
 #!/usr/bin/env python3
-"""workers_picture.py < bench/README.md > docs/workers.svg: the picture of the tables of `bench/run workers`.
+"""workers_picture.py [CSV] > docs/workers.svg: the picture of what `bench/run workers` prints.
 
-Reads the rows of these tables from any text, and draws the most commits a second by the number of workers,
-on two logarithmic axes: a row of panels for each think time and kind, a column for each type.
+Reads its rows, of the latest file of results/ where none is named, and draws the most commits a second by the number of
+workers, on two logarithmic axes: a row of panels for each think time and kind, a column for each type.
 """
+import csv
+import glob
 import math
-import re
+import os
 import sys
 
 NAMES = ("modulo", "counter", "account")
@@ -14,30 +16,24 @@ WORKERS = (1, 2, 4, 16)
 # The think times that are drawn, and the powers of ten between which their commits a second are.
 DRAWN = {1000: (2, 5), 100: (3, 6)}
 
-# The programs in the order of their columns: what they are called, and how their lines look.
+# The programs that are drawn: their columns, what they are called, and how their lines look.
 PROGRAMS = (
-    ("colock", "#0b5fa5", "", 5),
-    ("plain, locks of operations", "#d9730d", "6 3", 3.5),
-    ("plain, one lock on the object", "#777777", "2 3", 3.5),
+    ("colock most", "colock", "#0b5fa5", "", 5),
+    ("operations most", "plain, locks of operations", "#d9730d", "6 3", 3.5),
+    ("object most", "plain, one lock on the object", "#777777", "2 3", 3.5),
 )
 
 WIDTH, HEIGHT = 250, 150
 LEFT, TOP, GAP_X, GAP_Y = 78, 66, 58, 46
 
-HEAD = re.compile(r"\| (\d+) microseconds: ")
-ROW = re.compile(r"\| (\w+) \| (\w+) \| (\d+) \| " + r" \| ".join([r"[\d,]+ to ([\d,]+)"] * 3))
+LATEST = os.path.join(os.path.dirname(os.path.abspath(__file__)), "results", "*-workers.csv")
 
 
-def rates_of(lines):
+def rates_of(path):
     """The most commits a second of each program, by think time, kind, type and workers."""
-    rates, think = {}, None
-    for line in lines:
-        if head := HEAD.match(line):
-            think = int(head[1])
-        elif row := ROW.match(line):
-            name, kind, workers, *most = row.groups()
-            rates[think, kind, name, int(workers)] = [int(rate.replace(",", "")) for rate in most]
-    return rates
+    with open(path, encoding="ascii") as file:
+        return {(int(row["microseconds"]), row["kind"], row["type"], int(row["workers"])): [int(row[column]) for column, *_ in PROGRAMS]
+                for row in csv.DictReader(file)}
 
 
 def text(x, y, words, size=11, anchor="middle", colour="#222222"):
@@ -85,7 +81,7 @@ class Panel:
 
 
 def legend():
-    for place, (what, colour, dashes, _) in enumerate(PROGRAMS):
+    for place, (_, what, colour, dashes, _) in enumerate(PROGRAMS):
         x = LEFT + place * 270
         yield line(x, 34, x + 36, 34, colour, 2, dashes)
         yield text(x + 44, 38, what, 12, "start")
@@ -98,13 +94,13 @@ def panels(rates):
             panel = Panel(LEFT + across * (WIDTH + GAP_X), TOP + down * (HEIGHT + GAP_Y), DRAWN[think])
             yield from panel.frame(f"{name}, {kind}, {think:,} microseconds")
             # what is drawn first lies below
-            for place, (_, colour, dashes, radius) in enumerate(PROGRAMS):
+            for place, (*_, colour, dashes, radius) in enumerate(PROGRAMS):
                 most = [rates[think, kind, name, workers][place] for workers in WORKERS]
                 yield from panel.curve(most, colour, dashes, radius)
 
 
 def main():
-    rates = rates_of(sys.stdin)
+    rates = rates_of(sys.argv[1] if len(sys.argv) > 1 else sorted(glob.glob(LATEST))[-1])
     width = LEFT + len(NAMES) * (WIDTH + GAP_X)
     height = TOP + len(DRAWN) * len(KINDS) * (HEIGHT + GAP_Y)
     print(f'<svg xmlns="http://www.w3.org/2000/svg" width="{width}" height="{height}" '

@@ -1,13 +1,13 @@
-"""Times of workers beside those of plain Rust programs, as rows of markdown tables."""
+"""Times of workers beside those of plain Rust programs, as rows of CSV."""
+import csv
 import os
-import subprocess
 import sys
 import tempfile
 
-import store_times
+import programs
+import type_texts
+from programs import KINDS
 
-HERE = os.path.dirname(os.path.abspath(__file__))
-KINDS = ("undo", "intentions")
 WORKERS = (1, 2, 4, 16)
 
 # Microseconds between a call and the end of its transaction.
@@ -38,30 +38,20 @@ PROGRAMS = ("colock", "operations", "object", "pausing")
 
 def write_types(folder):
     """Writes each type file. What `make` makes begins in the middle, so that no call is without a reply."""
-    texts = {"modulo": "\n".join(store_times.modulo()) + "\n"}
-    colock = os.environ.get("COLOCK") or store_times.built("colock")
-    for family, cap, *amounts in (("counter", 1023, 1), ("account", 50, 1, 5)):
-        made = subprocess.run([colock, "make", family, str(cap), *map(str, amounts)], check=True,
-                              capture_output=True, text=True).stdout
-        texts[family] = made.replace("\ninitial 0\n", f"\ninitial {(cap + 1) // 2}\n")
-    for name, text in texts.items():
-        with open(os.path.join(folder, name + ".type"), "w", encoding="ascii") as file:
-            file.write(text)
+    programs.written(folder, "modulo.type", type_texts.modulo())
+    programs.written(folder, "counter.type", type_texts.made("counter", 1023, [1], 512))
+    programs.written(folder, "account.type", type_texts.made("account", 50, [1, 5], 25))
 
 
 def plain(folder, name, *flags):
     """The plain program, built with these flags."""
-    path = os.path.join(folder, name)
-    source = os.path.join(HERE, "plain_workers", "main.rs")
-    subprocess.run(["rustc", "-O", "-C", "codegen-units=1", "-C", "target-cpu=x86-64-v2", "--edition", "2024",
-                    "--check-cfg", "cfg(pausing)", *flags, "-o", path, source], check=True)
-    return path
+    return programs.plain(folder, name, "plain_workers/main.rs", *flags)
 
 
-def programs(folder):
+def begun(folder):
     """The words by which each program begins."""
     at_once, pausing = plain(folder, "at_once"), plain(folder, "pausing", "--cfg", "pausing")
-    return {"colock": [store_times.built("benches"), "workers"], "operations": [at_once, "operations"],
+    return {"colock": [programs.library_of_rust(folder), "workers"], "operations": [at_once, "operations"],
             "object": [at_once, "object"], "pausing": [pausing, "operations"]}
 
 
@@ -78,9 +68,8 @@ def work(program, name, think, workers):
 def outcome(program, began, name, kind, path, think, workers):
     """The commits a second of a round, and the share of its calls that were busy."""
     jobs, tries, runs = work(program, name, think, workers)
-    begin, *lock = began
-    words = [*lock, kind, path, *map(str, (workers, jobs, tries, think)), *CALLS[name]]
-    told = [store_times.printed(begin, words) for _ in range(runs)]
+    words = [*began, kind, path, workers, jobs, tries, think, *CALLS[name]]
+    told = [programs.printed(words) for _ in range(runs)]
     time, commits, busy, none = (sum(int(run[word]) for run in told)
                                  for word in ("nanoseconds", "commits", "busy", "none"))
     if name == "modulo" and (commits, busy, none) != (workers * jobs, 0, 0):
@@ -88,37 +77,37 @@ def outcome(program, began, name, kind, path, think, workers):
     return commits * 1e9 / time, busy / (commits + busy + none)
 
 
-def row(programs, folder, name, kind, think, workers, rounds):
-    """A row of the table: the least and the most of each program, ratios of the most, shares of busy calls."""
+def row(started, folder, name, kind, think, workers, rounds):
+    """A row: the least and the most of each program, ratios of the most, shares of busy calls."""
     path = os.path.join(folder, name + ".type")
     seen = {program: [] for program in PROGRAMS}
     for _ in range(rounds):
         for program in PROGRAMS:
-            seen[program].append(outcome(program, programs[program], name, kind, path, think, workers))
+            seen[program].append(outcome(program, started[program], name, kind, path, think, workers))
     rates = {program: [rate for rate, _ in runs] for program, runs in seen.items()}
     most = {program: max(runs) for program, runs in rates.items()}
     locking = ("colock", "operations", "pausing")
     busy = [sum(share for _, share in seen[program]) / rounds for program in locking]
-    cells = [name, kind, str(workers)]
-    cells += [f"{min(rates[program]):,.0f} to {most[program]:,.0f}" for program in PROGRAMS]
+    cells = [think, name, kind, workers]
+    cells += [f"{rate:.0f}" for program in PROGRAMS for rate in (min(rates[program]), most[program])]
     cells += [f"{most['colock'] / most[program]:.2f}" for program in PROGRAMS[1:]]
-    cells += [f"{share:.0%}" for share in busy]
-    return "| " + " | ".join(cells) + " |"
+    return cells + [f"{share:.0%}" for share in busy]
 
 
-HEAD = """
-| {}: commits a second | kind | workers | colock | operations | object | pausing | to operations | to object | to pausing | busy | operations' | pausing's |
-|---|---|---|---|---|---|---|---|---|---|---|---|---|"""
+HEAD = ["microseconds", "type", "kind", "workers", *(f"{program} {end}" for program in PROGRAMS for end in ("least", "most")),
+        *(f"to {program}" for program in PROGRAMS[1:]), "busy", "busy of operations", "busy of pausing"]
 
 
 def main(rounds):
     with tempfile.TemporaryDirectory() as folder:
         write_types(folder)
-        started = programs(folder)
-        print(f"{os.cpu_count()} processors, least and most of {rounds} rounds")
+        started = begun(folder)
+        print(f"{os.cpu_count()} processors, commits a second, least and most of {rounds} rounds", file=sys.stderr)
+        out = csv.writer(sys.stdout, lineterminator="\n")
+        out.writerow(HEAD)
         for think in THINKING:
-            print(HEAD.format(f"{think} microseconds"))
             for name in CALLS:
                 for kind in KINDS:
                     for workers in WORKERS:
-                        print(row(started, folder, name, kind, think, workers, int(rounds)), flush=True)
+                        out.writerow(row(started, folder, name, kind, think, workers, rounds))
+                        sys.stdout.flush()

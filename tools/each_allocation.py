@@ -6,11 +6,10 @@ written for it.
 The first run refuses none. Each further run refuses one allocation, the next one each time, until
 a run ends that has fewer. A run must end as the first one did, or with `colock: no memory` on
 standard error, nothing on standard output and status 3. The refusals are made by a small library
-that is put in front of the C library's allocator. Where a program of tests isn't there, or no `cc`,
-that is said and nothing is tried of it. A program without such a test is a failure.
+that is put in front of the C library's allocator. A program of tests that isn't there, or
+that has no such test, is a failure.
 """
 import os
-import shutil
 import subprocess
 import sys
 import tempfile
@@ -116,13 +115,8 @@ def main():
     words = sys.argv[1:]
     is_tests = words[0] == "--tests"
     programs = words[1:]
-    if is_tests:
-        programs = [program for program in programs if os.path.exists(program) and shutil.which("cc")]
-        for program in words[1:]:
-            if program not in programs:
-                print(f"{program} isn't there, or no cc: no allocation was refused")
-        if not programs:
-            return
+    if missing := [program for program in programs if is_tests and not os.path.exists(program)]:
+        sys.exit(f"{' and '.join(missing)}: not there, so no allocation was refused")
     with tempfile.TemporaryDirectory() as folder:
         library = shim_in(folder)
         if is_tests:
@@ -133,4 +127,5 @@ def main():
     print(f"{allocations} allocations, {starved} of them wanted: no other outcome")
 
 
-main()
+if __name__ == "__main__":
+    main()

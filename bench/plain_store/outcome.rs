@@ -17,7 +17,10 @@ impl Outcome {
     /// Writes it, after the least nanoseconds of a run and the bytes of an event.
     pub fn print(&self, least: u128, event_bytes: usize) {
         println!("nanoseconds {least}\nevent_bytes {event_bytes}");
-        println!("refused {}\nops {}\nbusy {}", self.refused, self.ops, self.busy);
+        println!(
+            "refused {}\nops {}\nbusy {}",
+            self.refused, self.ops, self.busy
+        );
         println!("none {}\ncommits {}", self.none, self.commits);
         println!("kept {}\nhistory {}", self.kept, self.history);
     }

@@ -46,6 +46,9 @@ extern "C" {
 #define COLOCK_VERSION 3
 uint32_t colock_version(void);
 
+/* The release that this header is of, which `colock --version` and the packages of other languages have too. */
+#define COLOCK_RELEASE "0.2.0"
+
 /* What a handle holds is a type, the objects of a store that is being made, or a store. */
 typedef struct colock_handle {
     bool live_;

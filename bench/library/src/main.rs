@@ -1,149 +1,85 @@
-//! The commands of `benches store` through libcolock, from Rust:
+//! What is measured of the store by its library, `libcolock`, over the crate `colock`:
 //!
-//! `library KIND FILE OBJECTS OPEN CALLS MODE COMMANDS ROUNDS` prints the least nanoseconds of a run of COMMANDS
-//! commands, and what came of them, as `benches store` does.
+//! - `library commands KIND FILE OBJECTS OPEN CALLS MODE COMMANDS` writes the commands of a workload, four numbers for
+//!   each, as `crates/benches` and `bench/library.c` read them.
+//! - `library store KIND FILE OBJECTS OPEN CALLS MODE COMMANDS ROUNDS` prints the least nanoseconds of a run of these
+//!   commands, and what came of them.
+//! - `library types KIND FILE ROUNDS` prints whether a type file is accepted, how many lines it has, and the least
+//!   nanoseconds in which it is read, and in which it is read and checked.
+//! - `library followed KIND NUMBERS FILE..` has stores follow the histories of `bench/plain_follow`.
+//! - `library lasting KIND FILE MILLIONS` goes on for this many million events, and forgets them.
+//! - `library workers KIND FILE WORKERS JOBS TRIES MICROSECONDS CALL..` prints the nanoseconds of workers at one object,
+//!   and what came of their jobs.
 
+mod followed;
+mod lasting;
+mod runs;
+mod types;
+// `bench/plain_workers` waits in the same manner.
+#[allow(dead_code)]
+#[path = "../../plain_workers/waiting.rs"]
+mod waiting;
+mod workers;
 // `bench/plain_store` makes the same commands, and says the same of what came of them.
 #[path = "../../plain_store/outcome.rs"]
 mod outcome;
 #[path = "../../plain_store/workload.rs"]
 mod workload;
 
-use colock::{Error, Event, Kind, Store, Transaction, Type};
-use outcome::{Outcome, folded};
-use std::time::Instant;
-use workload::{Command, Mode, Workload, commands_of};
+use colock::{Kind, Type};
+use std::error::Error;
+use std::str::FromStr;
 
-const MOST_EVENTS: u64 = 1_000_000;
+type Told = Result<(), Box<dyn Error>>;
 
-impl Outcome {
-    fn note(&mut self, event: &Event) {
-        match event {
-            Event::Operation { .. } => self.ops += 1,
-            Event::Busy { .. } => self.busy += 1,
-            Event::None { .. } => self.none += 1,
-            Event::Commit { .. } => self.commits += 1,
-            _ => {}
-        }
-        self.history = words_of(event).into_iter().fold(self.history, folded);
+fn number<N: FromStr>(word: &str) -> N {
+    word.parse().ok().expect("a number")
+}
+
+fn kind_of(word: &str) -> Kind {
+    match word {
+        "undo" => Kind::Undo,
+        "intentions" => Kind::Intentions,
+        "escrow" => Kind::Escrow,
+        other => panic!("no kind {other}"),
     }
 }
 
-/// The kind of an event, its numbers and its worker.
-fn words_of(event: &Event) -> [u32; 6] {
-    let low = |number: u64| number as u32;
-    match *event {
-        Event::Begin { worker, transaction } => [0, low(transaction), 0, 0, 0, worker.into()],
-        Event::Operation { worker, transaction, object, operation } => [1, low(transaction), object, operation.place.into(), 0, worker.into()],
-        Event::Busy { worker, transaction, object, call, blocker } => [2, low(transaction), object, call.into(), low(blocker), worker.into()],
-        Event::None { worker, transaction, object, call } => [3, low(transaction), object, call.into(), 0, worker.into()],
-        Event::Commit { worker, transaction } => [4, low(transaction), 0, 0, 0, worker.into()],
-        Event::Abort { worker, transaction } => [5, low(transaction), 0, 0, 0, worker.into()],
-        Event::Rollback { worker, transaction, operations } => [6, low(transaction), low(operations), 0, 0, worker.into()],
-        _ => panic!("an event of another kind"),
-    }
+/// The type of the file at a path, where it is accepted for a kind.
+fn type_at(kind: &str, path: &str) -> Result<Type, Box<dyn Error>> {
+    Ok(Type::read(std::fs::read(path)?, kind_of(kind))?)
 }
 
-/// A command, and the place of its transaction among those that are open.
-struct Step {
-    place: usize,
-    command: Command,
-}
-
-/// The steps of commands: who begins takes a place that is free.
-fn steps_of(commands: Vec<Command>, open: u32) -> Vec<Step> {
-    let mut free: Vec<usize> = (0..=open as usize).rev().collect();
-    let mut places = Vec::new();
-    let step = |command| {
-        let place = match command {
-            Command::Begin => {
-                places.push(free.pop().expect("a place"));
-                places[places.len() - 1]
-            }
-            Command::Call { t, .. } | Command::Rollback { t, .. } => places[t as usize],
-            Command::Commit { t } | Command::Abort { t } => {
-                free.push(places[t as usize]);
-                places[t as usize]
-            }
-        };
-        Step { place, command }
-    };
-    commands.into_iter().map(step).collect()
-}
-
-/// Gives a store the commands, and answers how many of them it refused. What is open then is in its place.
-#[inline(never)]
-fn run<'s>(store: &'s Store, steps: &[Step], running: &mut [Option<Transaction<'s>>]) -> u32 {
-    let mut refused = 0;
-    for step in steps {
-        let it = &mut running[step.place];
-        let accepted = match step.command {
-            Command::Begin => store.begin().map(|transaction| *it = Some(transaction)).is_ok(),
-            Command::Call { x, c, .. } => it.as_mut().is_some_and(|it| it.call_op(x, c).is_ok()),
-            Command::Commit { .. } => it.take().is_some_and(|it| it.commit().is_ok()),
-            Command::Abort { .. } => it.take().is_some_and(|it| it.abort().is_ok()),
-            Command::Rollback { n, .. } => it.as_mut().is_some_and(|it| it.rollback(n.into()).is_ok()),
-        };
-        refused += u32::from(!accepted);
-    }
-    refused
-}
-
-/// The nanoseconds of a run in a new store, and what came of it.
-fn round(of: &Type, workload: &Workload, steps: &[Step]) -> Result<(u128, Outcome), Error> {
-    let objects = workload.objects;
-    let mut store = Store::new((0..objects).map(|_| of), MOST_EVENTS)?;
-    let mut running: Vec<Option<Transaction<'_>>> = (0..=workload.open).map(|_| None).collect();
-    let start = Instant::now();
-    let refused = run(&store, steps, &mut running);
-    let time = start.elapsed().as_nanos();
-    for transaction in running.into_iter().flatten() {
-        transaction.leave();
-    }
-    let mut outcome = Outcome { refused, ..Outcome::default() };
-    for x in 0..objects {
-        outcome.kept = folded(outcome.kept, store.kept(x)? as u32);
-    }
-    store.abort_all();
-    store.events(0)?.iter().for_each(|event| outcome.note(event));
-    Ok((time, outcome))
-}
-
-/// The number of each call of the type: that of the first operation that has it.
-fn numbers_of(of: &Type) -> Result<Vec<u8>, Error> {
-    let store = Store::new([of], MOST_EVENTS)?;
-    let mut numbers = Vec::new();
-    for k in 0..of.operations() {
-        if store.call_number(0, &of.call_name(k)?)? == k.into() {
-            numbers.push(k);
-        }
-    }
-    Ok(numbers)
-}
-
-fn number(word: &str) -> u32 {
-    word.parse().expect("a number")
-}
-
-fn main() -> Result<(), Box<dyn std::error::Error>> {
+fn main() -> Told {
     let words: Vec<String> = std::env::args().skip(1).collect();
-    let [kind, path, objects, open, calls, mode, commands, rounds] = words.as_slice() else {
-        panic!("KIND FILE OBJECTS OPEN CALLS MODE COMMANDS ROUNDS")
-    };
-    let mode = match mode.as_str() {
-        "plain" => Mode::Plain,
-        "old" => Mode::Old,
-        _ => Mode::Rollback,
-    };
-    let workload = Workload { objects: number(objects), open: number(open), calls: number(calls), mode, commands: number(commands) as usize };
-    let kind = if kind == "undo" { Kind::Undo } else { Kind::Intentions };
-    let of = Type::read(std::fs::read(path)?, kind)?;
-    let steps = steps_of(commands_of(&workload, &numbers_of(&of)?), workload.open);
-    let (mut least, mut last) = (u128::MAX, Outcome::default());
-    for _ in 0..number(rounds) {
-        let (time, outcome) = round(&of, &workload, &steps)?;
-        (least, last) = (least.min(time), outcome);
+    let words: Vec<&str> = words.iter().map(String::as_str).collect();
+    match words.as_slice() {
+        ["commands", kind, path, workload @ ..] => {
+            runs::write_commands(&type_at(kind, path)?, workload)
+        }
+        ["store", kind, path, workload @ .., rounds] => {
+            runs::measure(&type_at(kind, path)?, workload, number(rounds))
+        }
+        ["types", kind, path, rounds] => {
+            types::measure(kind_of(kind), &std::fs::read(path)?, number(rounds))
+        }
+        ["followed", kind, numbers, paths @ ..] => followed::measure(kind, numbers, paths),
+        ["lasting", kind, path, millions] => {
+            lasting::measure(&type_at(kind, path)?, number(millions))
+        }
+        [
+            "workers",
+            kind,
+            path,
+            workers,
+            jobs,
+            tries,
+            sleep,
+            calls @ ..,
+        ] => {
+            let work = workers::Work::new(number(tries), number(sleep), calls);
+            work.measure(&type_at(kind, path)?, number(workers), number(jobs))
+        }
+        _ => panic!("commands, store, types, followed, lasting or workers, with their words"),
     }
-    last.print(least, size_of::<Event>());
-    Ok(())
 }

@@ -123,7 +123,7 @@ from ._store import Store
 from ._transaction import Transaction
 from ._types import Kind, Type, TypeOperation
 
-__version__ = "0.1.0"
+__version__ = "0.2.0"
 
 __all__ = [
     "BadMax",

@@ -1,5 +1,9 @@
 #!/usr/bin/env python3
-"""random_scripts.py COLOCK COUNT SEED: random scripts by the package and by `colock run`, as bindings/c/tests/scripts.py."""
+"""random_scripts.py COLOCK COUNT SEED: random scripts by the package and by `colock run`, as bindings/c/tests/scripts.py.
+
+A call is answered as `would` says before it, and each second call is made by its number. A second store follows the
+events, forgets some of them now and then, and keeps the same.
+"""
 import io
 import os
 import sys
@@ -13,6 +17,28 @@ import colock  # noqa: E402
 REFUSALS = ["NotOpen", "NoObject", "NoCall", "TooManyOpen", "HistoryFull", "NoMemory", "BadRollback"]
 
 
+def call(store, transaction, x, name):
+    """Makes a call, by its number where as many events have happened as is even, and as `would` says."""
+    would = transaction.would(x, name)
+    if store.event_count() % 2:
+        answer = transaction.call(x, name)
+    else:
+        answer = transaction.call_op(x, store.call_number(x, name))
+    if answer != would:
+        raise AssertionError(f"{name} at {x}: {answer}, and {would} before it")
+
+
+def is_followed(types, limit, store):
+    """Whether another store makes the same events, forgets some, and keeps the same."""
+    events = store.events()
+    with colock.Store(types, limit) as other:
+        for place in range(0, len(events), 7):
+            other.follow(events[place : place + 7])
+            other.forget(place % 5)
+        left = events[other.forgotten_count() :]
+        return other.events(other.forgotten_count()) == left and all(other.kept(x) == store.kept(x) for x in range(len(types)))
+
+
 def command(store, begun, words):
     """Does a command. The number of a transaction that never began is as that of one that ended."""
     if words[0] == "begin":
@@ -22,7 +48,7 @@ def command(store, begun, words):
     if number >= len(begun):
         raise colock.NotOpen
     if words[0] == "call":
-        begun[number].call(int(words[2]), words[3])
+        call(store, begun[number], int(words[2]), words[3])
     elif words[0] == "rollback":
         begun[number].rollback(int(words[2]))
     else:
@@ -58,6 +84,8 @@ def run(path, type_paths):
         store.abort_all()
         out.write("".join(f"{event}\n" for event in store.events(told)) + "end\n")
         out.write("".join(f"# kept {x} {store.kept(x)}\n" for x in range(len(types))))
+        if not is_followed(types, limit, store):
+            out.write("another store that follows keeps something else\n")
     return out.getvalue()
 
 

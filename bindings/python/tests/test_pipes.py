@@ -148,7 +148,7 @@ class Pipes(support.Fakes):
             ("refused What", lambda store: store.events()),
         ]:
             with self.subTest(answer):
-                more = f"; say(f'{{tag}} ok\\n')" if answer == "begin 0" else ""
+                more = "; say(f'{tag} ok\\n')" if answer == "begin 0" else ""
                 self.lost(begun % answer + more, act)
 
     def test_refusals(self):

@@ -4,7 +4,7 @@ import time
 import unittest
 
 import support
-from support import LONG, SOON, TWO, Run, asleep
+from support import LONG, TWO, Run, asleep
 
 import colock
 from colock import Busy, Operation, Type

@@ -12,7 +12,7 @@ use Rattle.serial_order.specs.Machine.{IsRun, AreCovered}
 use Rattle.serial_order.specs.Operations.{is_among, ops, serial}
 use Rattle.serial_order.specs.History.{commits}
 use Rattle.serial_order.specs.Serial.{surviving_at}
-use Rattle.dynamic_atomicity.specs.Dynamic.{AreOnce, Dated, IsKeptAt, IsOrderOf, KeepsLiving, RunsAreAtomicLiving, comes_first, dated}
+use Rattle.dynamic_atomicity.specs.Dynamic.{AreOnce, Dated, ComesAfterCommitted, IsOrderOf, KeepsLiving, RunsAreAtomicLiving, comes_first, dated}
 use Rattle.history_audit.specs.Audit.{AreLegal}
 use Rattle.history_audit.specs.InOrder.{KeepsPrecedes, LegalOrdersPass, Precedes}
 use Rattle.history_audit.specs.Laws.{tables_of}
@@ -73,10 +73,10 @@ module _ (H : List Event) (ts : List ℕ) (kept : KeepsPrecedes H ts) where
   kept-dated : LivingPrecedes → (x : ℕ) → KeepsLiving x H ts
   kept-dated living x =
       let P : Dated → Type 0 = λ d. (t : ℕ) → is_among d.after t ≡ true → Precedes H t d.entry.by in
-      let kept-one : (d : Dated) → P d → IsKeptAt ts d = λ d precedes there t after.
+      let kept-one : (d : Dated) → P d → ComesAfterCommitted ts d = λ d precedes there t after.
       let (n, at) = place-of ts d.entry.by there in
       comes ts n t d.entry.by at (kept.are.once n d.entry.by at) (kept.keeps n t d.entry.by at (precedes t after)) in
-      each-filter (IsKeptAt ts) (λ d. d.entry.at == x) (dated H) (each-weaker {P = P} {Q = IsKeptAt ts} kept-one (dated H) (living H))
+      each-filter (ComesAfterCommitted ts) (λ d. d.entry.at == x) (dated H) (each-weaker {P = P} {Q = ComesAfterCommitted ts} kept-one (dated H) (living H))
 
 -- the object that has a table
 object-at : (objects : List Object) (x : ℕ) (T : Table) → slice_get (tables_of objects) x ≡ Some T → (o : Object) × (slice_get objects x ≡ Some o) × (o.table ≡ T)

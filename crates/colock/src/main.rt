@@ -1,11 +1,11 @@
 //! The program: it hands the words and the handles to their task, and ends with its status.
 #![tactic(auto)]
 
-use archive_files::FolderArchives;
 use command_files::{Fault, FileSource, say_fault};
 use commands::{Console, Given, do_words, given_words};
 use database_files::FileDatabases;
 use outputs::{Gathered, Sink};
+use serve_command::FolderArchives;
 use std::process::ExitCode;
 
 fn main(rt: HostRuntime) -> ExitCode {

@@ -6,22 +6,22 @@ use Rattle.store_laws.specs.Stored.{Stored}
 use Rattle.store.specs.Follows.{IsMade, with_event}
 use Rattle.colock_c.specs.Codes.{number}
 use Rattle.colock_c.specs.EventWords.{event_at}
-use Rattle.colock_c.specs.Histories.{AreMade, more, MakesOne, IsFollowed, strays, memory_refused}
+use Rattle.colock_c.specs.Histories.{AreMadeOfWords, more, MakesOne, IsFollowed, strays, memory_refused}
 use Rattle.colock_c.specs.declared.code.Code.{Code}
 use Rattle.colock_c.specs.declared.event_words.ColockEvent.{ColockEvent}
 
-module _ (s now new : Stored) (ws : List ColockEvent) (at : ℕ) (w d : ColockEvent) (before : AreMade s (take at ws) now) (inside : at < length ws) (there : w ≡ get_or ws at d) where
+module _ (s now new : Stored) (ws : List ColockEvent) (at : ℕ) (w d : ColockEvent) (before : AreMadeOfWords s (take at ws) now) (inside : at < length ws) (there : w ≡ get_or ws at d) where
   -- one more was made
-  pub one_more : MakesOne now w (Ok tt) new → AreMade s (take (at + 1) ws) new
+  pub one_more : MakesOne now w (Ok tt) new → AreMadeOfWords s (take (at + 1) ws) new
   one_more made =
       let longer : take at ws ++ w ∷ [] ≡ take (at + 1) ws = ap (λ v. take at ws ++ v ∷ []) there ∙ sym (take_more ws at d inside) in
-      subst (AreMade s (take (at + 1) ws)) (sym made.3)
-      (subst (λ (vs : List ColockEvent). AreMade s vs (with_event now made.0)) longer (more (take at ws) now w made.0 before made.1 made.2))
+      subst (AreMadeOfWords s (take (at + 1) ws)) (sym made.3)
+      (subst (λ (vs : List ColockEvent). AreMadeOfWords s vs (with_event now made.0)) longer (more (take at ws) now w made.0 before made.1 made.2))
 
   -- or it wasn't
   pub stopped : (code : Code) → MakesOne now w (Err code) new → IsFollowed s ws (number code) at new
   stopped code other =
-      let made : AreMade s (take at ws) new = subst (AreMade s (take at ws)) (sym other.0) before in
+      let made : AreMadeOfWords s (take at ws) new = subst (AreMadeOfWords s (take at ws)) (sym other.0) before in
       elim other.1 [
         | inl stray ↦
             strays (ap number stray.0) inside made

@@ -9,14 +9,14 @@ use Rattle.std.proofs.lemmas.List.Quantifiers.{position-Some}
 use Rattle.std.proofs.lemmas.Option.{none-some, same_Some, slice_get-map}
 use Rattle.type_table.specs.Table.{Table, first_op}
 use Rattle.type_table.specs.declared.op.Op.{Op}
-use Rattle.number_text.specs.NumberFile.{Number, IsNumber}
-use Rattle.number_text.specs.Operations.{names_or_none, number_ops, op_at, op_count}
+use Rattle.number_types.specs.Number.{Number, IsNumber}
+use Rattle.number_types.specs.Operations.{names_or_none, number_ops, op_at, op_count}
 use Rattle.table_checker.specs.Checked.{Checked}
 use Rattle.object_trait.specs.Object.{object_of}
 use Rattle.serial_order.specs.Replay.{call_at}
 use Rattle.store_laws.specs.Stored.{Stored, objects}
 use Rattle.colock_c.specs.Calls.{NumbersNone}
-use Rattle.colock_c.specs.Operations.{operation_count, operation_of}
+use Rattle.colock_c.specs.Operations.{operation_count, operation_by_number}
 
 -- a number's table has no more than those that cross
 pub few_of_number : (v : Number) → IsNumber v → length (number_ops v) ≤ operation_count
@@ -25,14 +25,14 @@ few_of_number v known =
     omega (arith, count, known.max_fits)
 
 -- a number that is no operation's is as great as all of them
-pub far : (k : ℕ) → operation_of k ≡ None → operation_count ≤ k
+pub far : (k : ℕ) → operation_by_number k ≡ None → operation_count ≤ k
 far k none = elim (cases_lt k operation_count) [
   | inl below ↦ absurd (none-some k (sym none ∙ ap (λ b. if b then Some k else None) (lt-ltb k operation_count below)))
   | inr past ↦ past
 ]
 
 -- and an operation's is its own
-pub same_number : (k operation : ℕ) → operation_of k ≡ Some operation → operation ≡ k
+pub same_number : (k operation : ℕ) → operation_by_number k ≡ Some operation → operation ≡ k
 same_number k operation is = elim (cases_lt k operation_count) [
   | inl below ↦ same_Some operation k (sym is ∙ ap (λ b. if b then Some k else None) (lt-ltb k operation_count below))
   | inr past ↦ absurd (none-some operation (sym (ap (λ b. if b then Some k else None) (le-ltb k operation_count past)) ∙ is))
@@ -50,7 +50,7 @@ pub call_of_type : (s : Stored) (x : ℕ) (name : List ℕ) (checked : Checked) 
 call_of_type s x name checked there = ap (λ o. call_at o name) (slice_get-map object_of s.types x ∙ ap (option_map object_of) there)
 
 -- so none there has a greater number
-pub none_far : (s : Stored) (x c : ℕ) (checked : Checked) → slice_get s.types x ≡ Some checked → length checked.file.table.ops ≤ operation_count → operation_of c ≡ None → NumbersNone s x c
+pub none_far : (s : Stored) (x c : ℕ) (checked : Checked) → slice_get s.types x ≡ Some checked → length checked.file.table.ops ≤ operation_count → operation_by_number c ≡ None → NumbersNone s x c
 none_far s x c checked there few none name is =
     let T = checked.file.table in
     let below = first_within T name c (nat_lt 0 (length name)) (sym (call_of_type s x name checked there) ∙ is) in

@@ -7,7 +7,7 @@ use Rattle.object_trait.specs.declared.event.Event.{Event}
 use Rattle.object_trait.specs.declared.event.EventKind.{EventKind}
 use Rattle.object_trait.specs.declared.event.EventKind.TheVariants as kind
 use Rattle.colock_c.specs.EventWords.{words_by, event_words, are_numbers, place_at, happened_at, event_at, AreSmall, HasNumbers}
-use Rattle.colock_c.specs.Operations.{operation_count, operation_of}
+use Rattle.colock_c.specs.Operations.{operation_count, operation_by_number}
 use Rattle.colock_c.specs.declared.event_words.ColockEvent.{ColockEvent}
 
 -- small numbers pass the test
@@ -19,7 +19,7 @@ numbers_pass t u w a b c =
     rw (first, second, third) refl
 
 -- the number of an operation, and a place, are found again
-operation_found : (k : ℕ) → k < operation_count → operation_of k ≡ Some k
+operation_found : (k : ℕ) → k < operation_count → operation_by_number k ≡ Some k
 operation_found k below =
     let test : nat_lt k operation_count ≡ true = grind (arith, nat_tests, below) in
     ap (λ b. if b then Some k else None) test

@@ -3,12 +3,12 @@ use Rattle.std.proofs.Common.{◌≡◌, ℕ, ◌⊎◌, Option, Some, None, ref
 use Rattle.std.proofs.lemmas.Option.{same_Some}
 use Rattle.type_table.specs.declared.kind.Kind.{Kind}
 use Rattle.type_table.specs.declared.kind.Kind.TheVariants.{Escrow}
-use Rattle.type_text.specs.declared.type_file.TypeFile.{TypeFile}
-use Rattle.number_text.specs.NumberFile.{Number}
-use Rattle.table_checker.specs.Declarations.{number_file}
-use Rattle.table_checker.specs.declared.declared_type.Declaration.TheVariants.{Table, Number as Numbers}
+use Rattle.declared_types.specs.declared.type_file.TypeFile.{TypeFile}
+use Rattle.number_types.specs.Number.{Number}
+use Rattle.declared_types.specs.Declarations.{number_file}
+use Rattle.declared_types.specs.declared.declared_type.Declaration.TheVariants.{Table, Number as Numbers}
 use Rattle.colock_c.specs.Codes.{number}
-use Rattle.colock_c.specs.Types.{IsFileFor, IsMade, IsNotFor, accepted, not_accepted, no_file, memory_refused}
+use Rattle.colock_c.specs.Types.{IsFileFor, MakesType, IsNotFor, accepted, not_accepted, no_file, memory_refused}
 use Rattle.colock_c.specs.declared.code.Code.{Code}
 use Rattle.colock_c.specs.declared.code.Code.TheVariants.{NoMemory}
 use Rattle.colock_c.specs.declared.held.Held.{Held}
@@ -19,7 +19,7 @@ use Rattle.colock_c.specs.declared.words.ColockFault.{ColockFault}
 -- what is made of such a file is made of another such file, where each that is the one is the other, and so what is amiss
 pub of_such : (IsSuch IsOther : TypeFile → Type 0) (IsAmiss IsWrong : ℕ → ColockFault → Type 0) (kind : Kind) (was before : ColockFault) (n : ℕ) (words : ColockFault) (new : Option Held)
     → ((file : TypeFile) → IsSuch file → IsOther file) → ((m : ℕ) (w : ColockFault) → IsAmiss m w → IsWrong m w) → before ≡ was
-    → IsMade IsSuch IsAmiss kind before n words new → IsMade IsOther IsWrong kind was n words new
+    → MakesType IsSuch IsAmiss kind before n words new → MakesType IsOther IsWrong kind was n words new
 of_such IsSuch IsOther IsAmiss IsWrong kind was before n words new files amisses same (accepted f c such type done stays at) = accepted f c (files f such) type done (stays ∙ same) at
 of_such IsSuch IsOther IsAmiss IsWrong kind was before n words new files amisses same (not_accepted f such why at) = not_accepted f (files f such) why at
 of_such IsSuch IsOther IsAmiss IsWrong kind was before n words new files amisses same (no_file amiss at) = no_file (amisses n words amiss) at
@@ -27,26 +27,26 @@ of_such IsSuch IsOther IsAmiss IsWrong kind was before n words new files amisses
 
 -- of a file that is such, what is made of this file
 pub of_file : (IsSuch : TypeFile → Type 0) (IsAmiss : ℕ → ColockFault → Type 0) (file : TypeFile) (kind : Kind) (was before : ColockFault) (n : ℕ) (words : ColockFault) (new : Option Held)
-    → IsSuch file → before ≡ was → IsMade (λ f. f ≡ file) (λ m w. ⊥) kind before n words new → IsMade IsSuch IsAmiss kind was n words new
+    → IsSuch file → before ≡ was → MakesType (λ f. f ≡ file) (λ m w. ⊥) kind before n words new → MakesType IsSuch IsAmiss kind was n words new
 of_file IsSuch IsAmiss file kind was before n words new such same made =
     of_such (λ f. f ≡ file) IsSuch (λ m w. ⊥) IsAmiss kind was before n words new (λ f is. subst IsSuch (sym is) such) (λ m w amiss. absurd amiss) same made
 
 -- what is declared by a table is declared for each kind
 pub of_table : (file : TypeFile) (kind : Kind) (was : ColockFault) (n : ℕ) (words : ColockFault) (new : Option Held)
-    → IsMade (λ f. f ≡ file) (λ m w. ⊥) kind was n words new → IsMade (IsFileFor kind (Table file)) (IsNotFor kind (Table file) was) kind was n words new
+    → MakesType (λ f. f ≡ file) (λ m w. ⊥) kind was n words new → MakesType (IsFileFor kind (Table file)) (IsNotFor kind (Table file) was) kind was n words new
 of_table file kind was n words new made =
     of_file (IsFileFor kind (Table file)) (IsNotFor kind (Table file) was) file kind was was n words new (record { for_kind = tt; is = refl }) refl made
 
 -- and a number for escrow
 pub of_number : (v : Number) (kind : Kind) (was : ColockFault) (n : ℕ) (new : Option Held)
-    → kind ≡ Escrow → IsMade (λ f. f ≡ number_file v) (λ m w. ⊥) Escrow was n was new → IsMade (IsFileFor kind (Numbers v)) (IsNotFor kind (Numbers v) was) kind was n was new
+    → kind ≡ Escrow → MakesType (λ f. f ≡ number_file v) (λ m w. ⊥) Escrow was n was new → MakesType (IsFileFor kind (Numbers v)) (IsNotFor kind (Numbers v) was) kind was n was new
 of_number v kind was n new is made =
-    subst (λ (k : Kind). IsMade (IsFileFor k (Numbers v)) (IsNotFor k (Numbers v) was) k was n was new) (sym is)
+    subst (λ (k : Kind). MakesType (IsFileFor k (Numbers v)) (IsNotFor k (Numbers v) was) k was n was new) (sym is)
     (of_file (IsFileFor Escrow (Numbers v)) (IsNotFor Escrow (Numbers v) was) (number_file v) Escrow was was n was new (record { for_kind = refl; is = refl }) refl made)
 
 -- or none is
 pub of_none : (IsSuch : TypeFile → Type 0) (IsAmiss : ℕ → ColockFault → Type 0) (kind : Kind) (was : ColockFault) (code : Code) (words : ColockFault) (new : Option Held)
-    → ((code ≡ NoMemory) × (words ≡ was)) ⊎ IsAmiss (number code) words → new ≡ None → IsMade IsSuch IsAmiss kind was (number code) words new
+    → ((code ≡ NoMemory) × (words ≡ was)) ⊎ IsAmiss (number code) words → new ≡ None → MakesType IsSuch IsAmiss kind was (number code) words new
 of_none IsSuch IsAmiss kind was code words new why at =
     elim why [
       | inl memory ↦ memory_refused (ap number memory.0) memory.1 at
@@ -55,7 +55,7 @@ of_none IsSuch IsAmiss kind was code words new why at =
 
 -- which says nothing of the fault's words, so that they stay
 pub of_no_family : (IsSuch : TypeFile → Type 0) (IsNone : ℕ → Type 0) (kind : Kind) (was : ColockFault) (code : Code) (new : Option Held)
-    → (code ≡ NoMemory) ⊎ IsNone (number code) → new ≡ None → IsMade IsSuch (λ n words. IsNone n × (words ≡ was)) kind was (number code) was new
+    → (code ≡ NoMemory) ⊎ IsNone (number code) → new ≡ None → MakesType IsSuch (λ n words. IsNone n × (words ≡ was)) kind was (number code) was new
 of_no_family IsSuch IsNone kind was code new why at =
     elim why [
       | inl memory ↦ memory_refused (ap number memory) refl at

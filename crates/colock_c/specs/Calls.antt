@@ -22,13 +22,13 @@ use Rattle.colock_c.specs.declared.words.ColockAnswer.{ColockAnswer}
 
 -- what comes of a worker's command, by its code: its refusal, which changes nothing, or the event that it makes; or memory was refused,
 -- and nothing has changed
-pub data IsDone (s : Stored) (w : ℕ) (command : Command) (n : ℕ) (new : Stored) : Type 0 where
-  told : n ≡ number (code_of (refusal_of s command)) → new ≡ stored_after s w command → IsDone s w command n new
-  memory_refused : refusal_of s command ≡ None → n ≡ number NoMemory → new ≡ s → IsDone s w command n new
+pub data IsCommandDone (s : Stored) (w : ℕ) (command : Command) (n : ℕ) (new : Stored) : Type 0 where
+  told : n ≡ number (code_of (refusal_of s command)) → new ≡ stored_after s w command → IsCommandDone s w command n new
+  memory_refused : refusal_of s command ≡ None → n ≡ number NoMemory → new ≡ s → IsCommandDone s w command n new
 
 -- the event that was appended says the answer of t's call c at x
-abbrev pub IsAnswered : Stored → ℕ → ℕ → ℕ → ℕ → ℕ → ColockAnswer → Stored → Type 0
-IsAnswered s w t x c n words new = n ≡ number Done → (a : Answer) × (words ≡ answer_words a) × (new ≡ noted s w (as_event t x c a))
+abbrev pub WordsAnswer : Stored → ℕ → ℕ → ℕ → ℕ → ℕ → ColockAnswer → Stored → Type 0
+WordsAnswer s w t x c n words new = n ≡ number Done → (a : Answer) × (words ≡ answer_words a) × (new ≡ noted s w (as_event t x c a))
 
 -- the number is no call's at x
 abbrev pub NumbersNone : Stored → ℕ → ℕ → Type 0
@@ -45,19 +45,19 @@ pub data IsKeptStateOf (s : Stored) (x n state : ℕ) : Type 0 where
   no_object : n ≡ number NoObject → length (objects s) ≤ x → IsKeptStateOf s x n state
 
 -- the number of the call with this name at the object at x
-pub data IsNumberOf (s : Stored) (x : ℕ) (name : List ℕ) (n c : ℕ) : Type 0 where
-  found : n ≡ number Done → call_at (slice_get (objects s) x) name ≡ Some c → IsNumberOf s x name n c
-  no_object : n ≡ number NoObject → length (objects s) ≤ x → IsNumberOf s x name n c
-  no_call : n ≡ number NoCall → x < length (objects s) → call_at (slice_get (objects s) x) name ≡ None → IsNumberOf s x name n c
+pub data IsCallNumber (s : Stored) (x : ℕ) (name : List ℕ) (n c : ℕ) : Type 0 where
+  found : n ≡ number Done → call_at (slice_get (objects s) x) name ≡ Some c → IsCallNumber s x name n c
+  no_object : n ≡ number NoObject → length (objects s) ≤ x → IsCallNumber s x name n c
+  no_call : n ≡ number NoCall → x < length (objects s) → call_at (slice_get (objects s) x) name ≡ None → IsCallNumber s x name n c
 
 -- ---- a handle
 
 -- what comes of a worker's command. Where the handle holds no store it goes on holding what it held
-abbrev pub Does : Option Held → ℕ → Command → ℕ → Option Held → Type 0
-Does None w command n new = (n ≡ number NotHeld) × (new ≡ None)
-Does (Some (OfType a)) w command n new = (n ≡ number NotHeld) × (new ≡ Some (OfType a))
-Does (Some (OfObjects os)) w command n new = (n ≡ number NotHeld) × (new ≡ Some (OfObjects os))
-Does (Some (OfStore s)) w command n new = (later : Stored) × (new ≡ Some (OfStore later)) × IsDone s w command n later
+abbrev pub DoesCommand : Option Held → ℕ → Command → ℕ → Option Held → Type 0
+DoesCommand None w command n new = (n ≡ number NotHeld) × (new ≡ None)
+DoesCommand (Some (OfType a)) w command n new = (n ≡ number NotHeld) × (new ≡ Some (OfType a))
+DoesCommand (Some (OfObjects os)) w command n new = (n ≡ number NotHeld) × (new ≡ Some (OfObjects os))
+DoesCommand (Some (OfStore s)) w command n new = (later : Stored) × (new ≡ Some (OfStore later)) × IsCommandDone s w command n later
 
 -- what comes of a worker's commit or abort, which takes no memory: its refusal, which changes nothing, or the event that it makes
 abbrev pub IsEnded : Stored → ℕ → Command → ℕ → Stored → Type 0
@@ -74,8 +74,8 @@ abbrev pub IsNumbered : Option Held → ℕ → ℕ → Type 0
 IsNumbered held n t = (s : Stored) → store_at held ≡ Some s → n ≡ number Done → t ≡ begins s.history
 
 -- the answer of t's call c at x
-abbrev pub IsTold : Option Held → ℕ → ℕ → ℕ → ℕ → ℕ → ColockAnswer → Option Held → Type 0
-IsTold held w t x c n words new =
+abbrev pub TellsAnswer : Option Held → ℕ → ℕ → ℕ → ℕ → ℕ → ColockAnswer → Option Held → Type 0
+TellsAnswer held w t x c n words new =
     (s : Stored) → store_at held ≡ Some s → n ≡ number Done
     → (a : Answer) × (words ≡ answer_words a) × (store_at new ≡ Some (noted s w (as_event t x c a)))
 
@@ -92,13 +92,13 @@ DoesNumbered (Some (OfType a)) w t x c n new = (n ≡ number NotHeld) × (new �
 DoesNumbered (Some (OfObjects os)) w t x c n new = (n ≡ number NotHeld) × (new ≡ Some (OfObjects os))
 DoesNumbered (Some (OfStore s)) w t x c n new =
     (later : Stored) × (new ≡ Some (OfStore later))
-    × ((name : List ℕ) → call_at (slice_get (objects s) x) name ≡ Some c → IsDone s w (Call t x name) n later) × IsUnnumbered s t x c n later
+    × ((name : List ℕ) → call_at (slice_get (objects s) x) name ≡ Some c → IsCommandDone s w (Call t x name) n later) × IsUnnumbered s t x c n later
 
-abbrev pub Keeps : Option Held → ℕ → ℕ → ℕ → Type 0
-Keeps held x n state = (s : Stored) → store_at held ≡ Some s → IsKeptStateOf s x n state
+abbrev pub KeepsState : Option Held → ℕ → ℕ → ℕ → Type 0
+KeepsState held x n state = (s : Stored) → store_at held ≡ Some s → IsKeptStateOf s x n state
 
 abbrev pub Numbers : Option Held → ℕ → List ℕ → ℕ → ℕ → Type 0
-Numbers held x name n c = (s : Stored) → store_at held ≡ Some s → IsNumberOf s x name n c
+Numbers held x name n c = (s : Stored) → store_at held ≡ Some s → IsCallNumber s x name n c
 
 -- how many transactions are open
 abbrev pub CountsOpen : Option Held → ℕ → ℕ → Type 0

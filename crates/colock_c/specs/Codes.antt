@@ -6,8 +6,8 @@ use Rattle.store.specs.declared.refusals.NewRefusal.{NewRefusal}
 use Rattle.store.specs.declared.refusals.NewRefusal.TheVariants as begins
 use Rattle.store.specs.declared.refusals.RenewRefusal.{RenewRefusal}
 use Rattle.store.specs.declared.refusals.RenewRefusal.TheVariants as renews
-use Rattle.store.specs.declared.stray.Stray.{Stray}
-use Rattle.store.specs.declared.stray.Stray.TheVariants as stray
+use Rattle.store.specs.declared.event_replay.Stray.{Stray}
+use Rattle.store.specs.declared.event_replay.Stray.TheVariants as stray
 use Rattle.table_maker.specs.declared.make_error.MakeError.{MakeError}
 use Rattle.table_maker.specs.declared.make_error.MakeError.TheVariants as make
 use Rattle.colock_c.specs.declared.code.Code.{Code}

@@ -4,7 +4,7 @@ use Rattle.object_trait.specs.declared.event.Event.{Event}
 use Rattle.object_trait.specs.declared.event.EventKind.{EventKind}
 use Rattle.object_trait.specs.declared.event.EventKind.TheVariants as kind
 use Rattle.type_table.specs.Operation.{places}
-use Rattle.colock_c.specs.Operations.{operation_count, operation_of}
+use Rattle.colock_c.specs.Operations.{operation_count, operation_by_number}
 use Rattle.colock_c.specs.declared.event_words.ColockEvent.{ColockEvent}
 
 -- what happened by a worker. What a kind doesn't have is 0. Of a call without a reply the number is the place of its first operation
@@ -34,7 +34,7 @@ place_at c = if nat_lt c places then Some c else None
 abbrev pub happened_at : ColockEvent → Option EventKind
 happened_at w =
     if w.kind == 0 then Some (kind.Begin w.transaction)
-    else (if w.kind == 1 then option_map (λ operation. kind.Op operation w.transaction w.object) (operation_of w.op)
+    else (if w.kind == 1 then option_map (λ operation. kind.Op operation w.transaction w.object) (operation_by_number w.op)
     else (if w.kind == 2 then option_map (λ c. kind.Busy c w.transaction w.object w.other) (place_at w.op)
     else (if w.kind == 3 then option_map (kind.None w.transaction w.object) (place_at w.op)
     else (if w.kind == 4 then Some (kind.Commit w.transaction)

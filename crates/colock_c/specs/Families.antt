@@ -4,13 +4,13 @@ use Rattle.std.specs.List.{list_all}
 use Rattle.type_table.specs.Name.{is_name}
 use Rattle.line_text.specs.Text.{words_of}
 use Rattle.type_table.specs.declared.kind.Kind.{Kind}
-use Rattle.type_text.specs.declared.type_file.TypeFile.{TypeFile}
-use Rattle.table_checker.specs.declared.declared_type.Declaration.{Declaration}
-use Rattle.table_checker.specs.declared.declared_type.Declaration.TheVariants.{Number as Numbers}
+use Rattle.declared_types.specs.declared.type_file.TypeFile.{TypeFile}
+use Rattle.declared_types.specs.declared.declared_type.Declaration.{Declaration}
+use Rattle.declared_types.specs.declared.declared_type.Declaration.TheVariants.{Number as Numbers}
 use Rattle.table_families.specs.Number.{amounts_number, AreNumberAmounts, NumberFits}
-use Rattle.table_maker.specs.Elements.{AreElements}
+use Rattle.table_families.specs.Elements.{AreElements}
 use Rattle.table_maker.specs.Made.{Family, IsFileOfFamily}
-use Rattle.table_maker.specs.Semiqueue.{AreSemiqueueParameters}
+use Rattle.table_families.specs.Semiqueue.{AreSemiqueueParameters}
 use Rattle.colock_c.specs.Codes.{number}
 use Rattle.colock_c.specs.Types.{IsFileFor, IsNotFor}
 use Rattle.colock_c.specs.declared.code.Code.TheVariants.{BadParameter, TooLarge}

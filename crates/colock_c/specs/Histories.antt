@@ -50,10 +50,10 @@ Forgets (Some (OfStore s)) m n new = (n ≡ number Done) × (new ≡ Some (OfSto
 -- ---- events that are made again
 
 -- by the events of these words, each of which is made after those before it, the store becomes another
-pub data AreMade (s : Stored) : List ColockEvent → Stored → Type 0 where
-  none : AreMade s [] s
-  more : (ws : List ColockEvent) (now : Stored) (w : ColockEvent) (e : Event) → AreMade s ws now → event_at w ≡ Some e → IsMade now e
-      → AreMade s (ws ++ w ∷ []) (with_event now e)
+pub data AreMadeOfWords (s : Stored) : List ColockEvent → Stored → Type 0 where
+  none : AreMadeOfWords s [] s
+  more : (ws : List ColockEvent) (now : Stored) (w : ColockEvent) (e : Event) → AreMadeOfWords s ws now → event_at w ≡ Some e → IsMade now e
+      → AreMadeOfWords s (ws ++ w ∷ []) (with_event now e)
 
 -- the event of the words is made, or none is, or memory was refused
 abbrev pub MakesOne : Stored → ColockEvent → Result (Unit {0}) Code → Stored → Type 0
@@ -66,12 +66,12 @@ IsStray s ws place = (w : ColockEvent) (e : Event) → slice_get ws place ≡ So
 
 -- all are made; or the first of them, as many as is said, and the next isn't, or memory was refused
 pub data IsFollowed (s : Stored) (ws : List ColockEvent) (n made : ℕ) (new : Stored) : Type 0 where
-  all : n ≡ number Done → made ≡ length ws → AreMade s ws new → IsFollowed s ws n made new
-  strays : n ≡ number NotMade → made < length ws → AreMade s (take made ws) new → IsStray new ws made → IsFollowed s ws n made new
-  memory_refused : n ≡ number NoMemory → made < length ws → AreMade s (take made ws) new → IsFollowed s ws n made new
+  all : n ≡ number Done → made ≡ length ws → AreMadeOfWords s ws new → IsFollowed s ws n made new
+  strays : n ≡ number NotMade → made < length ws → AreMadeOfWords s (take made ws) new → IsStray new ws made → IsFollowed s ws n made new
+  memory_refused : n ≡ number NoMemory → made < length ws → AreMadeOfWords s (take made ws) new → IsFollowed s ws n made new
 
-abbrev pub Follows : Option Held → List ColockEvent → ℕ → ℕ → Option Held → Type 0
-Follows None ws n made new = (n ≡ number NotHeld) × (new ≡ None)
-Follows (Some (OfType a)) ws n made new = (n ≡ number NotHeld) × (new ≡ Some (OfType a))
-Follows (Some (OfObjects os)) ws n made new = (n ≡ number NotHeld) × (new ≡ Some (OfObjects os))
-Follows (Some (OfStore s)) ws n made new = (later : Stored) × (new ≡ Some (OfStore later)) × IsFollowed s ws n made later
+abbrev pub FollowsWords : Option Held → List ColockEvent → ℕ → ℕ → Option Held → Type 0
+FollowsWords None ws n made new = (n ≡ number NotHeld) × (new ≡ None)
+FollowsWords (Some (OfType a)) ws n made new = (n ≡ number NotHeld) × (new ≡ Some (OfType a))
+FollowsWords (Some (OfObjects os)) ws n made new = (n ≡ number NotHeld) × (new ≡ Some (OfObjects os))
+FollowsWords (Some (OfStore s)) ws n made new = (later : Stored) × (new ≡ Some (OfStore later)) × IsFollowed s ws n made later

@@ -4,7 +4,7 @@ use Rattle.table_checker.specs.Checked.{Checked}
 use Rattle.object_trait.specs.Meaning.{Meaning}
 use Rattle.object_trait.specs.Steps.{IsFresh}
 use Rattle.store_laws.specs.Stored.{types_of}
-use Rattle.store.specs.Ends.{MayBegin, Refuses}
+use Rattle.store.specs.Ends.{MayBegin, RefusesNew}
 use Rattle.store.specs.declared.refusals.NewRefusal.{NewRefusal}
 use Rattle.colock_c.specs.Codes.{number, new_code}
 use Rattle.colock_c.specs.Holding.{objects_at, store_at}
@@ -12,11 +12,11 @@ use Rattle.colock_c.specs.declared.code.Code.TheVariants.{Done, NoMemory}
 use Rattle.colock_c.specs.declared.held.Held.{Held}
 
 -- another object: a new one of this type after the others, or memory was refused and there are the same
-pub data Adds (ms : List Meaning) (c : Checked) (n : ℕ) (new : Option Held) : Type 0 where
-  added : (m : Meaning) → n ≡ number Done → IsFresh m → m.checked ≡ c → objects_at new ≡ Some (ms ++ m ∷ []) → Adds ms c n new
-  memory_refused : n ≡ number NoMemory → objects_at new ≡ Some ms → Adds ms c n new
+pub data AddsObject (ms : List Meaning) (c : Checked) (n : ℕ) (new : Option Held) : Type 0 where
+  added : (m : Meaning) → n ≡ number Done → IsFresh m → m.checked ≡ c → objects_at new ≡ Some (ms ++ m ∷ []) → AddsObject ms c n new
+  memory_refused : n ≡ number NoMemory → objects_at new ≡ Some ms → AddsObject ms c n new
 
 -- a store of these objects with no event yet, or the code of the refusal and the same objects
-pub data Makes (ms : List Meaning) (max n : ℕ) (new : Option Held) : Type 0 where
-  made : n ≡ number Done → MayBegin ms max → store_at new ≡ Some (record { types = types_of ms; history = []; max = max; forgotten = 0 }) → Makes ms max n new
-  not_made : (why : NewRefusal) → n ≡ number (new_code why) → Refuses ms max why → objects_at new ≡ Some ms → Makes ms max n new
+pub data MakesStore (ms : List Meaning) (max n : ℕ) (new : Option Held) : Type 0 where
+  made : n ≡ number Done → MayBegin ms max → store_at new ≡ Some (record { types = types_of ms; history = []; max = max; forgotten = 0 }) → MakesStore ms max n new
+  not_made : (why : NewRefusal) → n ≡ number (new_code why) → RefusesNew ms max why → objects_at new ≡ Some ms → MakesStore ms max n new

@@ -5,8 +5,8 @@ use Rattle.type_table.specs.Table.{Table, has_op, next, op_of}
 use Rattle.type_table.specs.declared.op.Op.{Op}
 use Rattle.object_trait.specs.Object.{conflicts_by}
 use Rattle.table_checker.specs.Checked.{Checked}
-use Rattle.table_checker.specs.Declarations.{rows_of, table_of}
-use Rattle.table_checker.specs.declared.declared_type.Declaration.{Declaration}
+use Rattle.declared_types.specs.Declarations.{rows_of, table_of}
+use Rattle.declared_types.specs.declared.declared_type.Declaration.{Declaration}
 use Rattle.colock_c.specs.Codes.{number}
 use Rattle.colock_c.specs.Holding.{type_at}
 use Rattle.colock_c.specs.Operations.{IsDeclaredBy}
@@ -31,11 +31,11 @@ IsFoundPut (Some name) old n new count = IsPut name old n new count
 abbrev pub names_at : Declaration → ℕ → Option Op
 names_at declaration k = if nat_lt k (length (rows_of declaration)) then slice_get (rows_of declaration) k else op_of (table_of declaration) k
 
-abbrev pub call_of : Declaration → ℕ → Option (List ℕ)
-call_of declaration k = option_map (λ (o : Op). o.call) (names_at declaration k)
+abbrev pub call_name_of : Declaration → ℕ → Option (List ℕ)
+call_name_of declaration k = option_map (λ (o : Op). o.call) (names_at declaration k)
 
-abbrev pub reply_of : Declaration → ℕ → Option (List ℕ)
-reply_of declaration k = option_map (λ (o : Op). o.reply) (names_at declaration k)
+abbrev pub reply_name_of : Declaration → ℕ → Option (List ℕ)
+reply_name_of declaration k = option_map (λ (o : Op). o.reply) (names_at declaration k)
 
 -- ---- states
 
@@ -69,14 +69,14 @@ NamesType held old n new count = (c : Checked) → type_at held ≡ Some c → I
 
 abbrev pub NamesCall : Option Held → ℕ → List ℕ → ℕ → List ℕ → ℕ → Type 0
 NamesCall held k old n new count =
-    (c : Checked) → type_at held ≡ Some c → (declaration : Declaration) × IsDeclaredBy c declaration × IsFoundPut (call_of declaration k) old n new count
+    (c : Checked) → type_at held ≡ Some c → (declaration : Declaration) × IsDeclaredBy c declaration × IsFoundPut (call_name_of declaration k) old n new count
 
 abbrev pub NamesReply : Option Held → ℕ → List ℕ → ℕ → List ℕ → ℕ → Type 0
 NamesReply held k old n new count =
-    (c : Checked) → type_at held ≡ Some c → (declaration : Declaration) × IsDeclaredBy c declaration × IsFoundPut (reply_of declaration k) old n new count
+    (c : Checked) → type_at held ≡ Some c → (declaration : Declaration) × IsDeclaredBy c declaration × IsFoundPut (reply_name_of declaration k) old n new count
 
-abbrev pub Leads : Option Held → ℕ → ℕ → ℕ → ℕ → Type 0
-Leads held s k n to = (c : Checked) → type_at held ≡ Some c → IsStep c.file.table s k n to
+abbrev pub TellsStep : Option Held → ℕ → ℕ → ℕ → ℕ → Type 0
+TellsStep held s k n to = (c : Checked) → type_at held ≡ Some c → IsStep c.file.table s k n to
 
 abbrev pub TellsConflict : Option Held → ℕ → ℕ → ℕ → ℕ → Type 0
 TellsConflict held p q n told = (c : Checked) → type_at held ≡ Some c → TellsConflictOf c p q n told

@@ -3,13 +3,13 @@ use Rattle.std.specs.Prelude.{◌≡◌, ℕ, List, Option, Some, None, Ok, Err}
 use Rattle.type_table.specs.declared.kind.Kind.{Kind}
 use Rattle.line_text.specs.declared.fault.TextFault.{TextFault}
 use Rattle.line_text.specs.declared.fault.FaultKind.TheVariants as fault
-use Rattle.type_text.specs.declared.type_file.TypeFile.{TypeFile}
+use Rattle.declared_types.specs.declared.type_file.TypeFile.{TypeFile}
 use Rattle.type_text.specs.TypeFile as tables
-use Rattle.declared_text.specs.Declared.{Declares, Reads}
+use Rattle.declared_text.specs.Declared.{Declares, ReadsDeclaration}
 use Rattle.table_checker.specs.Checked.{Checked, IsChecked}
-use Rattle.table_checker.specs.Declarations.{file_of, IsDeclaredFor}
+use Rattle.declared_types.specs.Declarations.{file_of, IsDeclaredFor}
 use Rattle.table_checker.specs.Refusal.{IsFirstReason}
-use Rattle.table_checker.specs.declared.declared_type.Declaration.{Declaration}
+use Rattle.declared_types.specs.declared.declared_type.Declaration.{Declaration}
 use Rattle.table_checker.specs.declared.condition.Condition.TheVariants.{Forward, Backward}
 use Rattle.table_checker.specs.declared.refusal.CheckRefusal.{CheckRefusal}
 use Rattle.table_maker.specs.MadeConflicts.{AreMadeConflicts}
@@ -23,12 +23,12 @@ use Rattle.colock_c.specs.declared.words.ColockFault.{ColockFault}
 -- ---- of a file
 
 -- the file, accepted for the kind
-pub record IsTypeOf (kind : Kind) (file : TypeFile) (c : Checked) : Type 0 where
+pub record IsCheckedType (kind : Kind) (file : TypeFile) (c : Checked) : Type 0 where
   pub is : c ≡ record { kind = kind; file = file }
   pub checked : IsChecked (record { kind = kind; file = file })
 
 -- the checker refuses the file for the kind: its first reason
-pub record IsRefused (kind : Kind) (file : TypeFile) (n : ℕ) (words : ColockFault) : Type 0 where
+pub record IsFileRefused (kind : Kind) (file : TypeFile) (n : ℕ) (words : ColockFault) : Type 0 where
   pub why : CheckRefusal
   pub first : IsFirstReason kind file why
   pub told : n ≡ number Refused
@@ -36,12 +36,12 @@ pub record IsRefused (kind : Kind) (file : TypeFile) (n : ℕ) (words : ColockFa
 
 -- a type is made of such a file for a handle that holds nothing, which holds it then; or the checker refuses it, or there is no such file, or
 -- memory was refused, and the handle goes on holding nothing. What was in the place of the fault's words stays, but for what is refused
-pub data IsMade (IsSuch : TypeFile → Type 0) (IsAmiss : ℕ → ColockFault → Type 0) (kind : Kind) (was : ColockFault) (n : ℕ) (words : ColockFault) (new : Option Held) : Type 0 where
-  accepted : (file : TypeFile) (c : Checked) → IsSuch file → IsTypeOf kind file c → n ≡ number Done → words ≡ was → type_at new ≡ Some c
-      → IsMade IsSuch IsAmiss kind was n words new
-  not_accepted : (file : TypeFile) → IsSuch file → IsRefused kind file n words → new ≡ None → IsMade IsSuch IsAmiss kind was n words new
-  no_file : IsAmiss n words → new ≡ None → IsMade IsSuch IsAmiss kind was n words new
-  memory_refused : n ≡ number NoMemory → words ≡ was → new ≡ None → IsMade IsSuch IsAmiss kind was n words new
+pub data MakesType (IsSuch : TypeFile → Type 0) (IsAmiss : ℕ → ColockFault → Type 0) (kind : Kind) (was : ColockFault) (n : ℕ) (words : ColockFault) (new : Option Held) : Type 0 where
+  accepted : (file : TypeFile) (c : Checked) → IsSuch file → IsCheckedType kind file c → n ≡ number Done → words ≡ was → type_at new ≡ Some c
+      → MakesType IsSuch IsAmiss kind was n words new
+  not_accepted : (file : TypeFile) → IsSuch file → IsFileRefused kind file n words → new ≡ None → MakesType IsSuch IsAmiss kind was n words new
+  no_file : IsAmiss n words → new ≡ None → MakesType IsSuch IsAmiss kind was n words new
+  memory_refused : n ≡ number NoMemory → words ≡ was → new ≡ None → MakesType IsSuch IsAmiss kind was n words new
 
 -- ---- of a text
 
@@ -65,22 +65,22 @@ pub record TellsFault (IsSuch : TextFault → Type 0) (n : ℕ) (words : ColockF
   pub words_are : words ≡ fault_words why
 
 -- the fault of a text that declares no type
-abbrev pub IsFaulty : List ℕ → ℕ → ColockFault → Type 0
-IsFaulty text n words = TellsFault (λ why. Reads (Err why) text) n words
+abbrev pub TellsTextFault : List ℕ → ℕ → ColockFault → Type 0
+TellsTextFault text n words = TellsFault (λ why. ReadsDeclaration (Err why) text) n words
 
 -- the file of what the text declares, for the kind
-abbrev pub IsFileOf : List ℕ → Kind → TypeFile → Type 0
-IsFileOf text kind file = (declaration : Declaration) × Declares text declaration × IsFileFor kind declaration file
+abbrev pub IsDeclaredFile : List ℕ → Kind → TypeFile → Type 0
+IsDeclaredFile text kind file = (declaration : Declaration) × Declares text declaration × IsFileFor kind declaration file
 
 -- why there is none: the text has a fault, or what it declares isn't for the kind
 pub data HasNoFile (text : List ℕ) (kind : Kind) (was : ColockFault) (n : ℕ) (words : ColockFault) : Type 0 where
-  faulty : IsFaulty text n words → HasNoFile text kind was n words
+  faulty : TellsTextFault text n words → HasNoFile text kind was n words
   not_for : (declaration : Declaration) → Declares text declaration → IsNotFor kind declaration was n words → HasNoFile text kind was n words
 
 -- ---- of a table whose relation and conflicts are made
 
 -- the table and the set are those of the given file, and the conflict tables have exactly the pairs that fail somewhere in the set
-pub record HasMadeTables (given file : TypeFile) : Type 0 where
+pub record HasRemadeTables (given file : TypeFile) : Type 0 where
   pub table : file.table ≡ given.table
   pub reach : file.reach ≡ given.reach
   pub undo : AreMadeConflicts Backward file file.undo
@@ -88,7 +88,7 @@ pub record HasMadeTables (given file : TypeFile) : Type 0 where
 
 -- the file has made tables in place of those of the type file that the text is
 abbrev pub IsTabledOf : List ℕ → TypeFile → Type 0
-IsTabledOf text file = (given : TypeFile) × tables.Reads (Ok given) text × HasMadeTables given file
+IsTabledOf text file = (given : TypeFile) × tables.Reads (Ok given) text × HasRemadeTables given file
 
 -- the fault of a text that is no type file
 abbrev pub IsNoTypeFile : List ℕ → ℕ → ColockFault → Type 0

@@ -5,8 +5,8 @@ use Rattle.type_table.specs.declared.kind.Kind.TheVariants.{Undo, Intentions, Es
 use Rattle.line_text.specs.declared.fault.TextFault.{TextFault}
 use Rattle.line_text.specs.declared.fault.FaultKind.{FaultKind}
 use Rattle.line_text.specs.declared.fault.FaultKind.TheVariants as fault
-use Rattle.table_checker.specs.Declarations.{rows_of, table_of}
-use Rattle.table_checker.specs.declared.declared_type.Declaration.{Declaration}
+use Rattle.declared_types.specs.Declarations.{rows_of, table_of}
+use Rattle.declared_types.specs.declared.declared_type.Declaration.{Declaration}
 use Rattle.table_checker.specs.declared.refusal.CheckRefusal.{CheckRefusal}
 use Rattle.table_checker.specs.declared.refusal.CheckRefusal.TheVariants.{InitialOutside, NotClosed, NotSimulation, NotCommuting, NotNumeric}
 use Rattle.object_calls.specs.declared.answer.Answer.{Answer}
@@ -48,8 +48,8 @@ refusal_words (NotCommuting p q s) = record { line = 0; kind = 4; first = p; sec
 refusal_words (NotNumeric k s) = record { line = 0; kind = 5; first = k; second = s; third = 0 }
 
 -- the kind of recovery with this number
-abbrev pub kind_at : ℕ → Option Kind
-kind_at n = if n == 0 then Some Undo else (if n == 1 then Some Intentions else (if n == 2 then Some Escrow else None))
+abbrev pub kind_by_number : ℕ → Option Kind
+kind_by_number n = if n == 0 then Some Undo else (if n == 1 then Some Intentions else (if n == 2 then Some Escrow else None))
 
 -- the number of a kind
 abbrev pub kind_number : Kind → ℕ

@@ -2,14 +2,14 @@
 
 ghost use Rattle.std.specs.Prelude.{◌≡◌, ◌≢◌, Some, None};
 ghost use Rattle.colock_c.specs.Codes.{number};
-ghost use Rattle.colock_c.specs.Histories.{Copies, CountsEvents, Follows, Forgets};
+ghost use Rattle.colock_c.specs.Histories.{Copies, CountsEvents, FollowsWords, Forgets};
 ghost use Rattle.colock_c.specs.Holding.{store_at};
 
 use crate::code::Code;
+use crate::event_rooms;
 use crate::event_words::ColockEvent;
-use crate::following::follow_words;
 use crate::held::Held;
-use crate::on_history;
+use crate::made_events::follow_words;
 
 /// Copies events into a room.
 pub(crate) fn events(held: &Held, from: u64, room: &mut [ColockEvent], count: &mut u64) -> Code
@@ -18,7 +18,7 @@ pub(crate) fn events(held: &Held, from: u64, room: &mut [ColockEvent], count: &m
     ensures rest { number result ≢ 0 → (room.new ≡ room.old) × (count.new ≡ count.old) }
 {
     match held {
-        Held::OfStore(store) => on_history::events(store, from, room, count),
+        Held::OfStore(store) => event_rooms::events(store, from, room, count),
         Held::OfType(_) => Code::NotHeld,
         Held::OfObjects(_) => Code::NotHeld,
     }
@@ -33,7 +33,7 @@ pub(crate) fn event_count(held: &Held, count: &mut u64, forgotten: &mut u64) -> 
     match held {
         Held::OfStore(store) => {
             *count = u64::from(store.event_count());
-            *forgotten = on_history::forgotten_count(store);
+            *forgotten = event_rooms::forgotten_count(store);
             Code::Done
         },
         Held::OfType(_) => Code::NotHeld,
@@ -57,7 +57,7 @@ pub(crate) fn forget(held: &mut Held, events: u64) -> Code
 
 /// Makes events again.
 pub(crate) fn follow(held: &mut Held, events: &[ColockEvent], made: &mut u64) -> Code
-    ensures follows { Follows (Some held.old) events.now (number result) made.new (Some held.new) }
+    ensures follows { FollowsWords (Some held.old) events.now (number result) made.new (Some held.new) }
     ensures no_store { store_at (Some held.old) ≡ None → made.new ≡ made.old }
 {
     match held {

@@ -2,7 +2,7 @@
 
 ghost use Rattle.std.specs.Prelude.{◌≡◌, ◌≢◌, Some, None};
 ghost use Rattle.serial_order.specs.declared.command.Command.TheVariants as command;
-ghost use Rattle.colock_c.specs.Calls.{AbortsAll, CountsOpen, Does, DoesNumbered, Ends, IsNumbered, IsTold, IsToldOf, Keeps, Numbers};
+ghost use Rattle.colock_c.specs.Calls.{AbortsAll, CountsOpen, DoesCommand, DoesNumbered, Ends, IsNumbered, TellsAnswer, IsToldOf, KeepsState, Numbers};
 ghost use Rattle.colock_c.specs.Codes.{number};
 ghost use Rattle.colock_c.specs.Foreseen.{Foresees, ForeseesAt};
 ghost use Rattle.colock_c.specs.Holding.{store_at};
@@ -10,16 +10,16 @@ ghost use Rattle.colock_c.specs.Holding.{store_at};
 use crate::code::Code;
 use crate::held::Held;
 use crate::words::ColockAnswer;
-use crate::{numbering, on_store};
+use crate::{call_numbers, store_calls};
 
 /// Begins a transaction.
 pub(crate) fn begin(held: &mut Held, worker: u8, transaction: &mut u64) -> Code
-    ensures step { Does (Some held.old) worker command.Begin (number result) (Some held.new) }
+    ensures step { DoesCommand (Some held.old) worker command.Begin (number result) (Some held.new) }
     ensures begun { IsNumbered (Some held.old) (number result) transaction.new }
     ensures rest { number result ≢ 0 → transaction.new ≡ transaction.old }
 {
     match held {
-        Held::OfStore(store) => on_store::begin(store, worker, transaction),
+        Held::OfStore(store) => store_calls::begin(store, worker, transaction),
         Held::OfType(_) => Code::NotHeld,
         Held::OfObjects(_) => Code::NotHeld,
     }
@@ -34,12 +34,12 @@ pub(crate) fn call(
     name: &[u8],
     answer: &mut ColockAnswer,
 ) -> Code
-    ensures step { Does (Some held.old) worker (command.Call transaction x name.now) (number result) (Some held.new) }
+    ensures step { DoesCommand (Some held.old) worker (command.Call transaction x name.now) (number result) (Some held.new) }
     ensures told { IsToldOf (Some held.old) worker transaction x name.now (number result) answer.new (Some held.new) }
     ensures rest { number result ≢ 0 → answer.new ≡ answer.old }
 {
     match held {
-        Held::OfStore(store) => on_store::call(store, worker, transaction, x, name, answer),
+        Held::OfStore(store) => store_calls::call(store, worker, transaction, x, name, answer),
         Held::OfType(_) => Code::NotHeld,
         Held::OfObjects(_) => Code::NotHeld,
     }
@@ -55,11 +55,11 @@ pub(crate) fn call_op(
     answer: &mut ColockAnswer,
 ) -> Code
     ensures step { DoesNumbered (Some held.old) worker transaction x c (number result) (Some held.new) }
-    ensures told { IsTold (Some held.old) worker transaction x c (number result) answer.new (Some held.new) }
+    ensures told { TellsAnswer (Some held.old) worker transaction x c (number result) answer.new (Some held.new) }
     ensures rest { number result ≢ 0 → answer.new ≡ answer.old }
 {
     match held {
-        Held::OfStore(store) => on_store::call_op(store, worker, transaction, x, c, answer),
+        Held::OfStore(store) => store_calls::call_op(store, worker, transaction, x, c, answer),
         Held::OfType(_) => Code::NotHeld,
         Held::OfObjects(_) => Code::NotHeld,
     }
@@ -78,7 +78,7 @@ pub(crate) fn would(
     ensures rest { number result ≢ 0 → answer.new ≡ answer.old }
 {
     match held {
-        Held::OfStore(store) => numbering::would(store, transaction, x, name, answer),
+        Held::OfStore(store) => store_calls::would(store, transaction, x, name, answer),
         Held::OfType(_) => Code::NotHeld,
         Held::OfObjects(_) => Code::NotHeld,
     }
@@ -97,7 +97,7 @@ pub(crate) fn would_op(
     ensures rest { number result ≢ 0 → answer.new ≡ answer.old }
 {
     match held {
-        Held::OfStore(store) => numbering::would_op(store, transaction, x, c, answer),
+        Held::OfStore(store) => store_calls::would_op(store, transaction, x, c, answer),
         Held::OfType(_) => Code::NotHeld,
         Held::OfObjects(_) => Code::NotHeld,
     }
@@ -110,7 +110,7 @@ pub(crate) fn call_number(held: &Held, x: u32, name: &[u8], call: &mut u64) -> C
     ensures rest { number result ≢ 0 → call.new ≡ call.old }
 {
     match held {
-        Held::OfStore(store) => numbering::call_number(store, x, name, call),
+        Held::OfStore(store) => call_numbers::call_number(store, x, name, call),
         Held::OfType(_) => Code::NotHeld,
         Held::OfObjects(_) => Code::NotHeld,
     }
@@ -121,7 +121,7 @@ pub(crate) fn commit(held: &mut Held, worker: u8, transaction: u64) -> Code
     ensures { Ends (Some held.old) worker (command.Commit transaction) (number result) (Some held.new) }
 {
     match held {
-        Held::OfStore(store) => on_store::commit(store, worker, transaction),
+        Held::OfStore(store) => store_calls::commit(store, worker, transaction),
         Held::OfType(_) => Code::NotHeld,
         Held::OfObjects(_) => Code::NotHeld,
     }
@@ -132,7 +132,7 @@ pub(crate) fn abort(held: &mut Held, worker: u8, transaction: u64) -> Code
     ensures { Ends (Some held.old) worker (command.Abort transaction) (number result) (Some held.new) }
 {
     match held {
-        Held::OfStore(store) => on_store::abort(store, worker, transaction),
+        Held::OfStore(store) => store_calls::abort(store, worker, transaction),
         Held::OfType(_) => Code::NotHeld,
         Held::OfObjects(_) => Code::NotHeld,
     }
@@ -140,10 +140,10 @@ pub(crate) fn abort(held: &mut Held, worker: u8, transaction: u64) -> Code
 
 /// Rolls back the last operations of a transaction.
 pub(crate) fn rollback(held: &mut Held, worker: u8, transaction: u64, operations: u64) -> Code
-    ensures { Does (Some held.old) worker (command.Rollback transaction operations) (number result) (Some held.new) }
+    ensures { DoesCommand (Some held.old) worker (command.Rollback transaction operations) (number result) (Some held.new) }
 {
     match held {
-        Held::OfStore(store) => on_store::rollback(store, worker, transaction, operations),
+        Held::OfStore(store) => store_calls::rollback(store, worker, transaction, operations),
         Held::OfType(_) => Code::NotHeld,
         Held::OfObjects(_) => Code::NotHeld,
     }
@@ -151,12 +151,12 @@ pub(crate) fn rollback(held: &mut Held, worker: u8, transaction: u64, operations
 
 /// The state that is kept of an object.
 pub(crate) fn kept(held: &Held, x: u32, state: &mut u64) -> Code
-    ensures kept { Keeps (Some held.now) x (number result) state.new }
+    ensures kept { KeepsState (Some held.now) x (number result) state.new }
     ensures no_store { store_at (Some held.now) ≡ None → number result ≡ number Code.NotHeld }
     ensures rest { number result ≢ 0 → state.new ≡ state.old }
 {
     match held {
-        Held::OfStore(store) => on_store::kept(store, x, state),
+        Held::OfStore(store) => store_calls::kept(store, x, state),
         Held::OfType(_) => Code::NotHeld,
         Held::OfObjects(_) => Code::NotHeld,
     }

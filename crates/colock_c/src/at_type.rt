@@ -3,11 +3,11 @@
 ghost use Rattle.std.specs.Prelude.{◌≡◌, ◌≢◌, Some, None};
 ghost use Rattle.colock_c.specs.Codes.{number};
 ghost use Rattle.colock_c.specs.Holding.{type_at};
-ghost use Rattle.colock_c.specs.Named.{IsShaped, Leads, NamesCall, NamesReply, NamesType, TellsConflict};
+ghost use Rattle.colock_c.specs.Named.{IsShaped, TellsStep, NamesCall, NamesReply, NamesType, TellsConflict};
 
 use crate::code::Code;
 use crate::held::Held;
-use crate::on_type::{conflict, declared_by, put_call, put_name, put_reply, step};
+use crate::type_parts::{conflict, declared_by, put_call, put_name, put_reply, step};
 use crate::words::{ColockShape, shape_of};
 
 /// Gives what is said of the type at once.
@@ -67,7 +67,7 @@ pub(crate) fn reply(held: &Held, k: u64, room: &mut [u8], count: &mut u64) -> Co
 
 /// Gives the state to which an operation leads.
 pub(crate) fn leads(held: &Held, s: u64, k: u64, to: &mut u64) -> Code
-    ensures step { Leads (Some held.now) s k (number result) to.new }
+    ensures step { TellsStep (Some held.now) s k (number result) to.new }
     ensures no_type { type_at (Some held.now) ≡ None → number result ≡ number Code.NotHeld }
     ensures rest { number result ≢ 0 → to.new ≡ to.old }
 {

@@ -4,7 +4,7 @@ ghost use Rattle.std.specs.Prelude.{◌≡◌, Some, true, option_map};
 ghost use Rattle.object_trait.specs.declared.event.Event.{Event as EventValue};
 ghost use Rattle.object_trait.specs.declared.event.EventKind.TheVariants as kinds;
 ghost use Rattle.colock_c.specs.EventWords.{are_numbers, event_at, event_words, happened_at, place_at, HasNumbers};
-ghost use Rattle.colock_c.specs.Operations.{operation_of};
+ghost use Rattle.colock_c.specs.Operations.{operation_by_number};
 
 use crate::operations::{number_of, operation_of};
 use object_trait::{Event, EventKind};
@@ -106,7 +106,7 @@ fn happened_at(words: ColockEvent) -> Option<EventKind>
 
 /// An operation with this number was executed.
 fn executed_at(t: u32, x: u32, op: u64) -> Option<EventKind>
-    ensures { result ≡ option_map (λ k. kinds.Op k t x) (operation_of op) }
+    ensures { result ≡ option_map (λ k. kinds.Op k t x) (operation_by_number op) }
 {
     let k = operation_of(op)?;
     Some(EventKind::Op { t, x, k })

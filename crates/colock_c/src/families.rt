@@ -2,11 +2,11 @@
 
 ghost use Rattle.std.specs.Prelude.{◌≡◌, ◌⊎◌, IfErr, IfOk};
 ghost use Rattle.table_families.specs.Number.{AreNumberAmounts, NumberFits};
-ghost use Rattle.table_maker.specs.Account.{account, AccountFits};
-ghost use Rattle.table_maker.specs.Amounts.{AreAmounts};
-ghost use Rattle.table_maker.specs.Counter.{counter, CounterFits};
-ghost use Rattle.table_maker.specs.Semiqueue.{semiqueue, SemiqueueFits};
-ghost use Rattle.table_maker.specs.Set.{set, SetFits};
+ghost use Rattle.table_families.specs.Account.{account, AccountFits};
+ghost use Rattle.table_families.specs.Amounts.{AreAmounts};
+ghost use Rattle.table_families.specs.Counter.{counter, CounterFits};
+ghost use Rattle.table_families.specs.Semiqueue.{semiqueue, SemiqueueFits};
+ghost use Rattle.table_families.specs.Set.{set, SetFits};
 ghost use Rattle.table_families.specs.Queue.{queue, QueueFits};
 ghost use Rattle.table_families.specs.Seats.{seats, AreSeats, SeatsFit};
 ghost use Rattle.table_families.specs.Stock.{stock, StockFits};
@@ -16,11 +16,12 @@ ghost use Rattle.colock_c.specs.Families.{AreSemiqueueWords, AreSetWords, HasNon
 
 use crate::code::{Code, made_code};
 use crate::parameters::{capacity_of, names_of, narrowed};
+use declared_types::{DeclaredType, TypeFile};
 use std::alloc::Global;
-use table_checker::DeclaredType;
-use table_families::{make_number, make_queue, make_seats, make_stock};
-use table_maker::{make_account, make_counter, make_semiqueue, make_set};
-use type_text::TypeFile;
+use table_families::{
+    make_account, make_counter, make_number, make_queue, make_seats, make_semiqueue, make_set,
+    make_stock,
+};
 
 /// The file of an account of 0 to a cap, with these amounts.
 ///

@@ -6,7 +6,7 @@ ghost use Rattle.colock_c.specs.declared.held.Held.{Held};
 ghost use Rattle.colock_c.specs.Owned.{handle_owns, held_code};
 
 use crate::held::Held;
-use crate::loose::Loose;
+use crate::loose_box::Loose;
 use std::alloc::Global;
 use std::marker::Model;
 

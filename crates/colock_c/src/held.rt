@@ -35,12 +35,12 @@ impl Held {
     ghost use Rattle.store_laws.specs.Stored.{Stored};
     ghost use Rattle.colock_c.specs.Codes.{number};
     ghost use Rattle.colock_c.specs.Holding.{objects_at, store_at};
-    ghost use Rattle.colock_c.specs.Making.{Makes};
+    ghost use Rattle.colock_c.specs.Making.{MakesStore};
     ghost use Rattle.colock_c.specs.Epochs.{IsRenewal};
 
     /// The store of these objects; else what there was, and why not.
     pub(crate) fn made(self, alloc: Global, max_events: u32) -> (Held, Code)
-        ensures makes { (ms : List Meaning) → objects_at (Some self) ≡ Some ms → Makes ms max_events (number result.1) (Some result.0) }
+        ensures makes { (ms : List Meaning) → objects_at (Some self) ≡ Some ms → MakesStore ms max_events (number result.1) (Some result.0) }
         ensures no_objects { objects_at (Some self) ≡ None → (result.1 ≡ Code.NotHeld) × (result.0 ≡ self) }
     {
         match self {

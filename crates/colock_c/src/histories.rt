@@ -4,7 +4,7 @@
 
 ghost use Rattle.std.specs.Prelude.{◌≡◌, ◌≢◌, Some, None};
 ghost use Rattle.colock_c.specs.Codes.{number};
-ghost use Rattle.colock_c.specs.Histories.{Copies, CountsEvents, Follows, Forgets};
+ghost use Rattle.colock_c.specs.Histories.{Copies, CountsEvents, FollowsWords, Forgets};
 ghost use Rattle.colock_c.specs.Holding.{store_at};
 
 use crate::at_history;
@@ -79,7 +79,7 @@ pub extern "C" fn colock_follow(
     events: &[ColockEvent],
     made: &mut u64,
 ) -> u32
-    ensures follows { Follows slot.old.handle.held events.now result made.new slot.new.handle.held }
+    ensures follows { FollowsWords slot.old.handle.held events.now result made.new slot.new.handle.held }
     ensures no_store { store_at slot.old.handle.held ≡ None → made.new ≡ made.old }
 {
     let Some(mut held) = slot.take(alloc) else {

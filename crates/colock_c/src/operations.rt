@@ -1,10 +1,10 @@
 //! The numbers by which operations cross.
 
 ghost use Rattle.std.specs.Prelude.{◌≡◌, ◌≤◌, length};
-ghost use Rattle.table_checker.specs.Declarations.{table_of, IsFitDeclaration};
-ghost use Rattle.colock_c.specs.Operations.{operation_count, operation_of};
+ghost use Rattle.declared_types.specs.Declarations.{table_of, IsFitDeclaration};
+ghost use Rattle.colock_c.specs.Operations.{operation_count, operation_by_number};
 
-use table_checker::{Declaration, DeclaredType};
+use declared_types::{Declaration, DeclaredType};
 use type_table::Operation;
 
 /// More than there are places of operations: a place is a byte.
@@ -23,7 +23,7 @@ pub(crate) fn number_of(k: Operation) -> u64
 
 /// The operation with a number: None above that of the last place with the greatest amount.
 pub(crate) fn operation_of(number: u64) -> Option<Operation>
-    ensures { result ≡ operation_of number }
+    ensures { result ≡ operation_by_number number }
 {
     let place = (number % PLACES) as u8;
     match number / PLACES {

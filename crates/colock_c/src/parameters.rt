@@ -3,7 +3,7 @@
 ghost use Rattle.std.specs.Prelude.{◌≡◌, ◌⊎◌, ◌<◌, ◌↔◌, map, filter_map, is_some, slice_index, EachIndex, IfErr, IfNone, IfOk, IfSome, IsTrue};
 ghost use Rattle.std.specs.List.{list_all};
 ghost use Rattle.line_text.specs.Text.{words_of};
-ghost use Rattle.table_maker.specs.Amounts.{AreAmounts};
+ghost use Rattle.table_families.specs.Amounts.{AreAmounts};
 ghost use Rattle.colock_c.specs.Families.{AreNames, name_of};
 
 use crate::code::Code;

@@ -5,7 +5,7 @@
 ghost use Rattle.std.specs.Prelude.{◌≡◌, ◌≢◌, Some, None};
 ghost use Rattle.colock_c.specs.Codes.{number};
 ghost use Rattle.colock_c.specs.Holding.{type_at};
-ghost use Rattle.colock_c.specs.Named.{IsShaped, Leads, NamesCall, NamesReply, NamesType, TellsConflict};
+ghost use Rattle.colock_c.specs.Named.{IsShaped, TellsStep, NamesCall, NamesReply, NamesType, TellsConflict};
 
 use crate::at_type;
 use crate::code::Code;
@@ -104,7 +104,7 @@ pub extern "C" fn colock_type_step(
     k: u64,
     to: &mut u64,
 ) -> u32
-    ensures step { Leads slot.old.handle.held s k result to.new }
+    ensures step { TellsStep slot.old.handle.held s k result to.new }
     ensures no_type { type_at slot.old.handle.held ≡ None → result ≡ number Code.NotHeld }
     ensures reads { slot.new.handle.held ≡ slot.old.handle.held }
     ensures rest { result ≢ 0 → to.new ≡ to.old }

@@ -4,7 +4,7 @@ ghost use Rattle.std.specs.Prelude.{◌≡◌, ◌↔◌, IsTrue, IsSome, Some, 
 
 use crate::handle::Handle;
 use crate::held::Held;
-use crate::loose::Loose;
+use crate::loose_box::Loose;
 use std::alloc::Global;
 use std::mem;
 

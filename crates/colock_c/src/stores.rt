@@ -6,7 +6,7 @@
 
 ghost use Rattle.std.specs.Prelude.{◌≡◌, ◌≢◌, Some, None};
 ghost use Rattle.serial_order.specs.declared.command.Command.TheVariants as command;
-ghost use Rattle.colock_c.specs.Calls.{AbortsAll, CountsOpen, Does, DoesNumbered, Ends, IsNumbered, IsTold, IsToldOf, Keeps, Numbers};
+ghost use Rattle.colock_c.specs.Calls.{AbortsAll, CountsOpen, DoesCommand, DoesNumbered, Ends, IsNumbered, TellsAnswer, IsToldOf, KeepsState, Numbers};
 ghost use Rattle.colock_c.specs.Codes.{number};
 ghost use Rattle.colock_c.specs.Foreseen.{Foresees, ForeseesAt};
 ghost use Rattle.colock_c.specs.Holding.{store_at};
@@ -25,7 +25,7 @@ pub extern "C" fn colock_begin(
     worker: u8,
     transaction: &mut u64,
 ) -> u32
-    ensures step { Does slot.old.handle.held worker command.Begin result slot.new.handle.held }
+    ensures step { DoesCommand slot.old.handle.held worker command.Begin result slot.new.handle.held }
     ensures begun { IsNumbered slot.old.handle.held result transaction.new }
     ensures rest { result ≢ 0 → transaction.new ≡ transaction.old }
 {
@@ -49,7 +49,7 @@ pub extern "C" fn colock_call(
     name: &[u8],
     answer: &mut ColockAnswer,
 ) -> u32
-    ensures step { Does slot.old.handle.held worker (command.Call transaction x name.now) result slot.new.handle.held }
+    ensures step { DoesCommand slot.old.handle.held worker (command.Call transaction x name.now) result slot.new.handle.held }
     ensures told { IsToldOf slot.old.handle.held worker transaction x name.now result answer.new slot.new.handle.held }
     ensures rest { result ≢ 0 → answer.new ≡ answer.old }
 {
@@ -73,7 +73,7 @@ pub extern "C" fn colock_call_op(
     answer: &mut ColockAnswer,
 ) -> u32
     ensures step { DoesNumbered slot.old.handle.held worker transaction x c result slot.new.handle.held }
-    ensures told { IsTold slot.old.handle.held worker transaction x c result answer.new slot.new.handle.held }
+    ensures told { TellsAnswer slot.old.handle.held worker transaction x c result answer.new slot.new.handle.held }
     ensures rest { result ≢ 0 → answer.new ≡ answer.old }
 {
     let Some(mut held) = slot.take(alloc) else {
@@ -188,7 +188,7 @@ pub extern "C" fn colock_rollback(
     transaction: u64,
     operations: u64,
 ) -> u32
-    ensures { Does slot.old.handle.held worker (command.Rollback transaction operations) result slot.new.handle.held }
+    ensures { DoesCommand slot.old.handle.held worker (command.Rollback transaction operations) result slot.new.handle.held }
 {
     let Some(mut held) = slot.take(alloc) else {
         return Code::NotHeld.number();
@@ -201,7 +201,7 @@ pub extern "C" fn colock_rollback(
 /// The state that is kept of object x: `NoObject`.
 #[unsafe(no_mangle)]
 pub extern "C" fn colock_kept(alloc: Global, slot: &mut Slot, x: u32, state: &mut u64) -> u32
-    ensures kept { Keeps slot.old.handle.held x result state.new }
+    ensures kept { KeepsState slot.old.handle.held x result state.new }
     ensures no_store { store_at slot.old.handle.held ≡ None → result ≡ number Code.NotHeld }
     ensures reads { slot.new.handle.held ≡ slot.old.handle.held }
     ensures rest { result ≢ 0 → state.new ≡ state.old }

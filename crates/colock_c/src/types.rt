@@ -7,26 +7,26 @@
 
 ghost use Rattle.std.specs.Prelude.{◌≡◌, IsSome, None, Some};
 ghost use Rattle.line_text.specs.Text.{words_of};
-ghost use Rattle.table_maker.specs.Account.{account, AccountFits};
-ghost use Rattle.table_maker.specs.Amounts.{AreAmounts};
-ghost use Rattle.table_maker.specs.Counter.{counter, CounterFits};
-ghost use Rattle.table_maker.specs.Semiqueue.{semiqueue, SemiqueueFits};
-ghost use Rattle.table_maker.specs.Set.{set, SetFits};
+ghost use Rattle.table_families.specs.Account.{account, AccountFits};
+ghost use Rattle.table_families.specs.Amounts.{AreAmounts};
+ghost use Rattle.table_families.specs.Counter.{counter, CounterFits};
+ghost use Rattle.table_families.specs.Semiqueue.{semiqueue, SemiqueueFits};
+ghost use Rattle.table_families.specs.Set.{set, SetFits};
 ghost use Rattle.table_families.specs.Queue.{queue, QueueFits};
 ghost use Rattle.table_families.specs.Seats.{seats, AreSeats, SeatsFit};
 ghost use Rattle.table_families.specs.Stock.{stock, StockFits};
 ghost use Rattle.type_table.specs.declared.kind.Kind.{Kind};
 ghost use Rattle.colock_c.specs.Codes.{number};
 ghost use Rattle.colock_c.specs.Families.{AreSemiqueueWords, AreSetWords, HasNoNumber, HasNone, IsOfFamily, IsOfNumber};
-ghost use Rattle.colock_c.specs.Types.{HasNoFile, IsFileOf, IsMade, IsNoTypeFile, IsTabledOf};
-ghost use Rattle.colock_c.specs.Words.{kind_at};
+ghost use Rattle.colock_c.specs.Types.{HasNoFile, IsDeclaredFile, MakesType, IsNoTypeFile, IsTabledOf};
+ghost use Rattle.colock_c.specs.Words.{kind_by_number};
 
 use crate::code::Code;
-use crate::slot::Slot;
-use crate::typing::{
+use crate::made_types::{
     hold_account, hold_amounts, hold_counter, hold_queue, hold_seats, hold_semiqueue, hold_set,
     hold_stock, hold_tabled, hold_text,
 };
+use crate::slot::Slot;
 use crate::words::{ColockFault, kind_at};
 use std::alloc::Global;
 
@@ -41,9 +41,9 @@ pub extern "C" fn colock_type_read(
     fault: &mut ColockFault,
 ) -> u32
     ensures in_use { IsSome slot.old.handle.held → (result ≡ number Code.InUse) × (slot.new.handle.held ≡ slot.old.handle.held) × (fault.new ≡ fault.old) }
-    ensures no_kind { slot.old.handle.held ≡ None → kind_at kind ≡ None → (result ≡ number Code.BadKind) × (slot.new.handle.held ≡ None) × (fault.new ≡ fault.old) }
-    ensures made { (k : Kind) → slot.old.handle.held ≡ None → kind_at kind ≡ Some k
-        → IsMade (IsFileOf text.now k) (HasNoFile text.now k fault.old) k fault.old result fault.new slot.new.handle.held }
+    ensures no_kind { slot.old.handle.held ≡ None → kind_by_number kind ≡ None → (result ≡ number Code.BadKind) × (slot.new.handle.held ≡ None) × (fault.new ≡ fault.old) }
+    ensures made { (k : Kind) → slot.old.handle.held ≡ None → kind_by_number kind ≡ Some k
+        → MakesType (IsDeclaredFile text.now k) (HasNoFile text.now k fault.old) k fault.old result fault.new slot.new.handle.held }
 {
     if slot.is_open() {
         return Code::InUse.number();
@@ -65,9 +65,9 @@ pub extern "C" fn colock_type_tables(
     fault: &mut ColockFault,
 ) -> u32
     ensures in_use { IsSome slot.old.handle.held → (result ≡ number Code.InUse) × (slot.new.handle.held ≡ slot.old.handle.held) × (fault.new ≡ fault.old) }
-    ensures no_kind { slot.old.handle.held ≡ None → kind_at kind ≡ None → (result ≡ number Code.BadKind) × (slot.new.handle.held ≡ None) × (fault.new ≡ fault.old) }
-    ensures made { (k : Kind) → slot.old.handle.held ≡ None → kind_at kind ≡ Some k
-        → IsMade (IsTabledOf text.now) (IsNoTypeFile text.now) k fault.old result fault.new slot.new.handle.held }
+    ensures no_kind { slot.old.handle.held ≡ None → kind_by_number kind ≡ None → (result ≡ number Code.BadKind) × (slot.new.handle.held ≡ None) × (fault.new ≡ fault.old) }
+    ensures made { (k : Kind) → slot.old.handle.held ≡ None → kind_by_number kind ≡ Some k
+        → MakesType (IsTabledOf text.now) (IsNoTypeFile text.now) k fault.old result fault.new slot.new.handle.held }
 {
     if slot.is_open() {
         return Code::InUse.number();
@@ -90,9 +90,9 @@ pub extern "C" fn colock_type_account(
     fault: &mut ColockFault,
 ) -> u32
     ensures in_use { IsSome slot.old.handle.held → (result ≡ number Code.InUse) × (slot.new.handle.held ≡ slot.old.handle.held) × (fault.new ≡ fault.old) }
-    ensures no_kind { slot.old.handle.held ≡ None → kind_at kind ≡ None → (result ≡ number Code.BadKind) × (slot.new.handle.held ≡ None) × (fault.new ≡ fault.old) }
-    ensures made { (k : Kind) → slot.old.handle.held ≡ None → kind_at kind ≡ Some k
-        → IsMade (IsOfFamily (AreAmounts cap amounts.now) (AccountFits cap amounts.now) (account cap amounts.now)) (λ n words. HasNone (AreAmounts cap amounts.now) (AccountFits cap amounts.now) n × (words ≡ fault.old)) k fault.old result fault.new slot.new.handle.held }
+    ensures no_kind { slot.old.handle.held ≡ None → kind_by_number kind ≡ None → (result ≡ number Code.BadKind) × (slot.new.handle.held ≡ None) × (fault.new ≡ fault.old) }
+    ensures made { (k : Kind) → slot.old.handle.held ≡ None → kind_by_number kind ≡ Some k
+        → MakesType (IsOfFamily (AreAmounts cap amounts.now) (AccountFits cap amounts.now) (account cap amounts.now)) (λ n words. HasNone (AreAmounts cap amounts.now) (AccountFits cap amounts.now) n × (words ≡ fault.old)) k fault.old result fault.new slot.new.handle.held }
 {
     if slot.is_open() {
         return Code::InUse.number();
@@ -115,9 +115,9 @@ pub extern "C" fn colock_type_counter(
     fault: &mut ColockFault,
 ) -> u32
     ensures in_use { IsSome slot.old.handle.held → (result ≡ number Code.InUse) × (slot.new.handle.held ≡ slot.old.handle.held) × (fault.new ≡ fault.old) }
-    ensures no_kind { slot.old.handle.held ≡ None → kind_at kind ≡ None → (result ≡ number Code.BadKind) × (slot.new.handle.held ≡ None) × (fault.new ≡ fault.old) }
-    ensures made { (k : Kind) → slot.old.handle.held ≡ None → kind_at kind ≡ Some k
-        → IsMade (IsOfFamily (AreAmounts cap amounts.now) (CounterFits amounts.now) (counter cap amounts.now)) (λ n words. HasNone (AreAmounts cap amounts.now) (CounterFits amounts.now) n × (words ≡ fault.old)) k fault.old result fault.new slot.new.handle.held }
+    ensures no_kind { slot.old.handle.held ≡ None → kind_by_number kind ≡ None → (result ≡ number Code.BadKind) × (slot.new.handle.held ≡ None) × (fault.new ≡ fault.old) }
+    ensures made { (k : Kind) → slot.old.handle.held ≡ None → kind_by_number kind ≡ Some k
+        → MakesType (IsOfFamily (AreAmounts cap amounts.now) (CounterFits amounts.now) (counter cap amounts.now)) (λ n words. HasNone (AreAmounts cap amounts.now) (CounterFits amounts.now) n × (words ≡ fault.old)) k fault.old result fault.new slot.new.handle.held }
 {
     if slot.is_open() {
         return Code::InUse.number();
@@ -140,9 +140,9 @@ pub extern "C" fn colock_type_stock(
     fault: &mut ColockFault,
 ) -> u32
     ensures in_use { IsSome slot.old.handle.held → (result ≡ number Code.InUse) × (slot.new.handle.held ≡ slot.old.handle.held) × (fault.new ≡ fault.old) }
-    ensures no_kind { slot.old.handle.held ≡ None → kind_at kind ≡ None → (result ≡ number Code.BadKind) × (slot.new.handle.held ≡ None) × (fault.new ≡ fault.old) }
-    ensures made { (k : Kind) → slot.old.handle.held ≡ None → kind_at kind ≡ Some k
-        → IsMade (IsOfFamily (AreAmounts cap amounts.now) (StockFits amounts.now) (stock cap amounts.now)) (λ n words. HasNone (AreAmounts cap amounts.now) (StockFits amounts.now) n × (words ≡ fault.old)) k fault.old result fault.new slot.new.handle.held }
+    ensures no_kind { slot.old.handle.held ≡ None → kind_by_number kind ≡ None → (result ≡ number Code.BadKind) × (slot.new.handle.held ≡ None) × (fault.new ≡ fault.old) }
+    ensures made { (k : Kind) → slot.old.handle.held ≡ None → kind_by_number kind ≡ Some k
+        → MakesType (IsOfFamily (AreAmounts cap amounts.now) (StockFits amounts.now) (stock cap amounts.now)) (λ n words. HasNone (AreAmounts cap amounts.now) (StockFits amounts.now) n × (words ≡ fault.old)) k fault.old result fault.new slot.new.handle.held }
 {
     if slot.is_open() {
         return Code::InUse.number();
@@ -163,9 +163,9 @@ pub extern "C" fn colock_type_set(
     fault: &mut ColockFault,
 ) -> u32
     ensures in_use { IsSome slot.old.handle.held → (result ≡ number Code.InUse) × (slot.new.handle.held ≡ slot.old.handle.held) × (fault.new ≡ fault.old) }
-    ensures no_kind { slot.old.handle.held ≡ None → kind_at kind ≡ None → (result ≡ number Code.BadKind) × (slot.new.handle.held ≡ None) × (fault.new ≡ fault.old) }
-    ensures made { (k : Kind) → slot.old.handle.held ≡ None → kind_at kind ≡ Some k
-        → IsMade (IsOfFamily (AreSetWords elements.now) (SetFits (words_of elements.now)) (set (words_of elements.now))) (λ n words. HasNone (AreSetWords elements.now) (SetFits (words_of elements.now)) n × (words ≡ fault.old)) k fault.old result fault.new slot.new.handle.held }
+    ensures no_kind { slot.old.handle.held ≡ None → kind_by_number kind ≡ None → (result ≡ number Code.BadKind) × (slot.new.handle.held ≡ None) × (fault.new ≡ fault.old) }
+    ensures made { (k : Kind) → slot.old.handle.held ≡ None → kind_by_number kind ≡ Some k
+        → MakesType (IsOfFamily (AreSetWords elements.now) (SetFits (words_of elements.now)) (set (words_of elements.now))) (λ n words. HasNone (AreSetWords elements.now) (SetFits (words_of elements.now)) n × (words ≡ fault.old)) k fault.old result fault.new slot.new.handle.held }
 {
     if slot.is_open() {
         return Code::InUse.number();
@@ -188,9 +188,9 @@ pub extern "C" fn colock_type_semiqueue(
     fault: &mut ColockFault,
 ) -> u32
     ensures in_use { IsSome slot.old.handle.held → (result ≡ number Code.InUse) × (slot.new.handle.held ≡ slot.old.handle.held) × (fault.new ≡ fault.old) }
-    ensures no_kind { slot.old.handle.held ≡ None → kind_at kind ≡ None → (result ≡ number Code.BadKind) × (slot.new.handle.held ≡ None) × (fault.new ≡ fault.old) }
-    ensures made { (k : Kind) → slot.old.handle.held ≡ None → kind_at kind ≡ Some k
-        → IsMade (IsOfFamily (AreSemiqueueWords elements.now capacity) (SemiqueueFits (words_of elements.now) capacity) (semiqueue (words_of elements.now) capacity)) (λ n words. HasNone (AreSemiqueueWords elements.now capacity) (SemiqueueFits (words_of elements.now) capacity) n × (words ≡ fault.old)) k fault.old result fault.new slot.new.handle.held }
+    ensures no_kind { slot.old.handle.held ≡ None → kind_by_number kind ≡ None → (result ≡ number Code.BadKind) × (slot.new.handle.held ≡ None) × (fault.new ≡ fault.old) }
+    ensures made { (k : Kind) → slot.old.handle.held ≡ None → kind_by_number kind ≡ Some k
+        → MakesType (IsOfFamily (AreSemiqueueWords elements.now capacity) (SemiqueueFits (words_of elements.now) capacity) (semiqueue (words_of elements.now) capacity)) (λ n words. HasNone (AreSemiqueueWords elements.now capacity) (SemiqueueFits (words_of elements.now) capacity) n × (words ≡ fault.old)) k fault.old result fault.new slot.new.handle.held }
 {
     if slot.is_open() {
         return Code::InUse.number();
@@ -213,9 +213,9 @@ pub extern "C" fn colock_type_queue(
     fault: &mut ColockFault,
 ) -> u32
     ensures in_use { IsSome slot.old.handle.held → (result ≡ number Code.InUse) × (slot.new.handle.held ≡ slot.old.handle.held) × (fault.new ≡ fault.old) }
-    ensures no_kind { slot.old.handle.held ≡ None → kind_at kind ≡ None → (result ≡ number Code.BadKind) × (slot.new.handle.held ≡ None) × (fault.new ≡ fault.old) }
-    ensures made { (k : Kind) → slot.old.handle.held ≡ None → kind_at kind ≡ Some k
-        → IsMade (IsOfFamily (AreSemiqueueWords elements.now capacity) (QueueFits (words_of elements.now) capacity) (queue (words_of elements.now) capacity)) (λ n words. HasNone (AreSemiqueueWords elements.now capacity) (QueueFits (words_of elements.now) capacity) n × (words ≡ fault.old)) k fault.old result fault.new slot.new.handle.held }
+    ensures no_kind { slot.old.handle.held ≡ None → kind_by_number kind ≡ None → (result ≡ number Code.BadKind) × (slot.new.handle.held ≡ None) × (fault.new ≡ fault.old) }
+    ensures made { (k : Kind) → slot.old.handle.held ≡ None → kind_by_number kind ≡ Some k
+        → MakesType (IsOfFamily (AreSemiqueueWords elements.now capacity) (QueueFits (words_of elements.now) capacity) (queue (words_of elements.now) capacity)) (λ n words. HasNone (AreSemiqueueWords elements.now capacity) (QueueFits (words_of elements.now) capacity) n × (words ≡ fault.old)) k fault.old result fault.new slot.new.handle.held }
 {
     if slot.is_open() {
         return Code::InUse.number();
@@ -236,9 +236,9 @@ pub extern "C" fn colock_type_seats(
     fault: &mut ColockFault,
 ) -> u32
     ensures in_use { IsSome slot.old.handle.held → (result ≡ number Code.InUse) × (slot.new.handle.held ≡ slot.old.handle.held) × (fault.new ≡ fault.old) }
-    ensures no_kind { slot.old.handle.held ≡ None → kind_at kind ≡ None → (result ≡ number Code.BadKind) × (slot.new.handle.held ≡ None) × (fault.new ≡ fault.old) }
-    ensures made { (k : Kind) → slot.old.handle.held ≡ None → kind_at kind ≡ Some k
-        → IsMade (IsOfFamily (AreSeats count) (SeatsFit count) (seats count)) (λ n words. HasNone (AreSeats count) (SeatsFit count) n × (words ≡ fault.old)) k fault.old result fault.new slot.new.handle.held }
+    ensures no_kind { slot.old.handle.held ≡ None → kind_by_number kind ≡ None → (result ≡ number Code.BadKind) × (slot.new.handle.held ≡ None) × (fault.new ≡ fault.old) }
+    ensures made { (k : Kind) → slot.old.handle.held ≡ None → kind_by_number kind ≡ Some k
+        → MakesType (IsOfFamily (AreSeats count) (SeatsFit count) (seats count)) (λ n words. HasNone (AreSeats count) (SeatsFit count) n × (words ≡ fault.old)) k fault.old result fault.new slot.new.handle.held }
 {
     if slot.is_open() {
         return Code::InUse.number();
@@ -261,9 +261,9 @@ pub extern "C" fn colock_type_number(
     fault: &mut ColockFault,
 ) -> u32
     ensures in_use { IsSome slot.old.handle.held → (result ≡ number Code.InUse) × (slot.new.handle.held ≡ slot.old.handle.held) × (fault.new ≡ fault.old) }
-    ensures no_kind { slot.old.handle.held ≡ None → kind_at kind ≡ None → (result ≡ number Code.BadKind) × (slot.new.handle.held ≡ None) × (fault.new ≡ fault.old) }
-    ensures made { (k : Kind) → slot.old.handle.held ≡ None → kind_at kind ≡ Some k
-        → IsMade (IsOfNumber max amounts.now k) (HasNoNumber max amounts.now k fault.old) k fault.old result fault.new slot.new.handle.held }
+    ensures no_kind { slot.old.handle.held ≡ None → kind_by_number kind ≡ None → (result ≡ number Code.BadKind) × (slot.new.handle.held ≡ None) × (fault.new ≡ fault.old) }
+    ensures made { (k : Kind) → slot.old.handle.held ≡ None → kind_by_number kind ≡ Some k
+        → MakesType (IsOfNumber max amounts.now k) (HasNoNumber max amounts.now k fault.old) k fault.old result fault.new slot.new.handle.held }
 {
     if slot.is_open() {
         return Code::InUse.number();

@@ -1,12 +1,13 @@
 //! What crosses to C of answers, faults and types.
 
 ghost use Rattle.std.specs.Prelude.{◌≡◌};
-ghost use Rattle.colock_c.specs.Words.{answer_words, fault_words, kind_at, kind_number, refusal_words, shape_of};
+ghost use Rattle.colock_c.specs.Words.{answer_words, fault_words, kind_by_number, kind_number, refusal_words, shape_of};
 
 use crate::operations::number_of;
+use declared_types::DeclaredType;
 use line_text::TextFault;
 use store::Answer;
-use table_checker::{CheckRefusal, DeclaredType, Kind};
+use table_checker::{CheckRefusal, Kind};
 
 /// What a call is answered: `kind` is 0, and `number` that of the operation that was executed; or 1, and
 /// the transaction that holds what it conflicts with; or 2, and 0, where no operation is legal.
@@ -95,7 +96,7 @@ pub(crate) fn refusal_words(why: CheckRefusal) -> ColockFault
 
 /// 0 is update in place, 1 deferred update, 2 escrow.
 pub(crate) fn kind_at(kind: u32) -> Option<Kind>
-    ensures { result ≡ kind_at kind }
+    ensures { result ≡ kind_by_number kind }
 {
     match kind {
         0 => Some(Kind::Undo),

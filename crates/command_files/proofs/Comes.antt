@@ -1,6 +1,6 @@
 -- What comes of a part of a command comes of the whole.
 use Rattle.std.proofs.Common.{ℕ, List, Option, Result, Ok, Err, refl, inl, inr, ⊎_elim}
-use Rattle.command_files.specs.Answers.{Answers, Comes, ComesOr, Faults, Refuses}
+use Rattle.command_files.specs.Answers.{Answers, Comes, ComesOr, Faults, IsEarlyFault}
 use Rattle.command_files.specs.declared.fault.Fault.{Fault}
 use Rattle.command_files.specs.declared.fault.Fault.TheVariants.{Usage, Text, NoType, NeedsEscrow, ObjectNeedsEscrow, OtherObjects, Order, HasEvents, BadParameter, TooLarge, CannotRead, Database, NoStore, NoMemory, Output}
 use Rattle.command_files.specs.declared.status.Verdict.{Verdict}
@@ -45,7 +45,7 @@ comes_among whole begun part all bad bad' result old new more answers worse c =
     comes_or _ _ _ _ part all bad bad' result old new (λ text none. absurd none) (λ text any. more any.0 text any.1) answers worse c
 
 -- a fault before anything was written
-pub refuses : (whole begun : List ℕ → Type 0) (bad bad' : Type 0) (old : Option (List ℕ)) (fault : Fault) → (bad → bad') → Refuses bad fault → Faults bad' whole begun fault old old
+pub refuses : (whole begun : List ℕ → Type 0) (bad bad' : Type 0) (old : Option (List ℕ)) (fault : Fault) → (bad → bad') → IsEarlyFault bad fault → Faults bad' whole begun fault old old
 refuses whole begun bad bad' old (Usage text) worse refused = (worse refused, refl)
 refuses whole begun bad bad' old (Text path fault) worse refused = (worse refused, refl)
 refuses whole begun bad bad' old (NoType path x place) worse refused = (worse refused, refl)
@@ -63,7 +63,7 @@ refuses whole begun bad bad' old NoMemory worse refused = inl refl
 refuses whole begun bad bad' old Output worse refused = absurd refused
 
 -- and of what was asked for beside it
-pub refused_more : (bad bad' : Type 0) (fault : Fault) → (bad → bad') → Refuses bad fault → Refuses bad' fault
+pub refused_more : (bad bad' : Type 0) (fault : Fault) → (bad → bad') → IsEarlyFault bad fault → IsEarlyFault bad' fault
 refused_more bad bad' (Usage text) worse refused = worse refused
 refused_more bad bad' (Text path fault) worse refused = worse refused
 refused_more bad bad' (NoType path x place) worse refused = worse refused

@@ -36,9 +36,9 @@ abbrev pub Comes : Answers → Type 0 → Result Verdict Fault → Option (List 
 Comes answers bad result old new = ComesOr (λ text. ⊥) (AnyAnswer answers) answers bad result old new
 
 -- a fault before anything was written: what the user gave has one, or a file can't be read or a database isn't opened, or memory was refused
-abbrev pub Refuses : Type 0 → Fault → Type 0
-Refuses bad (CannotRead path) = ⊤
-Refuses bad (Database path fault) = ⊤
-Refuses bad NoMemory = ⊤
-Refuses bad Output = ⊥
-Refuses bad fault = bad
+abbrev pub IsEarlyFault : Type 0 → Fault → Type 0
+IsEarlyFault bad (CannotRead path) = ⊤
+IsEarlyFault bad (Database path fault) = ⊤
+IsEarlyFault bad NoMemory = ⊤
+IsEarlyFault bad Output = ⊥
+IsEarlyFault bad fault = bad

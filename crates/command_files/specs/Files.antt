@@ -5,9 +5,9 @@ use Rattle.line_text.specs.declared.fault.TextFault.{TextFault}
 use Rattle.type_text.specs.TypeLines.{type_rules}
 use Rattle.type_text.specs.TypeFile.{IsFileOf}
 use Rattle.type_text.specs.declared.type_line.TypeLine.{TypeLine}
-use Rattle.type_text.specs.declared.type_file.TypeFile.{TypeFile}
-use Rattle.table_checker.specs.declared.declared_type.Declaration.{Declaration}
-use Rattle.declared_text.specs.Declared.{Declares, HasFault}
+use Rattle.declared_types.specs.declared.type_file.TypeFile.{TypeFile}
+use Rattle.declared_types.specs.declared.declared_type.Declaration.{Declaration}
+use Rattle.declared_text.specs.Declared.{Declares, HasDeclaredFault}
 
 -- the file that a text describes
 pub record Describes (text : List ℕ) (file : TypeFile) : Type 0 where
@@ -25,7 +25,7 @@ IsFileAt held file = IfSome held (λ text. Describes text file)
 
 -- the text of what declares a type has a fault, by the grammar that its first word chooses
 abbrev pub IsFaultyDeclaration : List ℕ → Type 0
-IsFaultyDeclaration text = (f : TextFault) × HasFault text f
+IsFaultyDeclaration text = (f : TextFault) × HasDeclaredFault text f
 
 -- the declaration is that of the text at a path, where the source says the text
 abbrev pub IsDeclaredAt : Option (List ℕ) → Declaration → Type 0

@@ -5,6 +5,6 @@ use Rattle.command_files.specs.declared.source.SourceFault.{SourceFault}
 use Rattle.command_files.specs.declared.source.SourceFault.TheVariants.{CannotRead, NoMemory}
 
 -- refused memory is kept apart from every other error
-abbrev pub fault_of : ErrorKind → SourceFault
-fault_of OutOfMemory = NoMemory
-fault_of _ = CannotRead
+abbrev pub source_fault : ErrorKind → SourceFault
+source_fault OutOfMemory = NoMemory
+source_fault _ = CannotRead

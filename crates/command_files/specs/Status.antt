@@ -8,11 +8,11 @@ use Rattle.command_files.specs.declared.status.Verdict.{Verdict}
 use Rattle.command_files.specs.declared.status.Verdict.TheVariants as verdict
 
 -- the number of each status
-abbrev pub code_of : Status → ℕ
-code_of Yes = 0
-code_of No = 1
-code_of BadInput = 2
-code_of Failed = 3
+abbrev pub status_code : Status → ℕ
+status_code Yes = 0
+status_code No = 1
+status_code BadInput = 2
+status_code Failed = 3
 
 -- the status of an answer
 abbrev pub status_of_verdict : Verdict → Status

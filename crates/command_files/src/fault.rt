@@ -1,7 +1,7 @@
 //! Why a command comes to no answer.
 
 ghost use Rattle.std.specs.Prelude.{◌≡◌};
-ghost use Rattle.command_files.specs.Answers.{Refuses};
+ghost use Rattle.command_files.specs.Answers.{IsEarlyFault};
 ghost use Rattle.command_files.specs.Status.{status_of};
 ghost use Rattle.command_files.specs.declared.fault.Fault.TheVariants.{NoMemory, Output};
 
@@ -80,7 +80,7 @@ pub enum Fault<'a> {
 impl<'a> Fault<'a> {
     /// Of the database at a path.
     pub fn of_database(path: &'a str, fault: DatabaseFault) -> Fault<'a>
-        ensures { Refuses ⊥ result }
+        ensures { IsEarlyFault ⊥ result }
     {
         match fault {
             DatabaseFault::NoMemory => Fault::NoMemory,

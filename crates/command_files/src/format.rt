@@ -2,7 +2,7 @@
 
 ghost use Rattle.std.specs.Prelude.{◌≡◌, ◌≢◌, ℕ, List, IfOk, IfErr, IfSome};
 ghost use Rattle.line_text.specs.declared.fault.FaultKind.TheVariants.{NoMemory};
-ghost use Rattle.command_files.specs.Answers.{Refuses};
+ghost use Rattle.command_files.specs.Answers.{IsEarlyFault};
 
 use crate::fault::Fault;
 use crate::source::{Source, SourceFault};
@@ -47,7 +47,7 @@ pub fn read_file<'a, F: Format, S: Source>(
 ) -> Result<F::Value, Fault<'a>>
     ensures reads { IfOk result (λ value. IfSome (S.holds source.old path.now) (λ text. F.describes format.now text value)) }
     ensures fit { IfOk result (F.is_fit format.now) }
-    ensures refused { IfErr result (Refuses (IfSome (S.holds source.old path.now) (F.is_faulty format.now))) }
+    ensures refused { IfErr result (IsEarlyFault (IfSome (S.holds source.old path.now) (F.is_faulty format.now))) }
     ensures kept { (other : List ℕ) → S.holds source.new other ≡ S.holds source.old other }
 {
     match source.bytes(path) {

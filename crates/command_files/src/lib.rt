@@ -2,7 +2,7 @@
 //! command answers, and the statuses with which the program ends.
 #![tactic(auto)]
 
-mod answering;
+mod answer;
 mod database_fault;
 mod fault;
 mod format;
@@ -12,7 +12,7 @@ mod source;
 mod status;
 mod type_format;
 
-pub use answering::{put_answer, say_fault};
+pub use answer::{put_answer, say_fault};
 pub use database_fault::DatabaseFault;
 pub use fault::Fault;
 pub use format::{Format, read_file};

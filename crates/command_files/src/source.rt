@@ -1,7 +1,7 @@
 //! Where the program's input files come from.
 ghost use Rattle.std.specs.Prelude.{◌≡◌, ℕ, List, Option, None, IfOk, IfSome, IsErrOf};
 ghost use Rattle.std.specs.IoError.{error_kind};
-ghost use Rattle.command_files.specs.Source.{fault_of};
+ghost use Rattle.command_files.specs.Source.{source_fault};
 ghost use Rattle.command_files.specs.declared.source.SourceFault.TheVariants.{CannotRead};
 
 use std::rt::Files;
@@ -20,7 +20,7 @@ pub enum SourceFault {
 }
 
 impl From<io::Error> for SourceFault {
-    ghost from_gives = { λ error fault. fault ≡ fault_of (error_kind error) };
+    ghost from_gives = { λ error fault. fault ≡ source_fault (error_kind error) };
 
     fn from(error: io::Error) -> SourceFault {
         match error.kind() {

@@ -1,7 +1,7 @@
 //! What a command answers, and how the program ends.
 
 ghost use Rattle.std.specs.Prelude.{◌≡◌};
-ghost use Rattle.command_files.specs.Status.{code_of, status_of_verdict};
+ghost use Rattle.command_files.specs.Status.{status_code, status_of_verdict};
 
 /// What a command answers.
 #[derive(Clone, Copy, Debug, PartialEq, Eq)]
@@ -40,7 +40,7 @@ impl Verdict {
 impl Status {
     /// The number that the process ends with, from 0 to 3.
     pub fn code(self) -> u8
-        ensures { result ≡ code_of self }
+        ensures { result ≡ status_code self }
     {
         match self {
             Status::Yes => 0,

@@ -1,16 +1,16 @@
 //! Type files, and texts that declare a type.
 
 ghost use Rattle.std.specs.Prelude.{⊤};
-ghost use Rattle.table_checker.specs.Declarations.{IsFitDeclaration};
+ghost use Rattle.declared_types.specs.Declarations.{IsFitDeclaration};
 ghost use Rattle.declared_text.specs.Declared.{Declares};
 ghost use Rattle.command_files.specs.Files.{Describes, IsFaulty, IsFaultyDeclaration};
 
 use crate::format::Format;
 use declared_text::read_declared;
+use declared_types::{Declaration, DeclaredType, TypeFile};
 use line_text::TextFault;
 use std::alloc::Global;
-use table_checker::{Declaration, DeclaredType};
-use type_text::{TypeFile, read_type};
+use type_text::read_type;
 
 /// The format of type files.
 #[derive(Clone, Copy)]

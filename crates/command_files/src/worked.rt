@@ -3,12 +3,12 @@
 
 ghost use Rattle.std.specs.Prelude.{◌≡◌, [], None, Some, Ok, Err, codes};
 ghost use Rattle.table_checker.specs.Examples.{counter_file};
-ghost use Rattle.table_checker.specs.declared.declared_type.Declaration.TheVariants.{Table};
+ghost use Rattle.declared_types.specs.declared.declared_type.Declaration.TheVariants.{Table};
 ghost use Rattle.command_files.specs.Answers.{Comes, IsThis};
 ghost use Rattle.command_files.specs.Files.{Describes, IsDeclaredAt, IsFaulty, IsFaultyDeclaration, IsFileAt};
 ghost use Rattle.command_files.specs.Refusals.{no_line};
-ghost use Rattle.command_files.specs.Source.{fault_of};
-ghost use Rattle.command_files.specs.Status.{code_of, status_of};
+ghost use Rattle.command_files.specs.Source.{source_fault};
+ghost use Rattle.command_files.specs.Status.{status_code, status_of};
 ghost use Rattle.command_files.specs.Examples.{counter_bytes, endless_bytes};
 
 use crate::fault::Fault;
@@ -21,16 +21,16 @@ use type_text::worked::faults_of_the_counter;
 
 /// That memory was refused is kept apart from every other error of the system.
 pub fn errors_of_the_system()
-    ensures memory { fault_of ErrorKind.OutOfMemory ≡ SourceFault.NoMemory }
-    ensures missing { fault_of ErrorKind.NotFound ≡ SourceFault.CannotRead }
-    ensures denied { fault_of ErrorKind.PermissionDenied ≡ SourceFault.CannotRead }
+    ensures memory { source_fault ErrorKind.OutOfMemory ≡ SourceFault.NoMemory }
+    ensures missing { source_fault ErrorKind.NotFound ≡ SourceFault.CannotRead }
+    ensures denied { source_fault ErrorKind.PermissionDenied ≡ SourceFault.CannotRead }
 {}
 
 /// Each status has its number, and each fault its status.
 pub fn statuses_of_faults()
-    ensures parameters { code_of (status_of Fault.BadParameter) ≡ 2 }
-    ensures memory { code_of (status_of Fault.NoMemory) ≡ 3 }
-    ensures output { code_of (status_of Fault.Output) ≡ 3 }
+    ensures parameters { status_code (status_of Fault.BadParameter) ≡ 2 }
+    ensures memory { status_code (status_of Fault.NoMemory) ≡ 3 }
+    ensures output { status_code (status_of Fault.Output) ≡ 3 }
 {}
 
 /// An answer comes with its text; where the output failed it took a beginning, and of a fault of what the

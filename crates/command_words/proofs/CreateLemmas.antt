@@ -8,7 +8,7 @@ use Rattle.clap.specs.Simple.{Shape}
 use Rattle.clap.specs.declared.builder.value_parser.ValueParser.TheVariants as parser
 use Rattle.clap.specs.declared.error.kind.ErrorKind.TheVariants.{MissingRequiredArgument}
 use Rattle.clap.proofs.OnLiterals.{clap_on_literals}
-use Rattle.command_words.specs.Program.{create_app, row, store_rows}
+use Rattle.command_words.specs.Program.{create_app, argument_row, store_rows}
 use Rattle.command_words.specs.Words.{Text}
 use Rattle.command_words.proofs.Leaves.{last_added, last_joined, last_of, leaf_of, waits}
 use Rattle.command_words.proofs.OptionLemmas.{holding, never, refuses}
@@ -20,7 +20,7 @@ create_leaf listed = leaf_of (parser.Names listed) create_app
 
 -- the rows of DATABASE, OBJECTS and types that were settled
 abbrev pub create_rows : Text → Text → List Text → List Row
-create_rows database objects types = row (codes "database") database ∷ store_rows objects types
+create_rows database objects types = argument_row (codes "database") database ∷ store_rows objects types
 
 -- the last type waits to be settled
 abbrev type_place : Text → Text → List Text × Text → Place
@@ -32,7 +32,7 @@ abbrev pub create_place : List Text → Place
 create_place [] = start
 create_place (database ∷ []) = record { rows = []; pending = waits (codes "database") database; position = 2; waiting = idle }
 create_place (database ∷ objects ∷ []) =
-    record { rows = row (codes "database") database ∷ []; pending = waits (codes "path") objects; position = 3; waiting = idle }
+    record { rows = argument_row (codes "database") database ∷ []; pending = waits (codes "path") objects; position = 3; waiting = idle }
 create_place (database ∷ objects ∷ type ∷ types) = type_place database objects (last_of type types)
 
 -- any operands are taken

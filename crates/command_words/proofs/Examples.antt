@@ -3,8 +3,8 @@ use Rattle.std.proofs.Common.{◌≡◌, ◌≢◌, ◌∙◌, ◌++◌, ap, ari
 use Rattle.std.specs.Prelude.{codes, slice_index, Option, Some, None}
 use Rattle.type_table.specs.declared.kind.Kind.TheVariants.{Undo}
 use Rattle.command_words.specs.Help.{EndsLine, text_of_topic, version_text}
-use Rattle.command_words.specs.Lines.{Audit, IsClear, IsGiven, IsNumber, IsWholeWork, Line, SaysAudit, Setting, Work, apart, dashes, done, following, joined, line_words, operand, seed, tries, values_of, workers}
-use Rattle.command_words.specs.Serve.{Parts, Say, no_parts}
+use Rattle.command_words.specs.Lines.{Audit, IsClear, IsGiven, SpellsNumber, IsWholeWork, Line, SaysAudit, Setting, Work, apart, dashes, done, following, joined, line_words, operand, seed, tries, values_of, workers}
+use Rattle.command_words.specs.Serve.{ServeParts, Say, no_parts}
 use Rattle.command_words.specs.Serve as says
 use Rattle.command_words.proofs.ServeLemmas.{fast_says}
 use Rattle.command_words.specs.Words.{AskFor, Text, audit, audit_database, order, check, create, explain, history, make, run, serve, work, help, version}
@@ -76,11 +76,11 @@ serves_fast = (
 )
 
 -- nothing is said twice
-not_twice : (p : Parts) → Say (codes "--fast" ∷ codes "--fast" ∷ []) p → ⊥
+not_twice : (p : ServeParts) → Say (codes "--fast" ∷ codes "--fast" ∷ []) p → ⊥
 not_twice p said =
     let outer = fast_says _ (codes "--fast" ∷ []) p said refl in
     let inner = fast_says _ [] outer.0 outer.1 refl in
-    let twice : true ≡ false = sym (ap (λ (q : Parts). q.fast) inner.3) ∙ outer.2 in
+    let twice : true ≡ false = sym (ap (λ (q : ServeParts). q.fast) inner.3) ∙ outer.2 in
     cc
 
 -- a history is written by its path alone
@@ -197,10 +197,10 @@ twice : (n : ℕ) → IsGiven (codes "2" ∷ codes "2" ∷ []) n → ⊥
 twice n (text, alone, number) = absurd cc
 
 -- nor has the empty text, or a text that begins with a hyphen
-no_text : (n : ℕ) → IsNumber [] n → ⊥
+no_text : (n : ℕ) → SpellsNumber [] n → ⊥
 no_text n (numeral, is) = omega (arith, numeral.0)
 
-hyphen : (n : ℕ) → IsNumber (codes "-1") n → ⊥
+hyphen : (n : ℕ) → SpellsNumber (codes "-1") n → ⊥
 hyphen n (numeral, is) = omega (arith, numeral.1.0)
 
 -- seventeen workers are too many
@@ -220,7 +220,7 @@ short : AskFor (codes "-V" ∷ []) version
 short = inr refl
 
 -- the version is one line
-version_line : version_text ≡ codes "colock 0.1.0" ++ 10 ∷ []
+version_line : version_text ≡ codes "colock 0.2.0" ++ 10 ∷ []
 version_line = refl
 
 -- each text of help is of whole lines

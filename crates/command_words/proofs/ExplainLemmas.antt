@@ -8,7 +8,7 @@ use Rattle.clap.specs.Simple.{Shape}
 use Rattle.clap.specs.declared.builder.value_parser.ValueParser.TheVariants as parser
 use Rattle.clap.specs.declared.error.kind.ErrorKind.TheVariants.{InvalidValue, MissingRequiredArgument, WrongNumberOfValues}
 use Rattle.clap.proofs.OnLiterals.{clap_on_literals}
-use Rattle.command_words.specs.Program.{explain_app, list_rows, row}
+use Rattle.command_words.specs.Program.{explain_app, list_rows, argument_row}
 use Rattle.command_words.specs.Words.{Text}
 use Rattle.command_words.proofs.Leaves.{leaf_of, waits}
 use Rattle.command_words.proofs.OptionLemmas.{by_test, never, or_else_none, refuses}
@@ -20,14 +20,14 @@ explain_leaf listed = leaf_of (parser.Names listed) (explain_app (parser.Names l
 
 -- the rows of KIND and FILE that were settled, and of the operations
 abbrev pub explain_rows : Text → Text → List Text → List Row
-explain_rows kind path words = row (codes "kind") kind ∷ row (codes "path") path ∷ list_rows (codes "pair") words
+explain_rows kind path words = argument_row (codes "kind") kind ∷ argument_row (codes "path") path ∷ list_rows (codes "pair") words
 
 -- where its walk is after these operands: the operations wait together
 abbrev pub explain_place : List Text → Place
 explain_place [] = start
 explain_place (kind ∷ []) = record { rows = []; pending = waits (codes "kind") kind; position = 2; waiting = idle }
 explain_place (kind ∷ path ∷ []) =
-    record { rows = row (codes "kind") kind ∷ []; pending = waits (codes "path") path; position = 3; waiting = idle }
+    record { rows = argument_row (codes "kind") kind ∷ []; pending = waits (codes "path") path; position = 3; waiting = idle }
 explain_place (kind ∷ path ∷ p ∷ more) =
     record { rows = explain_rows kind path []; pending = Some (codes "pair", p ∷ more); position = 3; waiting = positional }
 

@@ -6,7 +6,7 @@ use Rattle.clap.specs.Simple.{Shape}
 use Rattle.clap.specs.declared.builder.value_parser.ValueParser.TheVariants as parser
 use Rattle.clap.specs.declared.error.kind.ErrorKind.TheVariants.{MissingRequiredArgument, UnknownArgument}
 use Rattle.clap.proofs.OnLiterals.{clap_on_literals}
-use Rattle.command_words.specs.Program.{file_app, row}
+use Rattle.command_words.specs.Program.{file_app, argument_row}
 use Rattle.command_words.specs.Words.{Text}
 use Rattle.command_words.proofs.Leaves.{leaf_of, waits}
 use Rattle.command_words.proofs.OptionLemmas.{never, refuses}
@@ -69,7 +69,7 @@ file_passes listed name path = (refl, refl)
 pub record AreFileWords (rows : List Row) (operands : List Text) : Type 0 where
   pub path : Text
   pub words : operands ≡ path ∷ []
-  pub entry : rows ≡ row (codes "path") path ∷ []
+  pub entry : rows ≡ argument_row (codes "path") path ∷ []
 
 pub file_answers : (listed : Bor (List (Bor Text))) (name : Text) (operands : List Text) → FileTook operands
     → ends (file_leaf listed name) (held_at (file_place operands)) ≡ []

@@ -14,7 +14,7 @@ use Rattle.clap.specs.ValueTests.{accepts}
 use Rattle.clap.proofs.ValueTestLemmas.{accepts-Accepts, Accepts-accepts}
 use Rattle.clap.specs.declared.builder.value_parser.ValueParser.TheVariants as parser
 use Rattle.clap.specs.declared.error.kind.ErrorKind.TheVariants.{ValueValidation}
-use Rattle.command_words.specs.Lines.{IsNumber}
+use Rattle.command_words.specs.Lines.{SpellsNumber}
 use Rattle.command_words.specs.Words.{Text}
 use Rattle.command_words.proofs.OptionLemmas.{by_test, never}
 
@@ -27,18 +27,18 @@ no_minus (x ∷ xs) numeral = ne_eqb x 45 (λ is. minus xs (subst (λ (y : ℕ).
     minus rest digits = omega (arith, digit_from_value 45 digits.1.0)
 
 -- so a typed getter reads it as it is
-pub as_written : (text : Text) (n : ℕ) → IsNumber text n → without_minus text ≡ text
+pub as_written : (text : Text) (n : ℕ) → SpellsNumber text n → without_minus text ≡ text
 as_written [] n is = refl
 as_written (x ∷ xs) n is = let plain = no_minus (x ∷ xs) is.0 in simp plain refl
 
 -- a text that such a parser takes is a number in its range
 pub signed_number : (low high : ℕ) (text : Text) → 1 ≤ low → value_kinds false (parser.Signed (pos low) (pos high)) text ≡ []
-    → (n : ℕ) × IsNumber text n × (low ≤ n) × (n ≤ high)
+    → (n : ℕ) × SpellsNumber text n × (low ≤ n) × (n ≤ high)
 signed_number low high text some none = by_test (accepts false (parser.Signed (pos low) (pos high)) text)
     (λ taken. in_range (accepts-Accepts false (parser.Signed (pos low) (pos high)) text taken))
     (λ refused. absurd (never ValueValidation [] (simp refused at none)))
   where
-    in_range : IsSignedIn (pos low) (pos high) text → (n : ℕ) × IsNumber text n × (low ≤ n) × (n ≤ high)
+    in_range : IsSignedIn (pos low) (pos high) text → (n : ℕ) × SpellsNumber text n × (low ≤ n) × (n ≤ high)
     in_range is = by_test (starts_with_minus text)
         (λ minus. let least = rw minus at is.2 in absurd (omega (arith, ints, least, some)))
         (λ plain.
@@ -48,7 +48,7 @@ signed_number low high text some none = by_test (accepts false (parser.Signed (p
         (digits_value 10 (without_leading_plus text), (numeral, refl), omega (arith, ints, least), omega (arith, ints, most)))
 
 -- and a number in its range is taken
-pub signed_taken : (low high n : ℕ) (text : Text) → IsNumber text n → low ≤ n → n ≤ high → high < 2 ^ 63
+pub signed_taken : (low high n : ℕ) (text : Text) → SpellsNumber text n → low ≤ n → n ≤ high → high < 2 ^ 63
     → value_kinds false (parser.Signed (pos low) (pos high)) text ≡ []
 signed_taken low high n text is least most fits = simp taken refl
   where
@@ -63,14 +63,14 @@ signed_taken low high n text is least most fits = simp taken refl
 
 -- the same, of a parser of unsigned numbers
 pub unsigned_number : (text : Text) → value_kinds false (parser.Unsigned 0 18446744073709551615) text ≡ []
-    → (n : ℕ) × IsNumber text n × (n < 2 ^ 64)
+    → (n : ℕ) × SpellsNumber text n × (n < 2 ^ 64)
 unsigned_number text none = by_test (accepts false (parser.Unsigned 0 18446744073709551615) text)
     (λ taken.
     let is : IsUnsignedIn 0 18446744073709551615 text = accepts-Accepts false (parser.Unsigned 0 18446744073709551615) text taken in
     (digits_value 10 (without_leading_plus text), (is.0, refl), is.1))
     (λ refused. absurd (never ValueValidation [] (simp refused at none)))
 
-pub unsigned_taken : (n : ℕ) (text : Text) → IsNumber text n → n < 2 ^ 64 → value_kinds false (parser.Unsigned 0 18446744073709551615) text ≡ []
+pub unsigned_taken : (n : ℕ) (text : Text) → SpellsNumber text n → n < 2 ^ 64 → value_kinds false (parser.Unsigned 0 18446744073709551615) text ≡ []
 unsigned_taken n text is fits = simp taken refl
   where
     in_range : IsUnsignedIn 0 18446744073709551615 text
@@ -84,16 +84,16 @@ abbrev pub Gives : ℕ → Text → Result ℕ ParseIntError → Type 0
 Gives k text r = ParsesUnsigned k 10 text r × ExplainsUnsignedError 10 text r × HasUnsignedDigitsIfOk text r
 
 -- a number that fits its type is read
-pub number_some : (k n : ℕ) (text : Text) (r : Option ℕ) → IsNumber text n → n < 2 ^ k → ReadsOne (Gives k) text r → IsSome r
+pub number_some : (k n : ℕ) (text : Text) (r : Option ℕ) → SpellsNumber text n → n < 2 ^ k → ReadsOne (Gives k) text r → IsSome r
 number_some k n text None is fits reads = absurd (reads.1.0 (is.0, rw is.1 fits))
 number_some k n text (Some m) is fits reads = refl
 
 -- as that number
-pub number_is : (k n m : ℕ) (text : Text) (r : Option ℕ) → IsNumber text n → ReadsOne (Gives k) text r → r ≡ Some m → m ≡ n
+pub number_is : (k n m : ℕ) (text : Text) (r : Option ℕ) → SpellsNumber text n → ReadsOne (Gives k) text r → r ≡ Some m → m ≡ n
 number_is k n m text None is reads some = absurd cc
 number_is k n m text (Some v) is reads some = let same : v ≡ m = cc in sym same ∙ reads.0.1 ∙ is.1
 
 -- so it is read as itself
-pub number_read : (k n : ℕ) (text : Text) (r : Option ℕ) → IsNumber text n → n < 2 ^ k → ReadsOne (Gives k) text r → r ≡ Some n
+pub number_read : (k n : ℕ) (text : Text) (r : Option ℕ) → SpellsNumber text n → n < 2 ^ k → ReadsOne (Gives k) text r → r ≡ Some n
 number_read k n text None is fits reads = absurd (reads.1.0 (is.0, rw is.1 fits))
 number_read k n text (Some v) is fits reads = ap (λ (m : ℕ). Some m) (reads.0.1 ∙ is.1)

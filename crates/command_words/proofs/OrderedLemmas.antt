@@ -8,68 +8,68 @@ use Rattle.type_table.proofs.Elements.{take-found}
 use Rattle.std.specs.Prelude.{All, codes, Option, Some, None, IfSome, IfNone, ◌==◌, ◌<◌, ◌^◌}
 use Rattle.std.specs.List.{after_first, before_first}
 use Rattle.clap.specs.Walk.{texts}
-use Rattle.command_words.specs.Lines.{IsNumber, IsPlain}
-use Rattle.command_words.specs.Ordered.{AreNumbers, AreOrderedWords, HasComma, Ordered, one, more}
+use Rattle.command_words.specs.Lines.{SpellsNumber, IsPlain}
+use Rattle.command_words.specs.Ordered.{SpellsNumbers, AreOrderedWords, HasComma, Ordered, one, more}
 use Rattle.command_words.specs.Words.{Text}
 
 -- ---- numbers
 
 -- a text with a comma has a number before it
-pub with_comma : (text : Text) (ns : List ℕ) → AreNumbers text ns → HasComma text
-    → (n : ℕ) × (ms : List ℕ) × (ns ≡ n ∷ ms) × IsNumber (before_first (λ b. b == 44) text) n × (n < 2 ^ 32) × AreNumbers (after_first (λ b. b == 44) text) ms
+pub with_comma : (text : Text) (ns : List ℕ) → SpellsNumbers text ns → HasComma text
+    → (n : ℕ) × (ms : List ℕ) × (ns ≡ n ∷ ms) × SpellsNumber (before_first (λ b. b == 44) text) n × (n < 2 ^ 32) × SpellsNumbers (after_first (λ b. b == 44) text) ms
 with_comma _ _ (one text n none is low) comma = absurd (none comma)
 with_comma _ _ (more text n ms has is low rest) comma = (n, ms, refl, is, low, rest)
 
 -- one without is one number
-pub without_comma : (text : Text) (ns : List ℕ) → AreNumbers text ns → ¬ (HasComma text) → (n : ℕ) × (ns ≡ n ∷ []) × IsNumber text n × (n < 2 ^ 32)
+pub without_comma : (text : Text) (ns : List ℕ) → SpellsNumbers text ns → ¬ (HasComma text) → (n : ℕ) × (ns ≡ n ∷ []) × SpellsNumber text n × (n < 2 ^ 32)
 without_comma _ _ (one text n none is low) no_comma = (n, refl, is, low)
 without_comma _ _ (more text n ms has is low rest) no_comma = absurd (no_comma has)
 
 -- the number of a text is one
-same_number : (text : Text) (n m : ℕ) → IsNumber text n → IsNumber text m → n ≡ m
+same_number : (text : Text) (n m : ℕ) → SpellsNumber text n → SpellsNumber text m → n ≡ m
 same_number text n m first other = sym first.1 ∙ other.1
 
 -- some numbers of a text were read, and these are left
 pub record AreLeft (text rest : Text) (so_far : List ℕ) : Type 0 where
-  pub sound : (ms : List ℕ) → AreNumbers rest ms → AreNumbers text (so_far ++ ms)
-  pub complete : (ns : List ℕ) → AreNumbers text ns → (ms : List ℕ) × (ns ≡ so_far ++ ms) × AreNumbers rest ms
+  pub sound : (ms : List ℕ) → SpellsNumbers rest ms → SpellsNumbers text (so_far ++ ms)
+  pub complete : (ns : List ℕ) → SpellsNumbers text ns → (ms : List ℕ) × (ns ≡ so_far ++ ms) × SpellsNumbers rest ms
 
 pub all_left : (text : Text) → AreLeft text text []
 all_left text = record { sound = λ ms are. are; complete = λ ns are. (ns, refl, are) }
 
 module _ (text rest : Text) (so_far : List ℕ) (known : AreLeft text rest so_far) where
   -- one more was read
-  pub one_less : (first behind : Text) (n : ℕ) → HasComma rest → first ≡ before_first (λ b. b == 44) rest → behind ≡ after_first (λ b. b == 44) rest → IsNumber first n → n < 2 ^ 32
+  pub one_less : (first behind : Text) (n : ℕ) → HasComma rest → first ≡ before_first (λ b. b == 44) rest → behind ≡ after_first (λ b. b == 44) rest → SpellsNumber first n → n < 2 ^ 32
       → AreLeft text behind (so_far ++ n ∷ [])
   one_less first behind n comma is_first is_behind is low =
-      let number : IsNumber (before_first (λ b. b == 44) rest) n = subst (λ (t : Text). IsNumber t n) is_first is in
+      let number : SpellsNumber (before_first (λ b. b == 44) rest) n = subst (λ (t : Text). SpellsNumber t n) is_first is in
       record {
         sound = λ ms are.
-            subst (AreNumbers text) (sym (append_assoc so_far (n ∷ []) ms))
-            (known.sound (n ∷ ms) (more rest n ms comma number low (subst (λ (t : Text). AreNumbers t ms) is_behind are)));
+            subst (SpellsNumbers text) (sym (append_assoc so_far (n ∷ []) ms))
+            (known.sound (n ∷ ms) (more rest n ms comma number low (subst (λ (t : Text). SpellsNumbers t ms) is_behind are)));
         complete = λ ns are.
             let (ms, whole, left) = known.complete ns are in
             let (m, others, front, other, small, behind_are) = with_comma rest ms left comma in
             let same : m ≡ n = same_number (before_first (λ b. b == 44) rest) m n other number in (
               others,
               whole ∙ ap (λ l. so_far ++ l) (front ∙ ap (λ x. x ∷ others) same) ∙ sym (append_assoc so_far (n ∷ []) others),
-              subst (λ (t : Text). AreNumbers t others) (sym is_behind) behind_are,
+              subst (λ (t : Text). SpellsNumbers t others) (sym is_behind) behind_are,
             );
       }
 
   -- what is before the comma is no number
-  pub none_read : (first : Text) → HasComma rest → first ≡ before_first (λ b. b == 44) rest → ((n : ℕ) → n < 2 ^ 32 → ¬ (IsNumber first n)) → (ns : List ℕ) → ¬ (AreNumbers text ns)
+  pub none_read : (first : Text) → HasComma rest → first ≡ before_first (λ b. b == 44) rest → ((n : ℕ) → n < 2 ^ 32 → ¬ (SpellsNumber first n)) → (ns : List ℕ) → ¬ (SpellsNumbers text ns)
   none_read first comma is_first none ns are =
       let (ms, whole, left) = known.complete ns are in
       let (m, others, front, other, small, behind_are) = with_comma rest ms left comma in
-      none m small (subst (λ (t : Text). IsNumber t m) (sym is_first) other)
+      none m small (subst (λ (t : Text). SpellsNumber t m) (sym is_first) other)
 
   -- the last number
-  pub all_read : (n : ℕ) → ¬ (HasComma rest) → IsNumber rest n → n < 2 ^ 32 → AreNumbers text (so_far ++ n ∷ [])
+  pub all_read : (n : ℕ) → ¬ (HasComma rest) → SpellsNumber rest n → n < 2 ^ 32 → SpellsNumbers text (so_far ++ n ∷ [])
   all_read n no_comma is low = known.sound (n ∷ []) (one rest n no_comma is low)
 
   -- what is left is none
-  pub none_left : ¬ (HasComma rest) → ((n : ℕ) → n < 2 ^ 32 → ¬ (IsNumber rest n)) → (ns : List ℕ) → ¬ (AreNumbers text ns)
+  pub none_left : ¬ (HasComma rest) → ((n : ℕ) → n < 2 ^ 32 → ¬ (SpellsNumber rest n)) → (ns : List ℕ) → ¬ (SpellsNumbers text ns)
   none_left no_comma none ns are =
       let (ms, whole, left) = known.complete ns are in
       let (m, front, other, small) = without_comma rest ms left no_comma in
@@ -121,8 +121,8 @@ first_of (word ∷ rest) = word
 
 module _ (list history : Text) (types : List Text) (a : Ordered) (are : AreOrderedWords (codes "audit" ∷ codes "--order" ∷ list ∷ history ∷ types) a) where
   -- what the words of a task say of each part
-  pub list_is : AreNumbers list a.order
-  list_is = let same : are.list ≡ list = sym (ap (λ (ws : List Text). first_of (behind (behind ws))) are.are) in subst (λ (t : Text). AreNumbers t a.order) same are.order
+  pub list_is : SpellsNumbers list a.order
+  list_is = let same : are.list ≡ list = sym (ap (λ (ws : List Text). first_of (behind (behind ws))) are.are) in subst (λ (t : Text). SpellsNumbers t a.order) same are.order
 
   pub history_is : IsPlain history
   history_is = let same : a.history ≡ history = sym (ap (λ (ws : List Text). first_of (behind (behind (behind ws)))) are.are) in subst IsPlain same are.plain.0

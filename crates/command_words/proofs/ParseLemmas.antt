@@ -11,7 +11,7 @@ use Rattle.clap.specs.Faults.{fault_of, is_simple_and_free}
 use Rattle.clap.specs.declared.error.Error.{Error}
 use Rattle.clap.specs.declared.parser.matches.ArgMatches.{ArgMatches}
 use Rattle.clap.specs.declared.builder.value_parser.ValueParser.{ValueParser}
-use Rattle.command_words.specs.Program.{HasNumber, HasRows, HasStoreRows, HasWork, Parses, ReadsKinds, entry_of, program, row, store_rows}
+use Rattle.command_words.specs.Program.{HasNumber, HasRows, HasStoreRows, HasWork, Parses, ReadsKinds, subcommand_of, program, argument_row, store_rows}
 use Rattle.type_table.specs.declared.kind.Kind.{Kind}
 use Rattle.command_words.specs.Words.{Order, OnUsage, Text, help_words}
 use Rattle.command_words.specs.Lines.{Audit, Work}
@@ -51,12 +51,12 @@ pub found_is : {X Y : Type 0} (f : X → Y) (o : Option X) (x : X) (y : Y) → o
 found_is f o x y is seen = let both : Some (f x) ≡ Some y = ap (option_map f) (sym is) ∙ seen in cc
 
 -- the first value of an argument, by the rows
-pub value_read : (values : ArgMatches) (asked : Order) (id : Text) → HasRows values asked → first_value (found_of values) id ≡ first_of id (entry_of asked).1
+pub value_read : (values : ArgMatches) (asked : Order) (id : Text) → HasRows values asked → first_value (found_of values) id ≡ first_of id (subcommand_of asked).1
 value_read values asked id has = first_value-rows (found_of values) id ∙ ap (first_of id) has
 
 -- all of them
 pub values_read : (values : ArgMatches) (asked : Order) (id : Text) → HasRows values asked
-    → option_map raw_values (matched_of (found_of values) id) ≡ all_of id (entry_of asked).1
+    → option_map raw_values (matched_of (found_of values) id) ≡ all_of id (subcommand_of asked).1
 values_read values asked id has = raw_values-rows (found_of values) id ∙ ap (all_of id) has
 
 -- what is something is there
@@ -66,7 +66,7 @@ some_of (Some y) x is = refl
 
 -- the same, of the items themselves
 items_or_none : (family size : Text) (items : List Text) (o : Option (Bor (List (Bor Text)))) (none : Bor (List (Bor Text))) → none.now ≡ []
-    → option_map (λ s. texts s.now) o ≡ all_of (codes "items") (entry_of (asked.make family size items)).1 → texts (unwrap_or o none).now ≡ items
+    → option_map (λ s. texts s.now) o ≡ all_of (codes "items") (subcommand_of (asked.make family size items)).1 → texts (unwrap_or o none).now ≡ items
 items_or_none family size [] None none empty seen = ap texts empty
 items_or_none family size [] (Some s) none empty seen = absurd cc
 items_or_none family size (item ∷ items) None none empty seen = absurd cc
@@ -74,7 +74,7 @@ items_or_none family size (item ∷ items) (Some s) none empty seen = cc
 
 -- the items that were found, or none
 pub items_read : (family size : Text) (items : List Text) (o : Option (Bor (List (Bor Text)))) (given none : Bor (List (Bor Text))) → given ≡ unwrap_or o none → none.now ≡ []
-    → option_map (λ s. texts s.now) o ≡ all_of (codes "items") (entry_of (asked.make family size items)).1 → texts given.now ≡ items
+    → option_map (λ s. texts s.now) o ≡ all_of (codes "items") (subcommand_of (asked.make family size items)).1 → texts given.now ≡ items
 items_read family size items o given none is empty seen = ap (λ (s : Bor (List (Bor Text))). texts s.now) is ∙ items_or_none family size items o none empty seen
 
 -- the texts of a list argument that were found, or none
@@ -86,7 +86,7 @@ texts_read wanted (Some s) given none seen is empty found are =
     ap (λ (s : Bor (List (Bor Text))). texts s.now) is ∙ ap (λ (f : Option (List Text)). unwrap_or f []) found ∙ are
 
 -- the values of P and Q are the words of the pair
-pub pair_rows : (kind : Kind) (path : Text) (pair : Option (Text × Text)) → unwrap_or (all_of (codes "pair") (entry_of (asked.explain kind path pair)).1) [] ≡ asked.pair_words pair
+pub pair_rows : (kind : Kind) (path : Text) (pair : Option (Text × Text)) → unwrap_or (all_of (codes "pair") (subcommand_of (asked.explain kind path pair)).1) [] ≡ asked.pair_words pair
 pair_rows kind path None = refl
 pair_rows kind path (Some words) = refl
 
@@ -131,7 +131,7 @@ pub create_read : (values : ArgMatches) (database objects : Text) (types : List 
 create_read values database objects types are =
     subst (λ (rows : List Row). HasStoreRows rows objects types) (sym are) (listed types)
   where
-    listed : (types : List Text) → HasStoreRows (row (codes "database") database ∷ store_rows objects types) objects types
+    listed : (types : List Text) → HasStoreRows (argument_row (codes "database") database ∷ store_rows objects types) objects types
     listed [] = record { path = refl; types = refl }
     listed (type ∷ types) = record { path = refl; types = refl }
 

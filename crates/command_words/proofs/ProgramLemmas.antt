@@ -16,7 +16,7 @@ use Rattle.clap.specs.declared.error.Error.{Error}
 use Rattle.clap.specs.declared.parser.matches.ArgMatches.{ArgMatches}
 use Rattle.clap.proofs.FaultLemmas.{stopped_fault}
 use Rattle.clap.proofs.OnLiterals.{clap_on_literals}
-use Rattle.command_words.specs.Program.{Asks, IsEntryOf, Parses, kind_words, program}
+use Rattle.command_words.specs.Program.{AreMatchesOf, IsEntryOf, Parses, kind_words, program}
 use Rattle.command_words.specs.Words.{AreFor, AreLeftToClap, AreNoTask, AskFor, Asked, AsksPlainly, IsPlainAudit, IsPlainOrder, IsPlainWork, Order, Text, without_dashes, order_words}
 use Rattle.command_words.specs.Lines.{AreAuditWords, AreWorkWords, Audit, Work, line_words, work_name}
 use Rattle.command_words.specs.Words as asked
@@ -338,7 +338,7 @@ work_taken listed w words plain_work are =
 -- ---- what a parse says
 
 -- matches are those of a subcommand, whose words were given
-pub matches_asked : (words : List Text) (m : ArgMatches) → Parses words (Ok m) → (a : Asked) × Asks m a × AskFor words a
+pub matches_asked : (words : List Text) (m : ArgMatches) → Parses words (Ok m) → (a : Asked) × AreMatchesOf m a × AskFor words a
 matches_asked words m p =
     let listed = p.1.0 in
     let P : ValueParser → Type 0 = λ k. fault_of (program k) words ≡ [] in

@@ -3,8 +3,8 @@ use Rattle.std.proofs.Common.{◌≡◌, ◌∙◌, ap, arith, refl, subst, sym,
 use Rattle.std.proofs.Math.Seq.{take-length}
 use Rattle.std.specs.Prelude.{codes, get_or, Option, Some, None, Result, Ok, Err, IfErr, IfSome, IfNone, IsSome, option_map, slice_index, unwrap_or, ◌<◌, ◌^◌}
 use Rattle.clap.specs.Walk.{texts}
-use Rattle.command_words.specs.Lines.{IsNumber, IsPlain, line_words, work_name}
-use Rattle.command_words.specs.Serve.{AreWhole, Parts, Say, SayServe, Serve, no_parts, nothing, fast, drain, database, archive, dashes, said_by}
+use Rattle.command_words.specs.Lines.{SpellsNumber, IsPlain, line_words, work_name}
+use Rattle.command_words.specs.Serve.{AreWhole, ServeParts, Say, SayServe, Serve, no_parts, nothing, fast, drain, database, archive, dashes, said_by}
 use Rattle.command_words.specs.declared.serve.Parts.{Parts as Found}
 use Rattle.command_words.specs.declared.task.Task.{Task}
 use Rattle.command_words.specs.declared.task.Topic.{Topic}
@@ -25,8 +25,8 @@ not_plain path word is plain not = not (subst IsPlain is plain)
 
 -- ---- what words say, by the first of them
 
-pub fast_says : (words rest : List Text) (p : Parts) → Say words p → words ≡ codes "--fast" ∷ rest
-    → (q : Parts) × Say rest q × (q.fast ≡ false) × (p ≡ record q { fast = true })
+pub fast_says : (words rest : List Text) (p : ServeParts) → Say words p → words ≡ codes "--fast" ∷ rest
+    → (q : ServeParts) × Say rest q × (q.fast ≡ false) × (p ≡ record q { fast = true })
 fast_says _ rest _ nothing is = absurd cc
 fast_says _ rest _ (fast more q said not) is = (q, subst (λ (ws : List Text). Say ws q) (ap tail is) said, not, refl)
 fast_says _ rest _ (archive folder more q said none) is = absurd cc
@@ -35,20 +35,20 @@ fast_says _ rest _ (database path more q said none plain) is =
     absurd (not_plain path (codes "--fast") (let first : path ≡ codes "--fast" = cc in first) plain (λ (p : IsPlain (codes "--fast")). cc))
 fast_says _ rest _ (dashes path more q said none) is = absurd cc
 
-pub drain_says : (words rest : List Text) (text : Text) (p : Parts) → Say words p → words ≡ codes "--drain" ∷ text ∷ rest
-    → (q : Parts) × (n : ℕ) × Say rest q × (q.drain ≡ None) × IsNumber text n × (n < 2 ^ 32) × (p ≡ record q { drain = Some n })
+pub drain_says : (words rest : List Text) (text : Text) (p : ServeParts) → Say words p → words ≡ codes "--drain" ∷ text ∷ rest
+    → (q : ServeParts) × (n : ℕ) × Say rest q × (q.drain ≡ None) × SpellsNumber text n × (n < 2 ^ 32) × (p ≡ record q { drain = Some n })
 drain_says _ rest text _ nothing is = absurd cc
 drain_says _ rest text _ (fast more q said not) is = absurd cc
 drain_says _ rest text _ (archive folder more q said none) is = absurd cc
 drain_says _ rest text _ (drain other n more q said none number small) is =
     let same : other ≡ text = cc in
-    (q, n, subst (λ (ws : List Text). Say ws q) (ap (λ (ws : List Text). tail (tail ws)) is) said, none, subst (λ (t : Text). IsNumber t n) same number, small, refl)
+    (q, n, subst (λ (ws : List Text). Say ws q) (ap (λ (ws : List Text). tail (tail ws)) is) said, none, subst (λ (t : Text). SpellsNumber t n) same number, small, refl)
 drain_says _ rest text _ (database path more q said none plain) is =
     absurd (not_plain path (codes "--drain") (let first : path ≡ codes "--drain" = cc in first) plain (λ (p : IsPlain (codes "--drain")). cc))
 drain_says _ rest text _ (dashes path more q said none) is = absurd cc
 
-pub archive_says : (words rest : List Text) (folder : Text) (p : Parts) → Say words p → words ≡ codes "--archive" ∷ folder ∷ rest
-    → (q : Parts) × Say rest q × (q.archive ≡ None) × (p ≡ record q { archive = Some folder })
+pub archive_says : (words rest : List Text) (folder : Text) (p : ServeParts) → Say words p → words ≡ codes "--archive" ∷ folder ∷ rest
+    → (q : ServeParts) × Say rest q × (q.archive ≡ None) × (p ≡ record q { archive = Some folder })
 archive_says _ rest folder _ nothing is = absurd cc
 archive_says _ rest folder _ (fast more q said not) is = absurd cc
 archive_says _ rest folder _ (archive other more q said none) is =
@@ -59,8 +59,8 @@ archive_says _ rest folder _ (database path more q said none plain) is =
     absurd (not_plain path (codes "--archive") (let first : path ≡ codes "--archive" = cc in first) plain (λ (p : IsPlain (codes "--archive")). cc))
 archive_says _ rest folder _ (dashes path more q said none) is = absurd cc
 
-pub dashes_say : (words rest : List Text) (path : Text) (p : Parts) → Say words p → words ≡ codes "--" ∷ path ∷ rest
-    → (q : Parts) × Say rest q × (q.database ≡ None) × (p ≡ record q { database = Some path })
+pub dashes_say : (words rest : List Text) (path : Text) (p : ServeParts) → Say words p → words ≡ codes "--" ∷ path ∷ rest
+    → (q : ServeParts) × Say rest q × (q.database ≡ None) × (p ≡ record q { database = Some path })
 dashes_say _ rest path _ nothing is = absurd cc
 dashes_say _ rest path _ (fast more q said not) is = absurd cc
 dashes_say _ rest path _ (archive folder more q said none) is = absurd cc
@@ -71,8 +71,8 @@ dashes_say _ rest path _ (dashes other more q said none) is =
     let same : other ≡ path = cc in
     (q, subst (λ (ws : List Text). Say ws q) (ap (λ (ws : List Text). tail (tail ws)) is) said, none, ap (λ (o : Text). record q { database = Some o }) same)
 
-pub database_says : (words rest : List Text) (path : Text) (p : Parts) → Say words p → words ≡ path ∷ rest → IsPlain path
-    → (q : Parts) × Say rest q × (q.database ≡ None) × (p ≡ record q { database = Some path })
+pub database_says : (words rest : List Text) (path : Text) (p : ServeParts) → Say words p → words ≡ path ∷ rest → IsPlain path
+    → (q : ServeParts) × Say rest q × (q.database ≡ None) × (p ≡ record q { database = Some path })
 database_says _ rest path _ nothing is plain = absurd cc
 database_says _ rest path _ (fast more q said not) is plain =
     absurd (not_plain path (codes "--fast") (let first : path ≡ codes "--fast" = cc in first) plain (λ (p : IsPlain (codes "--fast")). cc))
@@ -86,7 +86,7 @@ database_says _ rest path _ (database other more q said none is_plain) is plain 
 database_says _ rest path _ (dashes other more q said none) is plain =
     absurd (not_plain path (codes "--") (let first : path ≡ codes "--" = cc in first) plain (λ (p : IsPlain (codes "--")). cc))
 
-nothing_says : (words : List Text) (p : Parts) → Say words p → words ≡ [] → p ≡ no_parts
+nothing_says : (words : List Text) (p : ServeParts) → Say words p → words ≡ [] → p ≡ no_parts
 nothing_says _ _ nothing is = refl
 nothing_says _ _ (fast more q said not) is = absurd cc
 nothing_says _ _ (archive folder more q said none) is = absurd cc
@@ -97,27 +97,27 @@ nothing_says _ _ (dashes path more q said none) is = absurd cc
 -- ---- one thing at most
 
 -- the number of a text is one
-same_number : (text : Text) (n m : ℕ) → IsNumber text n → IsNumber text m → n ≡ m
+same_number : (text : Text) (n m : ℕ) → SpellsNumber text n → SpellsNumber text m → n ≡ m
 same_number text n m one other = sym one.1 ∙ other.1
 
-pub one_said : (words : List Text) (p q : Parts) → Say words p → Say words q → q ≡ p
+pub one_said : (words : List Text) (p q : ServeParts) → Say words p → Say words q → q ≡ p
 one_said _ _ q nothing said = nothing_says _ q said refl
 one_said _ _ q (fast rest a first not) said =
     let s = fast_says _ rest q said refl in
-    s.3 ∙ ap (λ (x : Parts). record x { fast = true }) (one_said rest a s.0 first s.1)
+    s.3 ∙ ap (λ (x : ServeParts). record x { fast = true }) (one_said rest a s.0 first s.1)
 one_said _ _ q (archive folder rest a first none) said =
     let s = archive_says _ rest folder q said refl in
-    s.3 ∙ ap (λ (x : Parts). record x { archive = Some folder }) (one_said rest a s.0 first s.1)
+    s.3 ∙ ap (λ (x : ServeParts). record x { archive = Some folder }) (one_said rest a s.0 first s.1)
 one_said _ _ q (drain text n rest a first none number small) said =
     let s = drain_says _ rest text q said refl in
-    s.6 ∙ ap (λ (x : Parts). record x { drain = Some s.1 }) (one_said rest a s.0 first s.2)
+    s.6 ∙ ap (λ (x : ServeParts). record x { drain = Some s.1 }) (one_said rest a s.0 first s.2)
     ∙ ap (λ (m : ℕ). record a { drain = Some m }) (same_number text s.1 n s.4 number)
 one_said _ _ q (database path rest a first none plain) said =
     let s = database_says _ rest path q said refl plain in
-    s.3 ∙ ap (λ (x : Parts). record x { database = Some path }) (one_said rest a s.0 first s.1)
+    s.3 ∙ ap (λ (x : ServeParts). record x { database = Some path }) (one_said rest a s.0 first s.1)
 one_said _ _ q (dashes path rest a first none) said =
     let s = dashes_say _ rest path q said refl in
-    s.3 ∙ ap (λ (x : Parts). record x { database = Some path }) (one_said rest a s.0 first s.1)
+    s.3 ∙ ap (λ (x : ServeParts). record x { database = Some path }) (one_said rest a s.0 first s.1)
 
 -- ---- what is read, by the first word
 
@@ -147,7 +147,7 @@ found_said : (rest : List Text) (parts : Option Found) (q : Found) → parts ≡
 found_said rest (Some p) q is said = let same : p ≡ q = cc in subst (λ (x : Found). Say rest (said_by x)) same said
 found_said rest None q is said = absurd cc
 
-module _ (words rest : List Text) (parts result : Option Found) (said : IfSome parts (λ p. Say rest (said_by p))) (other : IfNone parts ((p : Parts) → ¬ (Say rest p))) where
+module _ (words rest : List Text) (parts result : Option Found) (said : IfSome parts (λ p. Say rest (said_by p))) (other : IfNone parts ((p : ServeParts) → ¬ (Say rest p))) where
   -- with an option
   pub fast_said : words ≡ codes "--fast" ∷ rest → IfSome result (λ p. (q : Found) × (parts ≡ Some q) × (q.fast ≡ false) × (p ≡ record q { fast = true }))
       → IfSome result (λ p. Say words (said_by p))
@@ -171,9 +171,9 @@ module _ (words rest : List Text) (parts result : Option Found) (said : IfSome p
       ] more
 
   pub drain_said : (text : Text) → words ≡ codes "--drain" ∷ text ∷ rest
-      → IfSome result (λ p. (q : Found) × (n : ℕ) × (parts ≡ Some q) × (q.drain ≡ None) × IsNumber text n × (n < 2 ^ 32) × (p ≡ record q { drain = Some n }))
+      → IfSome result (λ p. (q : Found) × (n : ℕ) × (parts ≡ Some q) × (q.drain ≡ None) × SpellsNumber text n × (n < 2 ^ 32) × (p ≡ record q { drain = Some n }))
       → IfSome result (λ p. Say words (said_by p))
-  drain_said text is more = elim result as (λ (r : Option Found). IfSome r (λ p. (q : Found) × (n : ℕ) × (parts ≡ Some q) × (q.drain ≡ None) × IsNumber text n × (n < 2 ^ 32) × (p ≡ record q { drain = Some n }))
+  drain_said text is more = elim result as (λ (r : Option Found). IfSome r (λ p. (q : Found) × (n : ℕ) × (parts ≡ Some q) × (q.drain ≡ None) × SpellsNumber text n × (n < 2 ^ 32) × (p ≡ record q { drain = Some n }))
       → IfSome r (λ p. Say words (said_by p))) [
         | None ↦ λ _. tt
         | Some p ↦ λ (q, n, there, none, number, small, made).
@@ -182,7 +182,7 @@ module _ (words rest : List Text) (parts result : Option Found) (said : IfSome p
       ] more
 
   -- with the path of the store, by what says it
-  path_said : (path : Bor Text) → ((q : Parts) → Say rest q → q.database ≡ None → Say words (record q { database = Some path.now }))
+  path_said : (path : Bor Text) → ((q : ServeParts) → Say rest q → q.database ≡ None → Say words (record q { database = Some path.now }))
       → IfSome result (λ p. (q : Found) × (parts ≡ Some q) × (q.database ≡ None) × (p ≡ record q { database = Some path }))
       → IfSome result (λ p. Say words (said_by p))
   path_said path says more = elim result as (λ (r : Option Found). IfSome r (λ p. (q : Found) × (parts ≡ Some q) × (q.database ≡ None) × (p ≡ record q { database = Some path }))
@@ -205,29 +205,29 @@ module _ (words rest : List Text) (parts result : Option Found) (said : IfSome p
   -- ---- what isn't read says nothing
 
   -- where what is left says nothing that goes with the first word
-  none_more : (Goes : Parts → Type 0) → ((p : Parts) → Say words p → (q : Parts) × Say rest q × Goes q)
-      → IfSome parts (λ q. ¬ (Goes (said_by q))) → (p : Parts) → ¬ (Say words p)
+  none_more : (Goes : ServeParts → Type 0) → ((p : ServeParts) → Say words p → (q : ServeParts) × Say rest q × Goes q)
+      → IfSome parts (λ q. ¬ (Goes (said_by q))) → (p : ServeParts) → ¬ (Say words p)
   none_more Goes says never p all =
       let first = says p all in
-      elim parts as (λ (o : Option Found). IfSome o (λ q. Say rest (said_by q)) → IfNone o ((q : Parts) → ¬ (Say rest q)) → IfSome o (λ q. ¬ (Goes (said_by q))) → ⊥) [
+      elim parts as (λ (o : Option Found). IfSome o (λ q. Say rest (said_by q)) → IfNone o ((q : ServeParts) → ¬ (Say rest q)) → IfSome o (λ q. ¬ (Goes (said_by q))) → ⊥) [
         | None ↦ λ _ none _. none first.0 first.1
         | Some q ↦ λ before _ not. not (subst Goes (one_said rest (said_by q) first.0 before first.1) first.2)
       ] said other never
 
   -- where there is no result, one of the helpers said why
-  by_none : (why : Type 0) → IfNone result why → (why → (p : Parts) → ¬ (Say words p)) → IfNone result ((p : Parts) → ¬ (Say words p))
-  by_none why is then = elim result as (λ (r : Option Found). IfNone r why → IfNone r ((p : Parts) → ¬ (Say words p))) [ None ↦ λ w. then w | Some p ↦ λ _. tt ] is
+  by_none : (why : Type 0) → IfNone result why → (why → (p : ServeParts) → ¬ (Say words p)) → IfNone result ((p : ServeParts) → ¬ (Say words p))
+  by_none why is then = elim result as (λ (r : Option Found). IfNone r why → IfNone r ((p : ServeParts) → ¬ (Say words p))) [ None ↦ λ w. then w | Some p ↦ λ _. tt ] is
 
-  pub fast_other : words ≡ codes "--fast" ∷ rest → IfNone result (IfSome parts (λ q. q.fast ≡ true)) → IfNone result ((p : Parts) → ¬ (Say words p))
+  pub fast_other : words ≡ codes "--fast" ∷ rest → IfNone result (IfSome parts (λ q. q.fast ≡ true)) → IfNone result ((p : ServeParts) → ¬ (Say words p))
   fast_other is why = by_none _ why (λ w. none_more (λ q. q.fast ≡ false)
       (λ p all. let s = fast_says words rest p all is in (s.0, s.1, s.2))
       (elim parts as (λ (o : Option Found). IfSome o (λ q. q.fast ≡ true) → IfSome o (λ q. ¬ (q.fast ≡ false))) [ None ↦ λ _. tt | Some q ↦ λ yes not. cc ] w))
 
-  pub drain_other : (text : Text) → words ≡ codes "--drain" ∷ text ∷ rest → IfNone result (IfSome parts (λ q. q.drain ≡ None → (n : ℕ) → n < 2 ^ 32 → ¬ (IsNumber text n)))
-      → IfNone result ((p : Parts) → ¬ (Say words p))
-  drain_other text is why = by_none _ why (λ w. none_more (λ q. (q.drain ≡ None) × (n : ℕ) × IsNumber text n × (n < 2 ^ 32))
+  pub drain_other : (text : Text) → words ≡ codes "--drain" ∷ text ∷ rest → IfNone result (IfSome parts (λ q. q.drain ≡ None → (n : ℕ) → n < 2 ^ 32 → ¬ (SpellsNumber text n)))
+      → IfNone result ((p : ServeParts) → ¬ (Say words p))
+  drain_other text is why = by_none _ why (λ w. none_more (λ q. (q.drain ≡ None) × (n : ℕ) × SpellsNumber text n × (n < 2 ^ 32))
       (λ p all. let s = drain_says words rest text p all is in (s.0, s.2, (s.3, s.1, s.4, s.5)))
-      (elim parts as (λ (o : Option Found). IfSome o (λ q. q.drain ≡ None → (n : ℕ) → n < 2 ^ 32 → ¬ (IsNumber text n)) → IfSome o (λ q. ¬ ((q.drain ≡ None) × (n : ℕ) × IsNumber text n × (n < 2 ^ 32)))) [
+      (elim parts as (λ (o : Option Found). IfSome o (λ q. q.drain ≡ None → (n : ℕ) → n < 2 ^ 32 → ¬ (SpellsNumber text n)) → IfSome o (λ q. ¬ ((q.drain ≡ None) × (n : ℕ) × SpellsNumber text n × (n < 2 ^ 32)))) [
         | None ↦ λ _. tt
         | Some q ↦ λ no goes. no goes.0 goes.1 goes.3 goes.2
       ] w))
@@ -237,24 +237,24 @@ module _ (words rest : List Text) (parts result : Option Found) (said : IfSome p
   some_text None some none = absurd cc
   some_text (Some b) some none = absurd cc
 
-  pub archive_other : (folder : Text) → words ≡ codes "--archive" ∷ folder ∷ rest → IfNone result (IfSome parts (λ q. IsSome q.archive)) → IfNone result ((p : Parts) → ¬ (Say words p))
+  pub archive_other : (folder : Text) → words ≡ codes "--archive" ∷ folder ∷ rest → IfNone result (IfSome parts (λ q. IsSome q.archive)) → IfNone result ((p : ServeParts) → ¬ (Say words p))
   archive_other folder is why = by_none _ why (λ w. none_more (λ q. q.archive ≡ None)
       (λ p all. let s = archive_says words rest folder p all is in (s.0, s.1, s.2))
       (elim parts as (λ (o : Option Found). IfSome o (λ q. IsSome q.archive) → IfSome o (λ q. ¬ ((said_by q).archive ≡ None))) [ None ↦ λ _. tt | Some q ↦ some_text q.archive ] w))
 
   -- two stores aren't served
-  path_other : ((p : Parts) → Say words p → (q : Parts) × Say rest q × (q.database ≡ None)) → IfNone result (IfSome parts (λ q. IsSome q.database))
-      → IfNone result ((p : Parts) → ¬ (Say words p))
+  path_other : ((p : ServeParts) → Say words p → (q : ServeParts) × Say rest q × (q.database ≡ None)) → IfNone result (IfSome parts (λ q. IsSome q.database))
+      → IfNone result ((p : ServeParts) → ¬ (Say words p))
   path_other says why = by_none _ why (λ w. none_more (λ q. q.database ≡ None) says
       (elim parts as (λ (o : Option Found). IfSome o (λ q. IsSome q.database) → IfSome o (λ q. ¬ ((said_by q).database ≡ None))) [
         | None ↦ λ _. tt
         | Some q ↦ some_text q.database
       ] w))
 
-  pub dashes_other : (path : Text) → words ≡ codes "--" ∷ path ∷ rest → IfNone result (IfSome parts (λ q. IsSome q.database)) → IfNone result ((p : Parts) → ¬ (Say words p))
+  pub dashes_other : (path : Text) → words ≡ codes "--" ∷ path ∷ rest → IfNone result (IfSome parts (λ q. IsSome q.database)) → IfNone result ((p : ServeParts) → ¬ (Say words p))
   dashes_other path is = path_other (λ p all. let s = dashes_say words rest path p all is in (s.0, s.1, s.2))
 
-  pub database_other : (path : Text) → words ≡ path ∷ rest → IsPlain path → IfNone result (IfSome parts (λ q. IsSome q.database)) → IfNone result ((p : Parts) → ¬ (Say words p))
+  pub database_other : (path : Text) → words ≡ path ∷ rest → IsPlain path → IfNone result (IfSome parts (λ q. IsSome q.database)) → IfNone result ((p : ServeParts) → ¬ (Say words p))
   database_other path is plain = path_other (λ p all. let s = database_says words rest path p all is plain in (s.0, s.1, s.2))
 
 -- ---- the whole
@@ -278,7 +278,7 @@ say_serve words found q task (Some t) is there said whole =
     (whole.0, ap asked_of (sym same) ∙ whole.1, record { parts = said_by q; say = found_said words found q is said; whole = whole.2 })
 
 -- words that say no parts say no such thing
-pub none_serve : (words : List Text) → ((p : Parts) → ¬ (Say words p)) → (s : Serve) → ¬ (SayServe words s)
+pub none_serve : (words : List Text) → ((p : ServeParts) → ¬ (Say words p)) → (s : Serve) → ¬ (SayServe words s)
 none_serve words none s says = none says.parts says.say
 
 -- nor do those that name no store
@@ -286,7 +286,7 @@ pub no_path : (words : List Text) (found : Option Found) (q : Found) (of : Optio
 no_path words found q (Some t) is no_task_of nothing_there said s says = absurd cc
 no_path words found q None is no_task_of none said s says =
     let same = one_said words (said_by q) says.parts (found_said words found q is said) says.say in
-    let path : None ≡ Some s.database = sym (ap (option_map (λ (b : Bor Text). b.now)) none) ∙ sym (ap (λ (p : Parts). p.database) same) ∙ says.whole.database in
+    let path : None ≡ Some s.database = sym (ap (option_map (λ (b : Bor Text). b.now)) none) ∙ sym (ap (λ (p : ServeParts). p.database) same) ∙ says.whole.database in
     absurd cc
 
 -- a letter of the first word

@@ -15,9 +15,9 @@ use Rattle.clap.proofs.WalkLemmas.{list_any-map}
 use Rattle.type_table.specs.Kind.{kind_word}
 use Rattle.type_table.specs.declared.kind.Kind.{Kind}
 use Rattle.type_table.specs.declared.kind.Kind.TheVariants.{Undo, Intentions, Escrow}
-use Rattle.command_words.specs.Program.{check_app, entry_of, item_rows, kind_words, make_app, row, store_rows}
+use Rattle.command_words.specs.Program.{check_app, subcommand_of, item_rows, kind_words, make_app, argument_row, store_rows}
 use Rattle.command_words.specs.Lines.{IsPlain}
-use Rattle.command_words.specs.Words.{Order, IsPlainOrder, HasPlainWords, IsWhole, Text, without_dashes, order_words, pair_words}
+use Rattle.command_words.specs.Words.{Order, IsPlainOrder, HasPlainWords, HasOperands, Text, without_dashes, order_words, pair_words}
 use Rattle.command_words.specs.Words as asked
 use Rattle.command_words.proofs.Leaves.{last_added, last_joined, last_of, leaf_of, waits}
 use Rattle.command_words.proofs.OptionLemmas.{by_test, holding, never, or_else_none, refuses}
@@ -38,7 +38,7 @@ abbrev pub check_place : List Text → Place
 check_place [] = start
 check_place (kind ∷ []) = record { rows = []; pending = waits (codes "kind") kind; position = 2; waiting = idle }
 check_place (kind ∷ path ∷ rest) =
-    record { rows = row (codes "kind") kind ∷ []; pending = waits (codes "path") path; position = 3; waiting = idle }
+    record { rows = argument_row (codes "kind") kind ∷ []; pending = waits (codes "path") path; position = 3; waiting = idle }
 
 -- at most two operands, of which the first is a kind once the second was taken
 abbrev pub CheckTook : Bor (List (Bor Text)) → List Text → Type 0
@@ -91,7 +91,7 @@ make_leaf listed = leaf_of (parser.Names listed) make_app
 
 -- the rows of FAMILY, SIZE and items that were settled
 abbrev make_rows : Text → Text → List Text → List Row
-make_rows family size items = row (codes "family") family ∷ row (codes "size") size ∷ item_rows items
+make_rows family size items = argument_row (codes "family") family ∷ argument_row (codes "size") size ∷ item_rows items
 
 -- the last item waits to be settled
 abbrev item_place : Text → Text → List Text × Text → Place
@@ -103,7 +103,7 @@ abbrev pub make_place : List Text → Place
 make_place [] = start
 make_place (family ∷ []) = record { rows = []; pending = waits (codes "family") family; position = 2; waiting = idle }
 make_place (family ∷ size ∷ []) =
-    record { rows = row (codes "family") family ∷ []; pending = waits (codes "size") size; position = 3; waiting = idle }
+    record { rows = argument_row (codes "family") family ∷ []; pending = waits (codes "size") size; position = 3; waiting = idle }
 make_place (family ∷ size ∷ item ∷ items) = item_place family size (last_of item items)
 
 -- any operands are taken
@@ -260,9 +260,9 @@ begins history = refl
 -- the operands and the rows of a subcommand are those of what is asked for
 pub record Answers (name : Text) (s : Shape) (h : Held) (operands : List Text) : Type 0 where
   pub asked : Order
-  pub whole : IsWhole asked
+  pub whole : HasOperands asked
   pub words : name ∷ operands ≡ order_words asked
-  pub entry : (name, finished s.rules h) ≡ entry_of asked
+  pub entry : (name, finished s.rules h) ≡ subcommand_of asked
 
 -- the name and the rows of `explain`
 abbrev entry_at : Text → Text → List Text → Text × List Row
@@ -307,7 +307,7 @@ check_answers listed are (kind ∷ path ∷ []) took none =
       asked = asked.check named.0 path;
       whole = tt;
       words = ap (λ (k : Text). codes "check" ∷ k ∷ path ∷ []) named.1;
-      entry = ap (λ (k : Text). (codes "check", row (codes "kind") k ∷ row (codes "path") path ∷ [])) named.1;
+      entry = ap (λ (k : Text). (codes "check", argument_row (codes "kind") k ∷ argument_row (codes "path") path ∷ [])) named.1;
     }
 check_answers listed are (kind ∷ path ∷ more ∷ rest) took none = absurd took
 
@@ -351,9 +351,9 @@ some_types type types = omega arith
 
 -- what a first file and types ask for of a command over a store's objects
 store_asked : (name : Text) (s : Shape) (h : Held) (operands : List Text) (order : Text → List Text → Order)
-    → ((path type : Text) (types : List Text) → IsWhole (order path (type ∷ types)))
+    → ((path type : Text) (types : List Text) → HasOperands (order path (type ∷ types)))
     → ((path : Text) (types : List Text) → order_words (order path types) ≡ name ∷ path ∷ types)
-    → ((path : Text) (types : List Text) → entry_of (order path types) ≡ (name, store_rows path types))
+    → ((path : Text) (types : List Text) → subcommand_of (order path types) ≡ (name, store_rows path types))
     → AreStoreWords s (finished s.rules h) operands → Answers name s h operands
 store_asked name s h operands order whole words entry are = record {
   asked = order are.path (are.type ∷ are.types);
@@ -364,9 +364,9 @@ store_asked name s h operands order whole words entry are = record {
 
 -- what a path asks for of a command over one file
 file_asked : (name : Text) (s : Shape) (h : Held) (operands : List Text) (order : Text → Order)
-    → ((path : Text) → IsWhole (order path))
+    → ((path : Text) → HasOperands (order path))
     → ((path : Text) → order_words (order path) ≡ name ∷ path ∷ [])
-    → ((path : Text) → entry_of (order path) ≡ (name, row (codes "path") path ∷ []))
+    → ((path : Text) → subcommand_of (order path) ≡ (name, argument_row (codes "path") path ∷ []))
     → AreFileWords (finished s.rules h) operands → Answers name s h operands
 file_asked name s h operands order whole words entry are = record {
   asked = order are.path;
@@ -455,7 +455,7 @@ items_pass listed family size before (word ∷ rest) =
     (make_clear listed (family ∷ size ∷ before), items_pass listed family size (before ++ word ∷ []) rest)
 
 -- no fault comes of the operands of what is asked for, where it is whole
-all_pass : (listed : Bor (List (Bor Text))) → texts listed.now ≡ kind_words → (a : Order) → IsWhole a → AllPass listed (command_of a) [] (operands_of a)
+all_pass : (listed : Bor (List (Bor Text))) → texts listed.now ≡ kind_words → (a : Order) → HasOperands a → AllPass listed (command_of a) [] (operands_of a)
 unfolding clap_on_literals
 all_pass listed are (asked.check kind path) whole =
     (refl, (both_none (value_kinds false (parser.Names listed) (kind_word kind)) [] (offered listed kind are) refl, refl))

@@ -3,7 +3,7 @@ use Rattle.std.proofs.Common.{◌≡◌, ◌∙◌, ap, arith, refl, subst, sym,
 use Rattle.std.specs.Prelude.{codes, is_some, Option, Some, None, option_and_then, ◌<◌, ◌≤◌, ◌^◌, IfSome}
 use Rattle.clap.specs.Walk.{Row, finished, row_text}
 use Rattle.clap.specs.declared.builder.value_parser.Reading.TheVariants.{AsWritten, WithoutMinus}
-use Rattle.command_words.specs.Lines.{IsGiven, IsGivenAny, IsGivenOr, IsNumber, Line, Says, Setting, Work, following, line_words, seed, setting_name, tries, workers}
+use Rattle.command_words.specs.Lines.{IsGiven, IsGivenAny, IsGivenOr, SpellsNumber, Line, SaysWork, Setting, Work, following, line_words, seed, setting_name, tries, workers}
 use Rattle.command_words.specs.Program.{HasNumber, HasWorkRows}
 use Rattle.command_words.specs.Words.{Text}
 use Rattle.command_words.proofs.LeafLemmas.{at, end_of, faults, start}
@@ -17,7 +17,7 @@ use Rattle.command_words.proofs.WorkLeaf.{no_following, takes_seed, takes_tries,
 -- ---- the number of an option
 
 -- the text of a number below a bound, as a typed getter reads it
-small_row : (id text : Text) (n : ℕ) (rows : List Row) → row_at id rows ≡ given_row id WithoutMinus (text ∷ []) → IsNumber text n → HasNumber rows id n
+small_row : (id text : Text) (n : ℕ) (rows : List Row) → row_at id rows ≡ given_row id WithoutMinus (text ∷ []) → SpellsNumber text n → HasNumber rows id n
 small_row id text n rows is number = (text, ap (option_and_then row_text) is ∙ ap (λ (t : Text). Some t) (as_written text n number), number)
 
 -- a number, and the row that has it
@@ -101,7 +101,7 @@ pub record AsksWork (seeded : Bool) (found : List Row) (words : List Text) : Typ
   pub seeds : is_some work.seed ≡ seeded
   pub line : Line
   pub words_are : line_words line ≡ words
-  pub says : Says line work
+  pub says : SaysWork line work
   pub rows : HasWorkRows found work
 
 -- what a line and the rows at its end ask for

@@ -2,7 +2,7 @@
 use Rattle.std.proofs.Common.{◌≡◌, ◌∙◌, ap, arith, refl, subst, sym, true, false, ℕ, List, [], ◌∷◌, Bor}
 use Rattle.std.specs.Prelude.{All, is_some, length, Option, Some, None, ◌<◌, ◌≤◌, ◌^◌, IfSome}
 use Rattle.clap.specs.Kinds.{value_kinds}
-use Rattle.command_words.specs.Lines.{IsGiven, IsGivenAny, IsGivenOr, IsNumber, IsPlain, IsWholeWork, Line, Says, Setting, Work, following, line_words, seed, tries, values_of, workers}
+use Rattle.command_words.specs.Lines.{IsGiven, IsGivenAny, IsGivenOr, SpellsNumber, IsPlain, IsWholeWork, Line, SaysWork, Setting, Work, following, line_words, seed, tries, values_of, workers}
 use Rattle.command_words.specs.Words.{IsPlainWork, Text}
 use Rattle.command_words.proofs.LeafLemmas.{at, faults, start}
 use Rattle.command_words.proofs.LineEnds.{is_wanted, some_given}
@@ -17,7 +17,7 @@ use Rattle.command_words.proofs.WorkLeaf.{takes_tries, takes_workers, work_leaf,
 
 -- one number is fit
 fit_number : (options : List Setting) (s : Setting) (values : List Text) (n : ℕ) → Offers options s → IsGiven values n
-    → ((text : Text) → IsNumber text n → value_kinds false (values_by s) text ≡ []) → IsFitOnce options s values
+    → ((text : Text) → SpellsNumber text n → value_kinds false (values_by s) text ≡ []) → IsFitOnce options s values
 fit_number options s values n offered given taken = subst (IsFitOnce options s) (sym given.1) (offered, taken given.0 given.2)
 
 fit_tries : (options : List Setting) (values : List Text) (n : ℕ) → Offers options tries → IsGivenOr 3 values n → 1 ≤ n → n ≤ 100 → IsFitOnce options tries values
@@ -44,7 +44,7 @@ seed_plain values (Some n) given = number_plain values n given
 
 -- ---- what is asked for plainly
 
-module _ (line : Line) (w : Work) (says : Says line w) where
+module _ (line : Line) (w : Work) (says : SaysWork line w) where
   -- the values of the options are plain
   values_plain : HasPlainValues line
   values_plain workers = number_plain (values_of workers line) w.workers says.workers

@@ -75,12 +75,12 @@ IsClear (apart setting value rest) = IsClear rest
 IsClear (joined setting value rest) = IsClear rest
 
 -- the text is the number in decimal digits, with or without a `+` before them
-abbrev pub IsNumber : Text → ℕ → Type 0
-IsNumber text n = IsNumeral 10 (without_leading_plus text) × (digits_value 10 (without_leading_plus text) ≡ n)
+abbrev pub SpellsNumber : Text → ℕ → Type 0
+SpellsNumber text n = IsNumeral 10 (without_leading_plus text) × (digits_value 10 (without_leading_plus text) ≡ n)
 
 -- an option was given once, with this number
 abbrev pub IsGiven : List Text → ℕ → Type 0
-IsGiven values n = (text : Text) × (values ≡ text ∷ []) × IsNumber text n
+IsGiven values n = (text : Text) × (values ≡ text ∷ []) × SpellsNumber text n
 
 -- the same, or the option wasn't given and the number is this one
 abbrev pub IsGivenOr : ℕ → List Text → ℕ → Type 0
@@ -120,7 +120,7 @@ pub record IsWholeWork (w : Work) : Type 0 where
   pub seed : IfSome w.seed (λ s. s < 2 ^ 64)
 
 -- the line says it
-pub record Says (line : Line) (w : Work) : Type 0 where
+pub record SaysWork (line : Line) (w : Work) : Type 0 where
   pub clear : IsClear line
   pub operands : operands_of line ≡ w.jobs ∷ w.types
   pub workers : IsGiven (values_of workers line) w.workers
@@ -130,7 +130,7 @@ pub record Says (line : Line) (w : Work) : Type 0 where
 
 -- the words are those of a line that says it, after its command's name
 abbrev pub AreWorkWords : List Text → Work → Type 0
-AreWorkWords words w = (line : Line) × (words ≡ work_name w.seed ∷ line_words line) × Says line w
+AreWorkWords words w = (line : Line) × (words ≡ work_name w.seed ∷ line_words line) × SaysWork line w
 
 -- the histories that are to be audited
 pub record Audit : Type 0 where

@@ -2,17 +2,17 @@
 use Rattle.std.specs.Prelude.{◌≡◌, ◌==◌, ℕ, ◌<◌, ◌^◌, length, List, [], ◌∷◌, All, codes}
 use Rattle.std.specs.List.{after_first, before_first, position_or_len}
 use Rattle.clap.specs.Walk.{Text}
-use Rattle.command_words.specs.Lines.{IsNumber, IsPlain}
+use Rattle.command_words.specs.Lines.{SpellsNumber, IsPlain}
 
 -- the text has a comma
 abbrev pub HasComma : Text → Type 0
 HasComma text = position_or_len (λ b. b == 44) text < length text
 
 -- the text is these numbers, each below 2 ^ 32, with a comma between two
-pub data AreNumbers : Text → List ℕ → Type 0 where
-  one : (text : Text) (n : ℕ) → ¬ (HasComma text) → IsNumber text n → n < 2 ^ 32 → AreNumbers text (n ∷ [])
-  more : (text : Text) (n : ℕ) (ns : List ℕ) → HasComma text → IsNumber (before_first (λ b. b == 44) text) n → n < 2 ^ 32
-      → AreNumbers (after_first (λ b. b == 44) text) ns → AreNumbers text (n ∷ ns)
+pub data SpellsNumbers : Text → List ℕ → Type 0 where
+  one : (text : Text) (n : ℕ) → ¬ (HasComma text) → SpellsNumber text n → n < 2 ^ 32 → SpellsNumbers text (n ∷ [])
+  more : (text : Text) (n : ℕ) (ns : List ℕ) → HasComma text → SpellsNumber (before_first (λ b. b == 44) text) n → n < 2 ^ 32
+      → SpellsNumbers (after_first (λ b. b == 44) text) ns → SpellsNumbers text (n ∷ ns)
 
 -- a history that is to be audited in an order
 pub record Ordered : Type 0 where
@@ -27,6 +27,6 @@ pub record Ordered : Type 0 where
 pub record AreOrderedWords (words : List Text) (a : Ordered) : Type 0 where
   pub list : Text
   pub are : words ≡ codes "audit" ∷ codes "--order" ∷ list ∷ a.history ∷ a.types
-  pub order : AreNumbers list a.order
+  pub order : SpellsNumbers list a.order
   pub plain : IsPlain a.history × All IsPlain a.types
   pub some : 0 < length a.types

@@ -18,7 +18,7 @@ use Rattle.clap.specs.declared.builder.value_parser.Reading.TheVariants.{AsWritt
 use Rattle.clap.specs.declared.builder.value_parser.ValueParser.{ValueParser}
 use Rattle.clap.specs.declared.builder.value_parser.ValueParser.TheVariants as parser
 use Rattle.std.specs.Borrow.{Bor}
-use Rattle.command_words.specs.Lines.{Audit, IsNumber, IsWholeAudit, IsWholeWork, Setting, Work, following, seed, setting_name, tries, work_name, workers}
+use Rattle.command_words.specs.Lines.{Audit, SpellsNumber, IsWholeAudit, IsWholeWork, Setting, Work, following, seed, setting_name, tries, work_name, workers}
 use Rattle.command_words.specs.Words.{Asked, Order, Text}
 use Rattle.command_words.specs.Words as asked
 use Rattle.type_table.specs.Kind.{kind_word}
@@ -153,8 +153,8 @@ abbrev pub IsCommand : App → Command → Type 0
 IsCommand a command = ((out-Command command).has_globals ≡ false) × (app_of command ≡ a)
 
 -- the argument is read by this rule, and is one of its own command alone
-abbrev pub IsWord : Rule → Arg → Type 0
-IsWord rule word = (word.global ≡ false) × (rule_of word ≡ rule)
+abbrev pub IsReadByRule : Rule → Arg → Type 0
+IsReadByRule rule word = (word.global ≡ false) × (rule_of word ≡ rule)
 
 -- a parse of the words: its matches are those of the program, and its error has a cause in them or
 -- is that memory was refused
@@ -176,8 +176,8 @@ row_of id values = record {
 }
 
 -- the row of an argument that was given one value
-abbrev pub row : Text → Text → Row
-row id text = row_of id (text ∷ [])
+abbrev pub argument_row : Text → Text → Row
+argument_row id text = row_of id (text ∷ [])
 
 -- the row of an argument that was given any number of values, where there are any
 abbrev pub list_rows : Text → List Text → List Row
@@ -190,24 +190,24 @@ item_rows items = list_rows (codes "items") items
 
 -- the rows of a first file and of types
 abbrev pub store_rows : Text → List Text → List Row
-store_rows path types = row (codes "path") path ∷ list_rows (codes "types") types
+store_rows path types = argument_row (codes "path") path ∷ list_rows (codes "types") types
 
 -- the name and the rows of the subcommand that asks for this
-abbrev pub entry_of : Order → Text × List Row
-entry_of (asked.check kind path) =
-    (codes "check", row (codes "kind") (kind_word kind) ∷ row (codes "path") path ∷ [])
-entry_of (asked.explain kind path pair) =
-    (codes "explain", row (codes "kind") (kind_word kind) ∷ row (codes "path") path ∷ list_rows (codes "pair") (asked.pair_words pair))
-entry_of (asked.make family size items) =
-    (codes "make", row (codes "family") family ∷ row (codes "size") size ∷ item_rows items)
-entry_of (asked.tables path) = (codes "tables", row (codes "path") path ∷ [])
-entry_of (asked.run script types) = (codes "run", store_rows script types)
-entry_of (asked.create database objects types) = (codes "create", row (codes "database") database ∷ store_rows objects types)
-entry_of (asked.history database) = (codes "history", row (codes "path") database ∷ [])
+abbrev pub subcommand_of : Order → Text × List Row
+subcommand_of (asked.check kind path) =
+    (codes "check", argument_row (codes "kind") (kind_word kind) ∷ argument_row (codes "path") path ∷ [])
+subcommand_of (asked.explain kind path pair) =
+    (codes "explain", argument_row (codes "kind") (kind_word kind) ∷ argument_row (codes "path") path ∷ list_rows (codes "pair") (asked.pair_words pair))
+subcommand_of (asked.make family size items) =
+    (codes "make", argument_row (codes "family") family ∷ argument_row (codes "size") size ∷ item_rows items)
+subcommand_of (asked.tables path) = (codes "tables", argument_row (codes "path") path ∷ [])
+subcommand_of (asked.run script types) = (codes "run", store_rows script types)
+subcommand_of (asked.create database objects types) = (codes "create", argument_row (codes "database") database ∷ store_rows objects types)
+subcommand_of (asked.history database) = (codes "history", argument_row (codes "path") database ∷ [])
 
 -- an argument was given this number, or has it by default
 abbrev pub HasNumber : List Row → Text → ℕ → Type 0
-HasNumber rows id n = (text : Text) × (one_of id rows ≡ Some text) × IsNumber text n
+HasNumber rows id n = (text : Text) × (one_of id rows ≡ Some text) × SpellsNumber text n
 
 -- the rows are those of a first file and of types
 pub record HasStoreRows (rows : List Row) (file : Text) (files : List Text) : Type 0 where
@@ -230,22 +230,22 @@ pub record HasWorkRows (rows : List Row) (w : Work) : Type 0 where
 
 -- a subcommand's name and rows are those of what is asked for
 abbrev pub IsEntryOf : Option (Text × List Row) → Asked → Type 0
-IsEntryOf entry (asked.order o) = entry ≡ Some (entry_of o)
+IsEntryOf entry (asked.order o) = entry ≡ Some (subcommand_of o)
 IsEntryOf entry (asked.audit a) = (rows : List Row) × (entry ≡ Some (codes "audit", rows)) × HasAuditRows rows a
 IsEntryOf entry (asked.work w) = (rows : List Row) × (entry ≡ Some (work_name w.seed, rows)) × HasWorkRows rows w
 IsEntryOf entry text = ⊥
 
 -- the matches are those of the subcommand that asks for this
-abbrev pub Asks : ArgMatches → Asked → Type 0
-Asks matches asked = IsEntryOf (subcommand_rows_of matches) asked
+abbrev pub AreMatchesOf : ArgMatches → Asked → Type 0
+AreMatchesOf matches asked = IsEntryOf (subcommand_rows_of matches) asked
 
 -- the matches are those of a subcommand
 abbrev pub AskSomething : ArgMatches → Type 0
-AskSomething matches = (a : Asked) × Asks matches a
+AskSomething matches = (a : Asked) × AreMatchesOf matches a
 
 -- the rows of these matches are those of what is asked for
 abbrev pub HasRows : ArgMatches → Order → Type 0
-HasRows values o = rows_of (found_of values) ≡ (entry_of o).1
+HasRows values o = rows_of (found_of values) ≡ (subcommand_of o).1
 
 -- the rows of these matches are those of histories that are to be audited
 abbrev pub HasAudit : ArgMatches → Audit → Type 0

@@ -3,7 +3,7 @@ use Rattle.std.specs.Prelude.{◌≡◌, ℕ, ◌<◌, ◌^◌, Bool, true, fals
 use Rattle.clap.specs.Walk.{Text}
 use Rattle.std.specs.Borrow.{Bor}
 use Rattle.command_words.specs.declared.serve.Parts.{Parts as Found}
-use Rattle.command_words.specs.Lines.{IsNumber, IsPlain}
+use Rattle.command_words.specs.Lines.{SpellsNumber, IsPlain}
 
 -- how a store is to be served
 pub record Serve : Type 0 where
@@ -17,31 +17,31 @@ pub record Serve : Type 0 where
   pub drain : ℕ
 
 -- what some of the words say of it
-pub record Parts : Type 0 where
+pub record ServeParts : Type 0 where
   pub database : Option Text
   pub fast : Bool
   pub archive : Option Text
   pub drain : Option ℕ
 
 -- nothing of it
-abbrev pub no_parts : Parts
+abbrev pub no_parts : ServeParts
 no_parts = record { database = None; fast = false; archive = None; drain = None }
 
 -- the words say these parts, each at most once: `--fast`, `--archive FOLDER`, `--drain S`, DATABASE or `-- DATABASE`, which may then begin with a hyphen
-pub data Say : List Text → Parts → Type 0 where
+pub data Say : List Text → ServeParts → Type 0 where
   nothing : Say [] no_parts
-  fast : (rest : List Text) (p : Parts) → Say rest p → p.fast ≡ false → Say (codes "--fast" ∷ rest) (record p { fast = true })
-  archive : (folder : Text) (rest : List Text) (p : Parts)
+  fast : (rest : List Text) (p : ServeParts) → Say rest p → p.fast ≡ false → Say (codes "--fast" ∷ rest) (record p { fast = true })
+  archive : (folder : Text) (rest : List Text) (p : ServeParts)
       → Say rest p → p.archive ≡ None → Say (codes "--archive" ∷ folder ∷ rest) (record p { archive = Some folder })
-  drain : (text : Text) (n : ℕ) (rest : List Text) (p : Parts)
-      → Say rest p → p.drain ≡ None → IsNumber text n → n < 2 ^ 32 → Say (codes "--drain" ∷ text ∷ rest) (record p { drain = Some n })
-  database : (path : Text) (rest : List Text) (p : Parts)
+  drain : (text : Text) (n : ℕ) (rest : List Text) (p : ServeParts)
+      → Say rest p → p.drain ≡ None → SpellsNumber text n → n < 2 ^ 32 → Say (codes "--drain" ∷ text ∷ rest) (record p { drain = Some n })
+  database : (path : Text) (rest : List Text) (p : ServeParts)
       → Say rest p → p.database ≡ None → IsPlain path → Say (path ∷ rest) (record p { database = Some path })
-  dashes : (path : Text) (rest : List Text) (p : Parts)
+  dashes : (path : Text) (rest : List Text) (p : ServeParts)
       → Say rest p → p.database ≡ None → Say (codes "--" ∷ path ∷ rest) (record p { database = Some path })
 
 -- with the path of the store they are whole, and what is open has five seconds where they don't say how many
-pub record AreWhole (p : Parts) (s : Serve) : Type 0 where
+pub record AreWhole (p : ServeParts) (s : Serve) : Type 0 where
   pub database : p.database ≡ Some s.database
   pub fast : p.fast ≡ s.fast
   pub archive : p.archive ≡ s.archive
@@ -49,7 +49,7 @@ pub record AreWhole (p : Parts) (s : Serve) : Type 0 where
 
 -- the words after `serve` say it
 pub record SayServe (rest : List Text) (s : Serve) : Type 0 where
-  pub parts : Parts
+  pub parts : ServeParts
   pub say : Say rest parts
   pub whole : AreWhole parts s
 
@@ -60,5 +60,5 @@ AreServeWords words s = (rest : List Text) × (words ≡ codes "serve" ∷ rest)
 -- ---- inside the reader
 
 -- what these parts say
-abbrev pub said_by : Found → Parts
+abbrev pub said_by : Found → ServeParts
 said_by p = record { database = option_map (λ (path : Bor Text). path.now) p.database; fast = p.fast; archive = option_map (λ (folder : Bor Text). folder.now) p.archive; drain = p.drain }

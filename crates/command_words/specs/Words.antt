@@ -70,10 +70,10 @@ order_words (create database objects types) = codes "create" ∷ database ∷ ob
 order_words (history database) = codes "history" ∷ database ∷ []
 
 -- it has the operands that it can't be without: at least one TYPE
-abbrev pub IsWhole : Order → Type 0
-IsWhole (run script types) = 0 < length types
-IsWhole (create database objects types) = 0 < length types
-IsWhole o = ⊤
+abbrev pub HasOperands : Order → Type 0
+HasOperands (run script types) = 0 < length types
+HasOperands (create database objects types) = 0 < length types
+HasOperands o = ⊤
 
 -- the words of a call for help
 abbrev pub help_words : Topic → List Text
@@ -137,7 +137,7 @@ without_dashes (word ∷ rest) =
 
 -- the words ask for it, where those of a command are whole, and may have one `--` among them
 abbrev pub AskFor : List Text → Asked → Type 0
-AskFor words (order o) = IsWhole o × (without_dashes words ≡ order_words o)
+AskFor words (order o) = HasOperands o × (without_dashes words ≡ order_words o)
 AskFor words (audit a) = IsWholeAudit a × AreAuditWords words a
 AskFor words (work w) = IsWholeWork w × AreWorkWords words w
 AskFor words asked = AreFor words asked
@@ -158,7 +158,7 @@ HasPlainWords (history database) = IsPlain database
 
 -- the same, and it is whole
 abbrev pub IsPlainOrder : Order → Type 0
-IsPlainOrder o = IsWhole o × HasPlainWords o
+IsPlainOrder o = HasOperands o × HasPlainWords o
 
 -- the same, of the histories that are to be audited
 abbrev pub IsPlainAudit : Audit → Type 0

@@ -5,7 +5,7 @@ ghost use Rattle.command_words.specs.Help.{EndsLine, text_of_topic};
 use crate::Topic;
 
 /// The line that `--version` writes.
-pub const VERSION: &str = "colock 0.1.0\n";
+pub const VERSION: &str = "colock 0.2.0\n";
 
 pub(crate) const PROGRAM: &str = "\
 colock checks and makes conflict tables, by which a store locks the operations

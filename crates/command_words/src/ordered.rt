@@ -2,7 +2,7 @@
 ghost use Rattle.std.specs.Prelude.{◌≡◌, ◌∷◌, ℕ, List, true, false, All, codes, IfNone, IfOk, IfSome, MatchOption};
 ghost use Rattle.clap.specs.Walk.{texts};
 ghost use Rattle.command_words.specs.Lines.{IsPlain};
-ghost use Rattle.command_words.specs.Ordered.{AreNumbers, AreOrderedWords, Ordered};
+ghost use Rattle.command_words.specs.Ordered.{SpellsNumbers, AreOrderedWords, Ordered};
 ghost use Rattle.command_words.specs.Words.{asked_of};
 ghost use Rattle.command_words.specs.Words as asked;
 
@@ -65,7 +65,7 @@ fn are_plain(words: &[&str]) -> bool
 
 /// The numbers of a text, with a comma between two.
 fn numbers_of(alloc: Global, text: &str) -> Result<Option<Vec<u32>>, AllocError>
-    ensures { IfOk result (λ found. MatchOption found ((ns : List ℕ) → ¬ (AreNumbers text.now ns)) (λ v. AreNumbers text.now v.items)) }
+    ensures { IfOk result (λ found. MatchOption found ((ns : List ℕ) → ¬ (SpellsNumbers text.now ns)) (λ v. SpellsNumbers text.now v.items)) }
 {
     let mut numbers = Vec::new(alloc);
     let mut rest = text;

@@ -3,7 +3,7 @@ ghost use Rattle.std.specs.Prelude.{◌≡◌, IfOk};
 ghost use Rattle.clap.specs.Simple.{App, app_of, with_rule, with_subcommand};
 ghost use Rattle.clap.specs.Walk.{Rule, texts};
 ghost use Rattle.clap.specs.declared.builder.value_parser.ValueParser.TheVariants as parser;
-ghost use Rattle.command_words.specs.Program.{IsCommand, IsWord, ReadsKinds, audit_app, check_app, create_app, explain_app, file_app, items_rule, kind_app, kind_rule, kind_words, make_app, pair_rule, program, script_program, seed_rule, store_app, stress_app, then_rule, tries_rule, type_program, types_rule, wanted_rule, work_app, workers_app, workers_rule};
+ghost use Rattle.command_words.specs.Program.{IsCommand, IsReadByRule, ReadsKinds, audit_app, check_app, create_app, explain_app, file_app, items_rule, kind_app, kind_rule, kind_words, make_app, pair_rule, program, script_program, seed_rule, store_app, stress_app, then_rule, tries_rule, type_program, types_rule, wanted_rule, work_app, workers_app, workers_rule};
 
 use crate::Topic;
 use clap::{Arg, ArgAction, Command, value_parser};
@@ -166,7 +166,7 @@ fn with_word<'a>(
     command: Result<Command<'a>, AllocError>,
     word: Arg<'a>,
 ) -> Result<Command<'a>, AllocError>
-    ensures { (a : App) (rule : Rule) → IfOk command.entry (IsCommand a) → IsWord rule word.entry
+    ensures { (a : App) (rule : Rule) → IfOk command.entry (IsCommand a) → IsReadByRule rule word.entry
         → IfOk result (IsCommand (with_rule a rule)) }
 {
     command?.arg(word)
@@ -174,7 +174,7 @@ fn with_word<'a>(
 
 /// A word that has to be there.
 fn wanted<'a>(alloc: Global, id: &'a str, shown: &'a str) -> Arg<'a>
-    ensures { IsWord (wanted_rule id.entry.now) result }
+    ensures { IsReadByRule (wanted_rule id.entry.now) result }
 {
     Arg::new(alloc, id).required(true).value_name(shown)
 }
@@ -187,19 +187,19 @@ fn kind_words<'a>() -> &'a [&'a str]
 }
 
 fn kind_arg<'a>(alloc: Global, kinds: &'a [&'a str]) -> Arg<'a>
-    ensures { IsWord (kind_rule (parser.Names kinds.entry)) result }
+    ensures { IsReadByRule (kind_rule (parser.Names kinds.entry)) result }
 {
     wanted(alloc, "kind", "KIND").value_parser(kinds)
 }
 
 fn pair_arg<'a>(alloc: Global) -> Arg<'a>
-    ensures { IsWord pair_rule result }
+    ensures { IsReadByRule pair_rule result }
 {
     Arg::new(alloc, "pair").value_names(PAIR.as_slice())
 }
 
 fn items_arg<'a>(alloc: Global) -> Arg<'a>
-    ensures { IsWord items_rule result }
+    ensures { IsReadByRule items_rule result }
 {
     Arg::new(alloc, "items")
         .action(ArgAction::Append)
@@ -207,7 +207,7 @@ fn items_arg<'a>(alloc: Global) -> Arg<'a>
 }
 
 fn types_arg<'a>(alloc: Global) -> Arg<'a>
-    ensures { IsWord types_rule result }
+    ensures { IsReadByRule types_rule result }
 {
     Arg::new(alloc, "types")
         .required(true)
@@ -216,7 +216,7 @@ fn types_arg<'a>(alloc: Global) -> Arg<'a>
 }
 
 fn then_arg<'a>(alloc: Global) -> Arg<'a>
-    ensures { IsWord then_rule result }
+    ensures { IsReadByRule then_rule result }
 {
     Arg::new(alloc, "then")
         .long("then")
@@ -225,7 +225,7 @@ fn then_arg<'a>(alloc: Global) -> Arg<'a>
 }
 
 fn workers_arg<'a>(alloc: Global) -> Arg<'a>
-    ensures { IsWord workers_rule result }
+    ensures { IsReadByRule workers_rule result }
 {
     Arg::new(alloc, "workers")
         .long("workers")
@@ -235,7 +235,7 @@ fn workers_arg<'a>(alloc: Global) -> Arg<'a>
 }
 
 fn tries_arg<'a>(alloc: Global) -> Arg<'a>
-    ensures { IsWord tries_rule result }
+    ensures { IsReadByRule tries_rule result }
 {
     Arg::new(alloc, "tries")
         .long("tries")
@@ -245,7 +245,7 @@ fn tries_arg<'a>(alloc: Global) -> Arg<'a>
 }
 
 fn seed_arg<'a>(alloc: Global) -> Arg<'a>
-    ensures { IsWord seed_rule result }
+    ensures { IsReadByRule seed_rule result }
 {
     Arg::new(alloc, "seed")
         .long("seed")

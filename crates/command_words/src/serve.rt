@@ -1,8 +1,8 @@
 //! The words of `serve`.
 ghost use Rattle.std.specs.Prelude.{◌≡◌, ◌<◌, ◌^◌, ℕ, Some, None, true, false, IfOk, IfErr, IfNone, IfSome, IsSome};
 ghost use Rattle.clap.specs.Walk.{texts};
-ghost use Rattle.command_words.specs.Lines.{IsNumber, IsPlain};
-ghost use Rattle.command_words.specs.Serve.{AreWhole, Parts as Said, Say, SayServe, Serve, said_by};
+ghost use Rattle.command_words.specs.Lines.{SpellsNumber, IsPlain};
+ghost use Rattle.command_words.specs.Serve.{AreWhole, ServeParts, Say, SayServe, Serve, said_by};
 ghost use Rattle.command_words.specs.declared.serve.Parts.{Parts as Found};
 ghost use Rattle.command_words.specs.Words.{OnUsage, asked_of};
 ghost use Rattle.command_words.specs.Words as asked;
@@ -71,7 +71,7 @@ fn task_of(parts: Parts<'_>) -> Option<Task<'_>>
 /// What the words say, in any order.
 fn parts_of<'a>(words: &[&'a str]) -> Option<Parts<'a>>
     ensures said { IfSome result (λ p. Say (texts words.now) (said_by p)) }
-    ensures other { IfNone result ((p : Said) → ¬ (Say (texts words.now) p)) }
+    ensures other { IfNone result ((p : ServeParts) → ¬ (Say (texts words.now) p)) }
 {
     let Some((word, behind)) = words.split_first() else {
         return Some(Parts {
@@ -144,8 +144,8 @@ fn with_archive<'a>(folder: &'a str, parts: Option<Parts<'a>>) -> Option<Parts<'
 
 /// The same, with these seconds to drain.
 fn with_drain<'a>(seconds: &str, parts: Option<Parts<'a>>) -> Option<Parts<'a>>
-    ensures said { IfSome result (λ p. (q : Found) × (n : ℕ) × (parts.entry ≡ Some q) × (q.drain ≡ None) × IsNumber seconds.now n × (n < 2 ^ 32) × (p ≡ record q { drain = Some n })) }
-    ensures other { IfNone result (IfSome parts.entry (λ q. q.drain ≡ None → (n : ℕ) → n < 2 ^ 32 → ¬ (IsNumber seconds.now n))) }
+    ensures said { IfSome result (λ p. (q : Found) × (n : ℕ) × (parts.entry ≡ Some q) × (q.drain ≡ None) × SpellsNumber seconds.now n × (n < 2 ^ 32) × (p ≡ record q { drain = Some n })) }
+    ensures other { IfNone result (IfSome parts.entry (λ q. q.drain ≡ None → (n : ℕ) → n < 2 ^ 32 → ¬ (SpellsNumber seconds.now n))) }
 {
     match parts {
         Some(
@@ -167,8 +167,8 @@ fn with_drain<'a>(seconds: &str, parts: Option<Parts<'a>>) -> Option<Parts<'a>>
 
 /// The number of a text.
 pub(crate) fn number_of(text: &str) -> Option<u32>
-    ensures number { IfSome result (IsNumber text.now) }
-    ensures other { IfNone result ((n : ℕ) → n < 2 ^ 32 → ¬ (IsNumber text.now n)) }
+    ensures number { IfSome result (SpellsNumber text.now) }
+    ensures other { IfNone result ((n : ℕ) → n < 2 ^ 32 → ¬ (SpellsNumber text.now n)) }
 {
     text.parse().ok()
 }

@@ -3,7 +3,7 @@ ghost use Rattle.std.specs.Prelude.{◌≡◌, ◌≢◌, ◌<◌, ℕ, List, []
 ghost use Rattle.clap.specs.Words.{found_of, kind_of, rows_of};
 ghost use Rattle.clap.specs.Walk.{all_of, first_of, texts};
 ghost use Rattle.clap.specs.declared.parser.matches.ArgMatches.{ArgMatches};
-ghost use Rattle.command_words.specs.Program.{AskSomething, Asks, HasAudit, HasNumber, HasRows, HasStoreRows, HasWork, Parses};
+ghost use Rattle.command_words.specs.Program.{AskSomething, AreMatchesOf, HasAudit, HasNumber, HasRows, HasStoreRows, HasWork, Parses};
 ghost use Rattle.command_words.specs.declared.task.Topic.{Topic};
 ghost use Rattle.type_table.specs.Kind.{kind_word};
 ghost use Rattle.type_table.specs.declared.kind.Kind.{Kind};
@@ -121,7 +121,7 @@ fn parsed<'a>(alloc: Global, words: &'a [&'a str]) -> Result<ArgMatches<'a>, Err
 /// The task of matches that are those of a subcommand.
 fn task_of<'a>(alloc: Global, matches: &ArgMatches<'a>) -> Result<Task<'a>, AllocError>
     requires { AskSomething matches.now }
-    ensures { (a : Asked) → Asks matches.now a → IfOk result (λ task. asked_of task ≡ a) }
+    ensures { (a : Asked) → AreMatchesOf matches.now a → IfOk result (λ task. asked_of task ≡ a) }
 {
     let (name, values) = matches.subcommand().unwrap();
     match name {

@@ -3,7 +3,7 @@ use Rattle.std.proofs.Common.{◌≡◌, ◌∙◌, ◌⊎◌, true, false, Bool
 use Rattle.std.proofs.Math.Seq.{take-length}
 use Rattle.std.specs.Prelude.{OnOk}
 use Rattle.std.specs.Io.KnownBytes.{Appends, append_known}
-use Rattle.command_files.specs.Answers.{ComesOr, Refuses}
+use Rattle.command_files.specs.Answers.{ComesOr, IsEarlyFault}
 use Rattle.command_files.specs.Status.{is_input, status_at, status_of}
 use Rattle.command_files.specs.declared.fault.Fault.{Fault}
 use Rattle.command_files.specs.declared.fault.Fault.TheVariants.{Usage, Text, NoType, NeedsEscrow, ObjectNeedsEscrow, OtherObjects, Order, HasEvents, BadParameter, TooLarge, CannotRead, Database, NoStore, NoMemory, Output}
@@ -13,9 +13,9 @@ use Rattle.command_files.specs.declared.status.Verdict.{Verdict}
 use Rattle.command_files.specs.declared.status.Verdict.TheVariants as verdict
 use Rattle.command_words.specs.Words.{AreNoTask, AreWordsOf}
 use Rattle.command_words.specs.declared.task.Task.{Task}
-use Rattle.commands.specs.Concluded.{Concludes, IsBegun, IsHandedOn}
+use Rattle.commands.specs.Concluded.{Concludes, IsPartHandedOn, IsHandedOn}
 use Rattle.command_words.specs.declared.task.Task.TheVariants as task
-use Rattle.commands.specs.Doing.{Answer, Begun, Does, DoesNothing, DoesTask, DoesWords, IsAmiss, IsToServe, PassesOn, Says, SaysOfServing, Shown, Started, Written}
+use Rattle.commands.specs.Program.{Answer, Begun, Does, DoesNothing, DoesTask, DoesWords, IsAmiss, IsToServe, PassesOn, SaysOnError, SaysOfServing, Shown, Started, Written}
 use Rattle.serve_command.proofs.Unsaid.{nothing_said}
 use Rattle.serve_command.specs.Found.{SaysFound}
 use Rattle.serve_command.specs.Served.{ComesOfServing}
@@ -43,7 +43,7 @@ handed_on (Some xs) (Some ys) None text more kept = absurd kept
 handed_on (Some xs) (Some ys) (Some zs) text more kept = kept ∙ more ∙ ap (λ (front : List ℕ). front ++ text) (append-nil xs)
 
 -- or a beginning of it was, where the output had nothing
-pub begun : (old gathered new : Option (List ℕ)) (text : List ℕ) → IfSome old (λ xs. xs ≡ []) → Appends (append_known old []) gathered text → IsBegun gathered new
+pub begun : (old gathered new : Option (List ℕ)) (text : List ℕ) → IfSome old (λ xs. xs ≡ []) → Appends (append_known old []) gathered text → IsPartHandedOn gathered new
     → (n : ℕ) × Appends old new (take n text)
 begun None gathered new text nothing more part = (zero, tt)
 begun (Some xs) None new text nothing more part = absurd more
@@ -59,7 +59,7 @@ stayed None gathered same = tt
 stayed (Some xs) gathered same = subst (λ (g : Option (List ℕ)). Appends (append_known (Some xs) []) g []) (sym same) (sym (append-nil (xs ++ [])))
 
 -- a beginning of nothing is nothing
-begun_nothing : (old gathered new : Option (List ℕ)) → IfSome old (λ xs. xs ≡ []) → Appends (append_known old []) gathered [] → IsBegun gathered new → Appends old new []
+begun_nothing : (old gathered new : Option (List ℕ)) → IfSome old (λ xs. xs ≡ []) → Appends (append_known old []) gathered [] → IsPartHandedOn gathered new → Appends old new []
 begun_nothing old gathered new nothing more part =
     let b = begun old gathered new [] nothing more part in
     subst (λ (bytes : List ℕ). Appends old new bytes) (take_none b.0) b.1
@@ -85,7 +85,7 @@ may_be_amiss given task.Version is = absurd is
 -- ---- standard error
 
 -- what is said of a task that has an answer
-unchanged : (given : Shown) (task : Task) (err : Option (List ℕ)) → Says given task err err
+unchanged : (given : Shown) (task : Task) (err : Option (List ℕ)) → SaysOnError given task err err
 unchanged given (task.Check kind path) err = refl
 unchanged given (task.Explain kind path pair) err = refl
 unchanged given (task.Make family size items) err = refl
@@ -102,7 +102,7 @@ unchanged given (task.AuditDatabase database) err = refl
 unchanged given (task.Help topic) err = refl
 unchanged given task.Version err = refl
 
-of_serving : (given : Shown) (task : Task) (v : Verdict) (err new_err : Option (List ℕ)) → SaysOfServing given task (Ok v) err new_err → Says given task err new_err
+of_serving : (given : Shown) (task : Task) (v : Verdict) (err new_err : Option (List ℕ)) → SaysOfServing given task (Ok v) err new_err → SaysOnError given task err new_err
 of_serving given (task.Check kind path) v err new_err says = absurd says
 of_serving given (task.Explain kind path pair) v err new_err says = absurd says
 of_serving given (task.Make family size items) v err new_err says = absurd says
@@ -125,9 +125,9 @@ pub served : (given : Shown) (database : Bor (List ℕ)) (fast : Bool) (archive 
 served given database fast archive drain (Ok v) err new_err says = inr says
 served given database fast archive drain (Err fault) err new_err says = inr tt
 
-passed_on : (given : Shown) (task : Task) (answer : Result Verdict Fault) (err new_err : Option (List ℕ)) → PassesOn given task answer err new_err → OnOk answer (Says given task err new_err)
+passed_on : (given : Shown) (task : Task) (answer : Result Verdict Fault) (err new_err : Option (List ℕ)) → PassesOn given task answer err new_err → OnOk answer (SaysOnError given task err new_err)
 passed_on given task (Ok v) err new_err passes = elim passes [
-  | inl same ↦ subst (Says given task err) (sym same) (unchanged given task err)
+  | inl same ↦ subst (SaysOnError given task err) (sym same) (unchanged given task err)
   | inr says ↦ of_serving given task v err new_err says
 ]
 passed_on given task (Err fault) err new_err passes = tt
@@ -146,7 +146,7 @@ module _ (old gathered new err new_err : Option (List ℕ)) (status : Status) (n
   )
 
   -- and the status says that what was given is amiss, or that the program failed
-  amiss_or_failed : (bad : Type 0) (fault : Fault) → Refuses bad fault → (status ≡ status_of fault) ⊎ (status ≡ Failed) → ((status ≡ BadInput) × bad) ⊎ (status ≡ Failed)
+  amiss_or_failed : (bad : Type 0) (fault : Fault) → IsEarlyFault bad fault → (status ≡ status_of fault) ⊎ (status ≡ Failed) → ((status ≡ BadInput) × bad) ⊎ (status ≡ Failed)
   amiss_or_failed bad (Usage text) refused which = ⊎_elim (λ is. inl (is, refused)) (λ is. inr is) which
   amiss_or_failed bad (Text path fault) refused which = ⊎_elim (λ is. inl (is, refused)) (λ is. inr is) which
   amiss_or_failed bad (NoType path x place) refused which = ⊎_elim (λ is. inl (is, refused)) (λ is. inr is) which
@@ -163,7 +163,7 @@ module _ (old gathered new err new_err : Option (List ℕ)) (status : Status) (n
   amiss_or_failed bad NoMemory refused which = ⊎_elim (λ is. inr is) (λ is. inr is) which
   amiss_or_failed bad Output refused which = absurd refused
 
-  pub refuses_words : (bad : Type 0) (fault : Fault) → Refuses bad fault → gathered ≡ append_known old [] → Concludes (Err fault) gathered status new err new_err
+  pub refuses_words : (bad : Type 0) (fault : Fault) → IsEarlyFault bad fault → gathered ≡ append_known old [] → Concludes (Err fault) gathered status new err new_err
       → (((status ≡ BadInput) × bad) ⊎ (status ≡ Failed)) × Appends old new []
   refuses_words bad fault refused same ended =
       let none = does_nothing fault same ended in
@@ -178,7 +178,7 @@ module _ (old gathered new err new_err : Option (List ℕ)) (status : Status) (n
     Comes answer = ComesOr (Written given task) (Begun given task) (Answer given task) (IsAmiss given task) answer (append_known old []) gathered
 
     -- the program failed after a text, of which the output took a beginning or the whole
-    failed_behind : (text : List ℕ) → Started given task text → Appends (append_known old []) gathered text → IsBegun gathered new → Ends Failed
+    failed_behind : (text : List ℕ) → Started given task text → Appends (append_known old []) gathered text → IsPartHandedOn gathered new → Ends Failed
     failed_behind text started more part = let b = begun old gathered new text nothing more part in inr (text, b.0, started, b.1)
 
     failed_whole : (text : List ℕ) → Started given task text → Appends (append_known old []) gathered text → IsHandedOn gathered new → Ends Failed
@@ -186,12 +186,12 @@ module _ (old gathered new err new_err : Option (List ℕ)) (status : Status) (n
         inr (text, length text, started, subst (λ (bytes : List ℕ). Appends old new bytes) (sym (take-length text)) (handed_on old gathered new text more all))
 
     -- of an answer
-    answered : (v : Verdict) → Says given task first err → Comes (Ok v) → Concludes (Ok v) gathered status new err new_err → Ends status
+    answered : (v : Verdict) → SaysOnError given task first err → Comes (Ok v) → Concludes (Ok v) gathered status new err new_err → Ends status
     answered verdict.Yes says c ended =
-        ⊎_elim (λ all. subst Ends (sym all.0) (c.0, c.1, handed_on old gathered new c.0 c.2 all.1, subst (Says given task first) (sym all.2) says))
+        ⊎_elim (λ all. subst Ends (sym all.0) (c.0, c.1, handed_on old gathered new c.0 c.2 all.1, subst (SaysOnError given task first) (sym all.2) says))
         (λ part. subst Ends (sym part.0) (failed_behind c.0 (inl (verdict.Yes, c.1)) c.2 part.1)) ended
     answered verdict.No says c ended =
-        ⊎_elim (λ all. subst Ends (sym all.0) (c.0, c.1, handed_on old gathered new c.0 c.2 all.1, subst (Says given task first) (sym all.2) says))
+        ⊎_elim (λ all. subst Ends (sym all.0) (c.0, c.1, handed_on old gathered new c.0 c.2 all.1, subst (SaysOnError given task first) (sym all.2) says))
         (λ part. subst Ends (sym part.0) (failed_behind c.0 (inl (verdict.No, c.1)) c.2 part.1)) ended
 
     -- of a fault of what the user gave
@@ -225,7 +225,7 @@ module _ (old gathered new err new_err : Option (List ℕ)) (status : Status) (n
         ⊎_elim (λ all. subst Ends (sym (all.0 ∙ is_failed)) (inr (text, n, started, handed_on old gathered new (take n text) more all.1)))
         (λ part. subst Ends (sym part.0) (shorter text n started (begun old gathered new (take n text) nothing more part.1))) ended
 
-    pub does : (answer : Result Verdict Fault) → OnOk answer (Says given task first err) → Comes answer → Concludes answer gathered status new err new_err → Ends status
+    pub does : (answer : Result Verdict Fault) → OnOk answer (SaysOnError given task first err) → Comes answer → Concludes answer gathered status new err new_err → Ends status
     does (Ok v) says c ended = answered v says c ended
     does (Err (Usage text)) says c ended = amiss (Usage text) refl c ended
     does (Err (Text path fault)) says c ended = amiss (Text path fault) refl c ended
@@ -256,7 +256,7 @@ module _ (old gathered new err new_err : Option (List ℕ)) (status : Status) (n
           | false ↦ λ is. failed fault (ap status_at is) same ended
         ] refl
 
-    pub serves : (answer : Result Verdict Fault) → OnOk answer (Says given task first err) → IsAmiss given task → Serves answer → Concludes answer gathered status new err new_err → Ends status
+    pub serves : (answer : Result Verdict Fault) → OnOk answer (SaysOnError given task first err) → IsAmiss given task → Serves answer → Concludes answer gathered status new err new_err → Ends status
     serves (Ok v) says bad c ended = answered v says c ended
     serves (Err fault) says bad c ended = elim c [
       | inl same ↦ silent_fault fault bad same ended
@@ -279,7 +279,7 @@ same_words old new err new_err status given words words' same done = subst (λ (
 
 -- the words are no task's, or memory was refused for them
 pub refused_words : (old new err new_err : Option (List ℕ)) (status : Status) (waits : List ℕ) (given : Shown) (words : List (List ℕ)) (fault : Fault) → IfSome old (λ xs. xs ≡ []) → waits ≡ []
-    → Refuses (AreNoTask words) fault → Concludes (Err fault) (append_known old waits) status new err new_err → DoesWords given words status old new err new_err
+    → IsEarlyFault (AreNoTask words) fault → Concludes (Err fault) (append_known old waits) status new err new_err → DoesWords given words status old new err new_err
 refused_words old new err new_err status waits given words fault nothing none refused ended =
     inr (refuses_words old (append_known old []) new err new_err status nothing (AreNoTask words) fault refused refl
     (subst (λ (b : List ℕ). Concludes (Err fault) (append_known old b) status new err new_err) none ended))

@@ -12,12 +12,12 @@ abbrev pub IsHandedOn : Option (List ℕ) → Option (List ℕ) → Type 0
 IsHandedOn gathered took = Keeps gathered took
 
 -- a beginning of it was handed on
-abbrev pub IsBegun : Option (List ℕ) → Option (List ℕ) → Type 0
-IsBegun gathered took = (rest : List ℕ) × Keeps gathered (append_known took rest)
+abbrev pub IsPartHandedOn : Option (List ℕ) → Option (List ℕ) → Type 0
+IsPartHandedOn gathered took = (rest : List ℕ) × Keeps gathered (append_known took rest)
 
 -- an answer has its status, all was handed on, and standard error took nothing; a fault has its status; or the program failed, and a
 -- beginning was handed on
 abbrev pub Concludes : Result Verdict Fault → Option (List ℕ) → Status → Option (List ℕ) → Option (List ℕ) → Option (List ℕ) → Type 0
 Concludes (Ok verdict) gathered status took err new_err =
-    ((status ≡ status_of_verdict verdict) × IsHandedOn gathered took × (new_err ≡ err)) ⊎ ((status ≡ Failed) × IsBegun gathered took)
-Concludes (Err fault) gathered status took err new_err = ((status ≡ status_of fault) × IsHandedOn gathered took) ⊎ ((status ≡ Failed) × IsBegun gathered took)
+    ((status ≡ status_of_verdict verdict) × IsHandedOn gathered took × (new_err ≡ err)) ⊎ ((status ≡ Failed) × IsPartHandedOn gathered took)
+Concludes (Err fault) gathered status took err new_err = ((status ≡ status_of fault) × IsHandedOn gathered took) ⊎ ((status ≡ Failed) × IsPartHandedOn gathered took)

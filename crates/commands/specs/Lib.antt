@@ -1,3 +1,3 @@
 pub mod Concluded
-pub mod Doing
+pub mod Program
 pub mod Words

@@ -13,35 +13,35 @@ use Rattle.history_audit.specs.declared.outcome.AuditFault.TheVariants.{BadEvent
 use Rattle.sqlite_trees.specs.Tree.{Trees}
 use Rattle.journal.specs.Contents.{Contents}
 use Rattle.durable_store.specs.Types.{HasTypes}
-use Rattle.durable_store.specs.Durable.{events}
+use Rattle.durable_store.specs.Durable.{events_of_kinds}
 use Rattle.command_files.specs.declared.status.Verdict.{Verdict}
 use Rattle.command_files.specs.declared.status.Verdict.TheVariants.{Yes, No}
-use Rattle.store_commands.specs.Passing.{table_of}
+use Rattle.store_commands.specs.StoreAudit.{table_of_checked}
 use Rattle.store_commands.proofs.Passed.{tables_of_types}
-use Rattle.database_commands.specs.Audited.{Audits, IsAuditOf, IsVerdictOf, tables}
+use Rattle.database_commands.specs.Audited.{AuditsContents, IsAuditOfContents, IsVerdictOf, checked_tables}
 
 -- the text of an audit is its lines
 pub is_audit : {A : Type 0} (c : Contents) (types : List (Arc Checked A)) (happened : List Event) (outcome : Result Audit AuditFault) (lines : List ℕ) → HasTypes c (map value_of types)
-    → happened ≡ events c.events → history.Audits (map table_of types) happened outcome → lines ≡ audit_text outcome → IsAuditOf c outcome lines
+    → happened ≡ events_of_kinds c.events → history.Audits (map table_of_checked types) happened outcome → lines ≡ audit_text outcome → IsAuditOfContents c outcome lines
 is_audit c types happened outcome lines are same audits is = record {
   types = map value_of types;
   are = are;
-  audits = subst (λ (es : List Event). history.Audits (tables (map value_of types)) es outcome) same (subst (λ (ts : List Table). history.Audits ts happened outcome) (sym (tables_of_types types)) audits);
+  audits = subst (λ (es : List Event). history.Audits (checked_tables (map value_of types)) es outcome) same (subst (λ (ts : List Table). history.Audits ts happened outcome) (sym (tables_of_types types)) audits);
   is = is;
 }
 
 -- and its answer the verdict's
-pub says : (c : Contents) (outcome : Result Audit AuditFault) (lines : List ℕ) → IsAuditOf c outcome lines → (v : Verdict) (text : List ℕ) → IsVerdictOf outcome v → text ≡ lines → Audits c v text
-says c (Ok audit) lines is Yes text of same = (audit, subst (λ (t : List ℕ). IsAuditOf c (Ok audit) t) (sym same) is)
+pub says : (c : Contents) (outcome : Result Audit AuditFault) (lines : List ℕ) → IsAuditOfContents c outcome lines → (v : Verdict) (text : List ℕ) → IsVerdictOf outcome v → text ≡ lines → AuditsContents c v text
+says c (Ok audit) lines is Yes text of same = (audit, subst (λ (t : List ℕ). IsAuditOfContents c (Ok audit) t) (sym same) is)
 says c (Ok audit) lines is No text of same = absurd of
 says c (Err NoMemory) lines is Yes text of same = absurd of
 says c (Err NoMemory) lines is No text of same = absurd of
 says c (Err (BadEvent at)) lines is Yes text of same = absurd of
 says c (Err (BadEvent at)) lines is No text of same =
-    (BadEvent at, (λ clash. let c' = clash in cc), subst (λ (t : List ℕ). IsAuditOf c (Err (BadEvent at)) t) (sym same) is)
+    (BadEvent at, (λ clash. let c' = clash in cc), subst (λ (t : List ℕ). IsAuditOfContents c (Err (BadEvent at)) t) (sym same) is)
 says c (Err (IllegalOp i x j)) lines is Yes text of same = absurd of
 says c (Err (IllegalOp i x j)) lines is No text of same =
-    (IllegalOp i x j, (λ clash. let c' = clash in cc), subst (λ (t : List ℕ). IsAuditOf c (Err (IllegalOp i x j)) t) (sym same) is)
+    (IllegalOp i x j, (λ clash. let c' = clash in cc), subst (λ (t : List ℕ). IsAuditOfContents c (Err (IllegalOp i x j)) t) (sym same) is)
 
 -- of what is held a fact holds that holds of what was opened
 pub of_held : (held : Option Trees) (opened : Trees) (P : Trees → Type 0) → IfSome held (λ db. opened ≡ db) → P opened → IfSome held P
@@ -55,7 +55,7 @@ told (Ok x) clean back opened is_open held trees P closes cleans opens holds say
 told (Err e) clean back opened is_open held trees P closes cleans opens holds says = tt
 
 -- what is said of an audit that has a verdict
-pub told_of : {T E : Type 0} (r : Result T E) (c : Contents) (outcome : Result Audit AuditFault) (lines : List ℕ) (verdict : T → Verdict) (text : T → List ℕ) → IsAuditOf c outcome lines
-    → IfOk r (λ x. IsVerdictOf outcome (verdict x)) → IfOk r (λ x. text x ≡ lines) → IfOk r (λ x. Audits c (verdict x) (text x))
+pub told_of : {T E : Type 0} (r : Result T E) (c : Contents) (outcome : Result Audit AuditFault) (lines : List ℕ) (verdict : T → Verdict) (text : T → List ℕ) → IsAuditOfContents c outcome lines
+    → IfOk r (λ x. IsVerdictOf outcome (verdict x)) → IfOk r (λ x. text x ≡ lines) → IfOk r (λ x. AuditsContents c (verdict x) (text x))
 told_of (Ok x) c outcome lines verdict text is of same = says c outcome lines is (verdict x) (text x) of same
 told_of (Err e) c outcome lines verdict text is of same = tt

@@ -1,7 +1,7 @@
 //! What an error of a store says of the database at its path.
 
 ghost use Rattle.std.specs.Prelude.{⊤};
-ghost use Rattle.command_files.specs.Answers.{Refuses};
+ghost use Rattle.command_files.specs.Answers.{IsEarlyFault};
 
 use command_files::{DatabaseFault, Fault};
 use database_files::OpenFault;
@@ -11,7 +11,7 @@ use sqlite_trees::error::StoreError;
 
 /// Why a database isn't opened.
 pub fn fault_of_unopened<'a>(path: &'a str, fault: OpenFault) -> Fault<'a>
-    ensures { Refuses ⊤ result }
+    ensures { IsEarlyFault ⊤ result }
 {
     match fault {
         OpenFault::NoDatabase => Fault::NoStore { path },
@@ -21,7 +21,7 @@ pub fn fault_of_unopened<'a>(path: &'a str, fault: OpenFault) -> Fault<'a>
 
 /// Why a database that was opened isn't one of a store.
 pub fn fault_of_open<'a>(path: &'a str, error: OpenError) -> Fault<'a>
-    ensures { Refuses ⊤ result }
+    ensures { IsEarlyFault ⊤ result }
 {
     match error {
         OpenError::NoMemory => Fault::NoMemory,
@@ -32,7 +32,7 @@ pub fn fault_of_open<'a>(path: &'a str, error: OpenError) -> Fault<'a>
 
 /// Why a journal isn't opened.
 pub(crate) fn fault_of_journal<'a>(path: &'a str, error: JournalError) -> Fault<'a>
-    ensures { Refuses ⊤ result }
+    ensures { IsEarlyFault ⊤ result }
 {
     match error {
         JournalError::Store(error) => fault_of_trees(path, error),
@@ -42,7 +42,7 @@ pub(crate) fn fault_of_journal<'a>(path: &'a str, error: JournalError) -> Fault<
 
 /// Why the file of a store that was opened fails.
 pub fn fault_of_file<'a>(path: &'a str, error: JournalError) -> Fault<'a>
-    ensures { Refuses ⊥ result }
+    ensures { IsEarlyFault ⊥ result }
 {
     match error {
         JournalError::Store(error) => fault_of_trees(path, error),
@@ -54,7 +54,7 @@ pub fn fault_of_file<'a>(path: &'a str, error: JournalError) -> Fault<'a>
 
 /// Why a new store isn't made of what was tested before.
 pub(crate) fn fault_of_making<'a>(path: &'a str, error: OpenError) -> Fault<'a>
-    ensures { Refuses ⊥ result }
+    ensures { IsEarlyFault ⊥ result }
 {
     match error {
         OpenError::NoMemory => Fault::NoMemory,
@@ -65,7 +65,7 @@ pub(crate) fn fault_of_making<'a>(path: &'a str, error: OpenError) -> Fault<'a>
 
 /// Why trees fail.
 fn fault_of_trees<'a>(path: &'a str, error: StoreError) -> Fault<'a>
-    ensures { Refuses ⊥ result }
+    ensures { IsEarlyFault ⊥ result }
 {
     match error {
         StoreError::OutOfMemory => Fault::NoMemory,

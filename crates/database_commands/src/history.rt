@@ -4,10 +4,10 @@ ghost use Rattle.std.specs.Prelude.{◌≡◌, ⊤, None, IfOk, IfErr, IfSome, I
 ghost use Rattle.sqlite_trees.specs.View.{IsClean};
 ghost use Rattle.journal.specs.Contents.{contents_of};
 ghost use Rattle.journal.specs.Said.{contents};
-ghost use Rattle.durable_store.specs.Durable.{events};
-ghost use Rattle.command_files.specs.Answers.{Comes, Refuses};
+ghost use Rattle.durable_store.specs.Durable.{events_of_kinds};
+ghost use Rattle.command_files.specs.Answers.{Comes, IsEarlyFault};
 ghost use Rattle.command_files.specs.declared.fault.Fault.TheVariants.{NoMemory};
-ghost use Rattle.database_commands.specs.History.{TellsHistory, history_text};
+ghost use Rattle.database_commands.specs.History.{TellsHistory, text_of_epoch};
 
 use crate::faults::{fault_of_journal, fault_of_unopened};
 use command_files::{Fault, Verdict, put_answer};
@@ -45,8 +45,8 @@ fn history_at<'a, D: Databases>(
     databases: &mut D,
 ) -> Result<Vec<u8>, Fault<'a>>
     ensures told { IfOk result (λ text. D.is_clean databases.new
-        → IfSome (D.holds databases.old path.now) (λ db. text.items ≡ history_text (contents_of db))) }
-    ensures refused { IfErr result (Refuses ⊤) }
+        → IfSome (D.holds databases.old path.now) (λ db. text.items ≡ text_of_epoch (contents_of db))) }
+    ensures refused { IfErr result (IsEarlyFault ⊤) }
 {
     match databases.open(path, TornWrites::AnyBytes) {
         Ok(trees) => {
@@ -65,10 +65,10 @@ fn history_in<'a, S: Alter>(
     trees: S,
 ) -> (Result<Vec<u8>, Fault<'a>>, S)
     requires { IsClean (S.Store.view trees) → IsTrue (S.Store.view trees).is_numbered }
-    ensures told { IfOk result.0 (λ text. IsClean (S.Store.view result.1) → text.items ≡ history_text (contents_of (S.Store.view trees).committed)) }
+    ensures told { IfOk result.0 (λ text. IsClean (S.Store.view result.1) → text.items ≡ text_of_epoch (contents_of (S.Store.view trees).committed)) }
     ensures clean { IfOk result.0 (λ _. IsClean (S.Store.view result.1) → IsClean (S.Store.view trees)) }
     ensures was_open { IfOk result.0 (λ _. IsClean (S.Store.view result.1) → IsTrue (S.Store.view trees).is_open) }
-    ensures refused { IfErr result.0 (Refuses ⊤) }
+    ensures refused { IfErr result.0 (IsEarlyFault ⊤) }
 {
     match Journal::open(alloc, trees) {
         Ok((journal, said)) => (text_of(alloc, &said), journal.into_store()),
@@ -78,7 +78,7 @@ fn history_in<'a, S: Alter>(
 
 /// The text of the history that a file says.
 fn text_of<'a>(alloc: Global, said: &FileContents) -> Result<Vec<u8>, Fault<'a>>
-    ensures text { IfOk result (λ text. text.items ≡ history_text (contents said.now)) }
+    ensures text { IfOk result (λ text. text.items ≡ text_of_epoch (contents said.now)) }
     ensures failed { IfErr result (λ fault. fault ≡ NoMemory) }
 {
     let events = events_of(alloc, &said.events)?;
@@ -91,7 +91,7 @@ fn text_of<'a>(alloc: Global, said: &FileContents) -> Result<Vec<u8>, Fault<'a>>
 
 /// The events of a file, all by worker 0.
 pub(crate) fn events_of(alloc: Global, happened: &[EventKind]) -> Result<Vec<Event>, AllocError>
-    ensures { IfOk result (λ all. all.items ≡ events happened.now) }
+    ensures { IfOk result (λ all. all.items ≡ events_of_kinds happened.now) }
 {
     let mut events = Vec::with_capacity(alloc, happened.len())?;
     for kind in happened {

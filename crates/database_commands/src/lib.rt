@@ -1,12 +1,12 @@
 //! The commands over the file of a durable store: `create`, `history`, and `audit --database`.
 #![tactic(auto)]
 
-mod auditing;
-mod creating;
+mod database_audit;
 mod faults;
 mod history;
+mod new_store;
 
-pub use auditing::audit_database;
-pub use creating::{NewStore, create_store};
+pub use database_audit::audit_database;
 pub use faults::{fault_of_file, fault_of_open, fault_of_unopened};
 pub use history::tell_history;
+pub use new_store::{NewStore, create_store};

@@ -6,10 +6,10 @@ use Rattle.line_text.specs.Text.{content_of}
 use Rattle.line_text.specs.Shapes.{is_key}
 use Rattle.line_text.specs.Spelling.{text_of}
 use Rattle.type_text.specs.Canonical as tables
-use Rattle.type_text.specs.declared.type_file.TypeFile.{TypeFile}
+use Rattle.declared_types.specs.declared.type_file.TypeFile.{TypeFile}
 use Rattle.number_text.specs.Canonical as numbers
-use Rattle.number_text.specs.NumberFile.{Number}
-use Rattle.table_checker.specs.declared.declared_type.Declaration.TheVariants.{Table, Number as Numbers}
+use Rattle.number_types.specs.Number.{Number}
+use Rattle.declared_types.specs.declared.declared_type.Declaration.TheVariants.{Table, Number as Numbers}
 use Rattle.declared_text.specs.Declared.{is_of_number}
 use Rattle.declared_text.specs.Canonical.{canonical_text, IsReadBack}
 

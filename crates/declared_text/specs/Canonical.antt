@@ -2,8 +2,8 @@
 use Rattle.std.specs.Prelude.{ℕ, List}
 use Rattle.type_text.specs.Canonical as tables
 use Rattle.number_text.specs.Canonical as numbers
-use Rattle.table_checker.specs.declared.declared_type.Declaration.{Declaration}
-use Rattle.table_checker.specs.declared.declared_type.Declaration.TheVariants.{Table, Number as Numbers}
+use Rattle.declared_types.specs.declared.declared_type.Declaration.{Declaration}
+use Rattle.declared_types.specs.declared.declared_type.Declaration.TheVariants.{Table, Number as Numbers}
 use Rattle.declared_text.specs.Declared.{Declares}
 
 abbrev pub canonical_text : Declaration → List ℕ

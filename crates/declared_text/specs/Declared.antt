@@ -9,8 +9,8 @@ use Rattle.type_text.specs.TypeLines.{type_rules}
 use Rattle.type_text.specs.TypeFile as tables
 use Rattle.number_text.specs.NumberLines.{number_rules}
 use Rattle.number_text.specs.NumberFile as numbers
-use Rattle.table_checker.specs.declared.declared_type.Declaration.{Declaration}
-use Rattle.table_checker.specs.declared.declared_type.Declaration.TheVariants.{Table, Number as Numbers}
+use Rattle.declared_types.specs.declared.declared_type.Declaration.{Declaration}
+use Rattle.declared_types.specs.declared.declared_type.Declaration.TheVariants.{Table, Number as Numbers}
 
 -- the words of a text, of which comments have none
 abbrev pub words_in : List ℕ → List (List ℕ)
@@ -35,8 +35,8 @@ HasFaultBy true text f = outcome_of number_rules text ≡ Err f
 HasFaultBy false text f = outcome_of type_rules text ≡ Err f
 
 -- the fault of a text that declares no type
-abbrev pub HasFault : List ℕ → TextFault → Type 0
-HasFault text f = HasFaultBy (is_of_number text) text f
+abbrev pub HasDeclaredFault : List ℕ → TextFault → Type 0
+HasDeclaredFault text f = HasFaultBy (is_of_number text) text f
 
 -- such a fault, or memory was refused at the line that was being read
 abbrev pub FailsBy : Bool → List ℕ → TextFault → Type 0
@@ -44,6 +44,6 @@ FailsBy true text f = numbers.Reads (Err f) text
 FailsBy false text f = tables.Reads (Err f) text
 
 -- what a text declares, or why nothing
-abbrev pub Reads : Result Declaration TextFault → List ℕ → Type 0
-Reads (Ok declaration) text = Declares text declaration
-Reads (Err f) text = FailsBy (is_of_number text) text f
+abbrev pub ReadsDeclaration : Result Declaration TextFault → List ℕ → Type 0
+ReadsDeclaration (Ok declaration) text = Declares text declaration
+ReadsDeclaration (Err f) text = FailsBy (is_of_number text) text f

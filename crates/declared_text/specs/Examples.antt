@@ -15,5 +15,5 @@ noted_text = lines_text (codes "# number" ∷ codes "type credit" ∷ [])
 abbrev pub credit_bytes : List ℕ
 credit_bytes = lines_text credit_text
 
-abbrev pub endless_bytes : List ℕ
-endless_bytes = lines_text (take 7 credit_text)
+abbrev pub endless_credit : List ℕ
+endless_credit = lines_text (take 7 credit_text)

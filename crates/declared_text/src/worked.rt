@@ -5,11 +5,11 @@ ghost use Rattle.std.specs.Prelude.{◌≡◌, [], ◌∷◌, true, false, codes
 ghost use Rattle.line_text.specs.Comments.{lines_text};
 ghost use Rattle.line_text.specs.Outcome.{fault_on};
 ghost use Rattle.line_text.specs.declared.fault.FaultKind.TheVariants.{Missing};
-ghost use Rattle.type_text.specs.declared.type_file.TypeFile.{TypeFile as FileValue};
-ghost use Rattle.table_checker.specs.declared.declared_type.Declaration.TheVariants.{Table, Number as Numbers};
-ghost use Rattle.number_text.specs.Examples.{credit};
-ghost use Rattle.declared_text.specs.Declared.{Declares, HasFault, is_of_number};
-ghost use Rattle.declared_text.specs.Examples.{commented_text, credit_bytes, endless_bytes, noted_text};
+ghost use Rattle.declared_types.specs.declared.type_file.TypeFile.{TypeFile as FileValue};
+ghost use Rattle.declared_types.specs.declared.declared_type.Declaration.TheVariants.{Table, Number as Numbers};
+ghost use Rattle.number_types.specs.Examples.{credit};
+ghost use Rattle.declared_text.specs.Declared.{Declares, HasDeclaredFault, is_of_number};
+ghost use Rattle.declared_text.specs.Examples.{commented_text, credit_bytes, endless_credit, noted_text};
 
 use number_text::worked::{faults_of_the_credit, texts_say_their_lines};
 
@@ -27,7 +27,7 @@ pub fn the_first_word_chooses()
 pub fn a_text_declares_the_credit()
     ensures declared { Declares credit_bytes (Numbers credit) }
     ensures no_table { (file : FileValue) → Declares credit_bytes (Table file) → ⊥ }
-    ensures faulty { HasFault endless_bytes (fault_on 8 Missing) }
+    ensures faulty { HasDeclaredFault endless_credit (fault_on 8 Missing) }
 {
     texts_say_their_lines();
     faults_of_the_credit();

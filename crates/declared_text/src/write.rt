@@ -2,9 +2,9 @@ ghost use Rattle.std.specs.Prelude.{◌≡◌, None, OnOk};
 ghost use Rattle.outputs.specs.Out.{Puts};
 ghost use Rattle.declared_text.specs.Canonical.{canonical_text, IsReadBack};
 
+use declared_types::{Declaration, DeclaredType};
 use number_text::write_number;
 use outputs::{Out, OutFault};
-use table_checker::{Declaration, DeclaredType};
 use type_text::write_type;
 
 /// Writes the canonical text of what declares a type. What is read from the text is the same type. It takes

@@ -15,10 +15,10 @@ use Rattle.store_laws.specs.Stored.{Stored}
 use Rattle.journal.specs.Journal.{written}
 use Rattle.durable_store.specs.declared.durable.Durable.{Durable}
 use Rattle.durable_store.specs.Types.{HasTypes}
-use Rattle.durable_store.specs.Durable.{IsBehind, IsDurable, events, kinds}
+use Rattle.durable_store.specs.Durable.{IsBehind, IsDurable, events_of_kinds, kinds}
 
 -- each transaction was begun by worker 0
-began-zero : (happened : List EventKind) (t : ℕ) → slice_index_or (beginners (events happened)) t 0 ≡ 0
+began-zero : (happened : List EventKind) (t : ℕ) → slice_index_or (beginners (events_of_kinds happened)) t 0 ≡ 0
 began-zero [] t = refl
 began-zero (Begin n ∷ more) zero = refl
 began-zero (Begin n ∷ more) (suc t) = began-zero more t
@@ -30,14 +30,14 @@ began-zero (Abort n ∷ more) t = began-zero more t
 began-zero (Rollback n m ∷ more) t = began-zero more t
 
 each-by-zero : (who : ℕ → ℕ) → ((t : ℕ) → who t ≡ 0) → (ts : List ℕ)
-    → map (λ t. let e : Event = record { worker = who t; kind = Abort t } in e) ts ≡ events (kinds (map (λ t. let e : Event = record { worker = who t; kind = Abort t } in e) ts))
+    → map (λ t. let e : Event = record { worker = who t; kind = Abort t } in e) ts ≡ events_of_kinds (kinds (map (λ t. let e : Event = record { worker = who t; kind = Abort t } in e) ts))
 each-by-zero who is [] = refl
 each-by-zero who is (t ∷ ts) = ap₂ (λ w more. (let e : Event = record { worker = w; kind = Abort t } in e) ∷ more) (is t) (each-by-zero who is ts)
 
-pub closing-by-zero : (those : List ℕ) (happened : List EventKind) → closing_but those (events happened) ≡ events (kinds (closing_but those (events happened)))
+pub closing-by-zero : (those : List ℕ) (happened : List EventKind) → closing_but those (events_of_kinds happened) ≡ events_of_kinds (kinds (closing_but those (events_of_kinds happened)))
 closing-by-zero those happened =
-    each-by-zero (λ t. slice_index_or (beginners (events happened)) t 0) (began-zero happened)
-    (filter (is_other those (summary (events happened))) (range_with_len 0 (summary (events happened)).begun))
+    each-by-zero (λ t. slice_index_or (beginners (events_of_kinds happened)) t 0) (began-zero happened)
+    (filter (is_other those (summary (events_of_kinds happened))) (range_with_len 0 (summary (events_of_kinds happened)).begun))
 
 -- the aborts of what was open, but of those, are what the journal hasn't yet
 pub aborts-behind : {S : Type 0} (g : Ghosts S) (those : List ℕ) (d : Durable S) (s : Stored) (count : ℕ) → IsDurable g d → count ≡ length d.store.history → d.store.forgotten ≤ count
@@ -54,5 +54,5 @@ aborts-behind g those d s count sound is remembered aborted =
       remembered = subst (λ (s : Stored). s.forgotten ≤ count) (sym aborted) remembered;
       inside = omega (arith, long, is);
       history = λ clean. ap₂ take is history ∙ take-append_seam d.store.history more ∙ sound.history clean;
-      by_zero = λ clean. subst (λ es. es ≡ events (kinds es)) (sym rest) (subst (λ H. closing_but those H ≡ events (kinds (closing_but those H))) (sym (sound.history clean)) (closing-by-zero those (written g d.journal).events));
+      by_zero = λ clean. subst (λ es. es ≡ events_of_kinds (kinds es)) (sym rest) (subst (λ H. closing_but those H ≡ events_of_kinds (kinds (closing_but those H))) (sym (sound.history clean)) (closing-by-zero those (written g d.journal).events));
     }

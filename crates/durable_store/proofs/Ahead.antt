@@ -6,11 +6,11 @@ use Rattle.std.proofs.lemmas.Option.{same_Some, slice_get-get_or, slice_get_with
 use Rattle.sqlite_trees.specs.declared.store.Store.{Ghosts}
 use Rattle.type_table.specs.declared.kind.Kind.{Kind}
 use Rattle.type_table.specs.declared.kind.Kind.TheVariants.{Undo, Intentions, Escrow}
-use Rattle.type_text.specs.TypeFile.{file_at}
-use Rattle.type_text.specs.declared.type_file.TypeFile.{TypeFile}
+use Rattle.declared_types.specs.TypeFile.{file_at}
+use Rattle.declared_types.specs.declared.type_file.TypeFile.{TypeFile}
 use Rattle.table_checker.specs.At.{checked_at, IsInside}
 use Rattle.table_checker.specs.Checked.{Checked, set_by}
-use Rattle.table_checker.specs.Declarations.{file_of}
+use Rattle.declared_types.specs.Declarations.{file_of}
 use Rattle.serial_order.specs.Epochs.{types_at}
 use Rattle.serial_order.proofs.EpochTypes.{is-at, length-types_at}
 use Rattle.store.specs.Renews.{Renews}
@@ -20,7 +20,7 @@ use Rattle.journal.specs.declared.state_row.FirstState.{FirstState}
 use Rattle.journal.specs.Contents.{Contents, from_states}
 use Rattle.journal.specs.Journal.{written}
 use Rattle.durable_store.specs.declared.durable.Durable.{Durable}
-use Rattle.durable_store.specs.Types.{HasTypes, IsTypeOf}
+use Rattle.durable_store.specs.Types.{HasTypes, IsTypeAt}
 use Rattle.durable_store.specs.Durable.{IsDurable}
 use Rattle.durable_store.specs.Epochs.{IsAhead, firsts}
 
@@ -31,8 +31,8 @@ same-inside Intentions file i s = refl
 same-inside Escrow file i s = refl
 
 -- a type of a file at another state at which it may begin
-begun-anew : (texts : List (List ℕ)) (o : ObjectLine) (was first : FirstState) (c now : Checked) (s : ℕ) → IsTypeOf texts o was c → IsInside c s → now ≡ checked_at c s → first.state ≡ s
-    → IsTypeOf texts o first now
+begun-anew : (texts : List (List ℕ)) (o : ObjectLine) (was first : FirstState) (c now : Checked) (s : ℕ) → IsTypeAt texts o was c → IsInside c s → now ≡ checked_at c s → first.state ≡ s
+    → IsTypeAt texts o first now
 begun-anew texts o was first c now s of inside is state =
     let file = file_of of.declaration in
     let base : Checked = record { kind = o.kind; file = file } in
@@ -70,7 +70,7 @@ has-renewed f types kept its long inside =
           let is : type ≡ checked_at found.c found.s = sym found.is in
           let was = get_or f.states x first in
           let low : x < length f.states = omega (arith, slice_get_within f.objects x o line, its.as_many_states) in
-          let of : IsTypeOf f.types o was found.c = its.each x o was found.c line (slice_get-get_or f.states x first low) found.type in
+          let of : IsTypeAt f.types o was found.c = its.each x o was found.c line (slice_get-get_or f.states x first low) found.type in
           begun-anew f.types o was first found.c type found.s of (inside x found.c found.s found.type found.state) is
           (first-of now x type first there state ∙ ap (λ (c : Checked). c.file.table.initial) is);
     }

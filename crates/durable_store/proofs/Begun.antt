@@ -6,17 +6,17 @@ use Rattle.std.specs.declared.sync.Arc.{Arc}
 use Rattle.std.proofs.lemmas.List.{length-map, length-take, map_push}
 use Rattle.std.proofs.lemmas.Option.{same_Some, slice_get-get_or, slice_get-map, slice_get_read, slice_get_within}
 use Rattle.type_table.proofs.Elements.{cases-more}
-use Rattle.table_checker.specs.declared.declared_type.Declaration.{Declaration}
+use Rattle.declared_types.specs.declared.declared_type.Declaration.{Declaration}
 use Rattle.table_checker.specs.At.{checked_at, IsInside}
 use Rattle.table_checker.specs.Checked.{Checked, IsChecked}
-use Rattle.table_checker.specs.Declarations.{file_of}
+use Rattle.declared_types.specs.Declarations.{file_of}
 use Rattle.object_types.specs.Types.{AreTypesOf, value_of}
 use Rattle.journal.specs.Contents.{Contents}
 use Rattle.durable_store.specs.Types.{HasTypes}
 use Rattle.store_text.specs.declared.line.ObjectLine.{ObjectLine}
 use Rattle.journal.specs.declared.state_row.FirstState.{FirstState}
 use Rattle.object_types.proofs.Pairs.{Each}
-use Rattle.durable_store.specs.Begun.{AreAlike, AreAt, AreRead, IsAt, IsAtPlace}
+use Rattle.durable_store.specs.Begun.{HaveOneType, BeginAt, AreRead, BeginsAt, IsAtPlace}
 
 -- one more has its partner
 pub each-more : {A B : Type 0} (P : A → B → Type 0) (xs : List A) (ys new : List B) (i : ℕ) (a : A) (b : B) → length ys ≡ i → slice_get xs i ≡ Some a → P a b → Each P xs ys
@@ -32,7 +32,7 @@ each-more P xs ys new i a b long there here each is k x y first second =
 
 -- one more is at its state
 pub at-more : {A : Type 0} (types : List Checked) (states : List FirstState) (begun new : List (Arc Checked A)) (x : ℕ) (at : Arc Checked A) → length begun ≡ x
-    → AreAt types states (map value_of begun) → IsAtPlace types states x (value_of at) → new ≡ begun ++ at ∷ [] → AreAt types states (map value_of new)
+    → BeginAt types states (map value_of begun) → IsAtPlace types states x (value_of at) → new ≡ begun ++ at ∷ [] → BeginAt types states (map value_of new)
 at-more {A} types states begun new x at long known here is k y there =
     let more : map value_of new ≡ map value_of begun ++ value_of at ∷ [] = ap (map (value_of {A = A})) is ∙ map_push (value_of {A = A}) begun at in
     elim (cases-more (map value_of begun) (value_of at) k y (subst (λ ys. slice_get ys k ≡ Some y) more there)) [
@@ -52,7 +52,7 @@ from-first (a ∷ xs) (suc n) (suc k) y at = from-first xs n k y at
 
 -- the type of an object before it with the same line that begins at the same state
 pub shared-at : {A : Type 0} (types : List Checked) (lines : List ObjectLine) (states : List FirstState) (begun : List (Arc Checked A)) (x other : ℕ) (o : ObjectLine) (f : FirstState)
-    (shared a : Arc Checked A) → length types ≡ length lines → length begun ≡ x → x < length lines → AreAlike lines types → AreAt types states (map value_of begun)
+    (shared a : Arc Checked A) → length types ≡ length lines → length begun ≡ x → x < length lines → HaveOneType lines types → BeginAt types states (map value_of begun)
     → slice_get lines x ≡ Some o → slice_get states x ≡ Some f → slice_get (take x lines) other ≡ Some o → slice_get (take x states) other ≡ Some f
     → shared ≡ get_or begun other shared → value_of a ≡ value_of shared → IsAtPlace types states x (value_of a)
 shared-at {A} types lines states begun x other o f shared a as-many long low alike known line state same-line same-state is cloned c first there at =
@@ -63,23 +63,23 @@ shared-at {A} types lines states begun x other o f shared a as-many long low ali
     let at-other : slice_get types other ≡ Some d = slice_get-get_or types other c inside in
     let begun-there : slice_get (map value_of begun) other ≡ Some (value_of shared) =
     slice_get-map (value_of {A = A}) begun other ∙ ap (option_map (value_of {A = A})) (slice_get_read begun (length begun) other shared refl (omega (arith, near, long)) is) in
-    let here : IsAt d f (value_of shared) = known other (value_of shared) begun-there d f at-other (from-first states x other f same-state) in
+    let here : BeginsAt d f (value_of shared) = known other (value_of shared) begun-there d f at-other (from-first states x other f same-state) in
     let one : d ≡ c = alike other x o d c (from-first lines x other o same-line) line at-other there in
     let two : f ≡ first = same_Some f first (sym state ∙ at) in
-    subst (IsAt c first) (sym cloned) (subst (λ f. IsAt c f (value_of shared)) two (subst (λ d. IsAt d f (value_of shared)) one here))
+    subst (BeginsAt c first) (sym cloned) (subst (λ f. BeginsAt c f (value_of shared)) two (subst (λ d. BeginsAt d f (value_of shared)) one here))
 
 -- a type of its own
 pub fresh-at : {A : Type 0} (types : List (Arc Checked A)) (states : List FirstState) (x : ℕ) (own : Arc Checked A) (seen : Checked) (f : FirstState) (at : Checked) → x < length types
-    → own ≡ get_or types x own → seen ≡ value_of own → slice_get states x ≡ Some f → IsAt seen f at → IsAtPlace (map value_of types) states x at
+    → own ≡ get_or types x own → seen ≡ value_of own → slice_get states x ≡ Some f → BeginsAt seen f at → IsAtPlace (map value_of types) states x at
 fresh-at {A} types states x own seen f at low is read state given c first there first-there =
     let here : slice_get (map value_of types) x ≡ Some (value_of own) =
     slice_get-map (value_of {A = A}) types x ∙ ap (option_map (value_of {A = A})) (slice_get_read types (length types) x own refl low is) in
     let one : seen ≡ c = read ∙ same_Some (value_of own) c (sym here ∙ there) in
     let two : f ≡ first = same_Some f first (sym state ∙ first-there) in
-    subst (λ f. IsAt c f at) two (subst (λ d. IsAt d f at) one given)
+    subst (λ f. BeginsAt c f at) two (subst (λ d. BeginsAt d f at) one given)
 
 -- the types that lines name are alike where the lines are
-pub alike : (declared : List Declaration) (lines : List ObjectLine) (types : List Checked) → AreTypesOf declared lines types → AreAlike lines types
+pub alike : (declared : List Declaration) (lines : List ObjectLine) (types : List Checked) → AreTypesOf declared lines types → HaveOneType lines types
 alike declared lines types are x y o c d line-x line-y type-x type-y =
     let p = are.each x o c line-x type-x in
     let q = are.each y o d line-y type-y in
@@ -87,7 +87,7 @@ alike declared lines types are x y o c d line-x line-y type-x type-y =
 
 -- they are the types of the file's objects
 pub are-types : (c : Contents) (declared : List Declaration) (types begun : List Checked) → AreRead c.types declared → AreTypesOf declared c.objects types → length c.states ≡ length c.objects
-    → length begun ≡ length c.objects → AreAt types c.states begun → HasTypes c begun
+    → length begun ≡ length c.objects → BeginAt types c.states begun → HasTypes c begun
 are-types c declared types begun read of states long at = record {
   as_many = long;
   as_many_states = states;

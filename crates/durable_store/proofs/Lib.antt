@@ -1,7 +1,7 @@
 pub mod Ahead
 pub mod Aborts
 pub mod Begun
-pub mod CatchingUp
+pub mod CatchUp
 pub mod Firsts
 pub mod Found
 pub mod New

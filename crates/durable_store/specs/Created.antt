@@ -22,7 +22,7 @@ abbrev pub first_header : List ℕ → Header
 first_header id = record { format = newest_format; id = id; life = 0 }
 
 -- these texts and objects, which have types that begin at their initial states, and no event
-pub record IsNew (id : List ℕ) (given : List (List ℕ)) (lines : List ObjectLine) (c : Contents) : Type 0 where
+pub record IsNewFile (id : List ℕ) (given : List (List ℕ)) (lines : List ObjectLine) (c : Contents) : Type 0 where
   pub headers : c.headers ≡ first_header id ∷ []
   pub texts : c.types ≡ given
   pub objects : c.objects ≡ lines

@@ -14,8 +14,8 @@ abbrev pub kinds : List Event → List EventKind
 kinds events = map (λ (e : Event). e.kind) events
 
 -- the same as events of worker 0, which makes all events of a durable store
-abbrev pub events : List EventKind → List Event
-events happened = map (λ k. let e : Event = record { worker = 0; kind = k } in e) happened
+abbrev pub events_of_kinds : List EventKind → List Event
+events_of_kinds happened = map (λ k. let e : Event = record { worker = 0; kind = k } in e) happened
 
 -- with these events more
 abbrev pub with_all : Contents → List Event → Contents
@@ -24,7 +24,7 @@ with_all c more = record c { events = c.events ++ kinds more }
 -- the journal has the whole history, the types are those of its objects, and a crash at this moment leaves what was settled
 pub record IsDurable {S : Type 0} (g : Ghosts S) (d : Durable S) : Type 0 where
   pub journal : IsJournal g d.journal
-  pub history : Clean g d.journal → d.store.history ≡ events (written g d.journal).events
+  pub history : Clean g d.journal → d.store.history ≡ events_of_kinds (written g d.journal).events
   pub types : Clean g d.journal → HasTypes (written g d.journal) d.store.types
   pub settled : Clean g d.journal → IsSettled g d.journal
 
@@ -35,8 +35,8 @@ pub record IsBehind {S : Type 0} (g : Ghosts S) (d : Durable S) (count : ℕ) : 
   pub settled : Clean g d.journal → IsSettled g d.journal
   pub remembered : d.store.forgotten ≤ count
   pub inside : count ≤ length d.store.history
-  pub history : Clean g d.journal → take count d.store.history ≡ events (written g d.journal).events
-  pub by_zero : Clean g d.journal → drop count d.store.history ≡ events (kinds (drop count d.store.history))
+  pub history : Clean g d.journal → take count d.store.history ≡ events_of_kinds (written g d.journal).events
+  pub by_zero : Clean g d.journal → drop count d.store.history ≡ events_of_kinds (kinds (drop count d.store.history))
 
 -- a crash leaves nothing that it couldn't have left before
 abbrev pub OutcomesStay : {S : Type 0} (g : Ghosts S) → Durable S → Durable S → Type 0

@@ -8,14 +8,14 @@ use Rattle.journal.specs.Contents.{Contents, in_life}
 use Rattle.journal.specs.Journal.{Clean, IsOpen, ShowsCommit, durable, written}
 use Rattle.durable_store.specs.declared.durable.Durable.{Durable}
 use Rattle.durable_store.specs.Types.{HasTypes}
-use Rattle.durable_store.specs.Durable.{events, with_all}
+use Rattle.durable_store.specs.Durable.{events_of_kinds, with_all}
 
 -- ---- the store
 
 -- a store of the file's types with its history
 pub record IsStoreOf (c : Contents) (s : Stored) : Type 0 where
   pub types : HasTypes c s.types
-  pub history : s.history ≡ events c.events
+  pub history : s.history ≡ events_of_kinds c.events
 
 -- the number of the next life
 abbrev pub next_life : List Header → ℕ
@@ -24,7 +24,7 @@ next_life (h ∷ hs) = suc h.life
 
 -- the file as an open leaves it: with an abort of each transaction that was open and isn't prepared, in the next life
 abbrev pub recovered_but : List ℕ → Contents → Contents
-recovered_but prepared c = in_life (with_all c (closing_but prepared (events c.events))) (next_life c.headers)
+recovered_but prepared c = in_life (with_all c (closing_but prepared (events_of_kinds c.events))) (next_life c.headers)
 
 -- where none is prepared
 abbrev pub recovered : Contents → Contents
@@ -33,7 +33,7 @@ recovered c = recovered_but [] c
 -- the store that an open gives of this file, where these transactions are prepared
 pub record IsRecoveredBut {S : Type 0} (g : Ghosts S) (prepared : List ℕ) (c : Contents) (d : Durable S) : Type 0 where
   pub types : HasTypes c d.store.types
-  pub history : d.store.history ≡ events c.events ++ closing_but prepared (events c.events)
+  pub history : d.store.history ≡ events_of_kinds c.events ++ closing_but prepared (events_of_kinds c.events)
   pub written : written g d.journal ≡ recovered_but prepared c
   pub durable : durable g d.journal ≡ recovered_but prepared c
 

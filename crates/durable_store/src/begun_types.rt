@@ -6,7 +6,7 @@ ghost use Rattle.objects.specs.Object.{meaning_of};
 ghost use Rattle.store.specs.Ends.{AreFresh};
 ghost use Rattle.store_laws.specs.Stored.{types_of};
 ghost use Rattle.journal.specs.Said.{contents};
-ghost use Rattle.durable_store.specs.Begun.{AreAlike, AreAt, AreRead, IsAt, IsAtPlace};
+ghost use Rattle.durable_store.specs.Begun.{HaveOneType, BeginAt, AreRead, BeginsAt, IsAtPlace};
 ghost use Rattle.durable_store.specs.Created.{IsReadFormat};
 ghost use Rattle.durable_store.specs.Types.{HasTypes};
 ghost use Rattle.declared_text.specs.Declared.{Declares};
@@ -14,13 +14,14 @@ ghost use Rattle.declared_text.specs.Declared.{Declares};
 use crate::format::check_format;
 use crate::open_error::OpenError;
 use declared_text::read_declared;
+use declared_types::DeclaredType;
 use journal::{FileContents, FirstState, JournalError, TypeText};
 use object_types::accept_types;
 use objects::{Object, new_objects};
 use std::alloc::Global;
 use std::sync::Arc;
 use store_text::ObjectLine;
-use table_checker::{CheckedType, DeclaredType};
+use table_checker::CheckedType;
 
 /// The objects of a file, in their order.
 ///
@@ -62,20 +63,20 @@ pub(crate) fn declared_in(alloc: Global, texts: &[TypeText]) -> Result<Vec<Decla
     ensures { IfOk result (λ declared. AreRead texts.now declared.items) }
 {
     let mut declared = Vec::new(alloc);
-    for (place, text) in texts.iter().enumerate() {
-        let found = declared_at(alloc, place, text)?;
+    for (position, text) in texts.iter().enumerate() {
+        let found = declared_at(alloc, position, text)?;
         declared.push(found)?;
     }
     Ok(declared)
 }
 
-/// The type that the text at this place declares.
-fn declared_at(alloc: Global, place: usize, text: &TypeText) -> Result<DeclaredType, OpenError>
+/// The type that the text at this position declares.
+fn declared_at(alloc: Global, position: usize, text: &TypeText) -> Result<DeclaredType, OpenError>
     ensures { IfOk result (λ declared. Declares text.now declared) }
 {
     match read_declared(alloc, text.as_bytes()) {
         Ok(declared) => Ok(declared),
-        Err(fault) => Err(OpenError::of_text(place, fault)),
+        Err(fault) => Err(OpenError::of_text(position, fault)),
     }
 }
 
@@ -91,10 +92,10 @@ fn types_at(
     states: &[FirstState],
 ) -> Result<Vec<Arc<CheckedType>>, OpenError>
     requires as_many { length types.now ≡ length lines.now }
-    requires alike { AreAlike lines.now (map arc_value types.now) }
+    requires alike { HaveOneType lines.now (map arc_value types.now) }
     ensures states { OnOk result (length states.now ≡ length lines.now) }
     ensures as_many { IfOk result (λ begun. length begun.items ≡ length lines.now) }
-    ensures at { IfOk result (λ begun. AreAt (map arc_value types.now) states.now (map arc_value begun.items)) }
+    ensures at { IfOk result (λ begun. BeginAt (map arc_value types.now) states.now (map arc_value begun.items)) }
 {
     if states.len() != lines.len() {
         return Err(OpenError::Journal(JournalError::Foreign));
@@ -125,8 +126,8 @@ fn begun_type(
     requires states { length states.now ≡ length lines.now }
     requires inside { x < length lines.now }
     requires before { length begun.now.items ≡ x }
-    requires alike { AreAlike lines.now (map arc_value types.now) }
-    requires known { AreAt (map arc_value types.now) states.now (map arc_value begun.now.items) }
+    requires alike { HaveOneType lines.now (map arc_value types.now) }
+    requires known { BeginAt (map arc_value types.now) states.now (map arc_value begun.now.items) }
     ensures { IfOk result (λ at. IsAtPlace (map arc_value types.now) states.now x (arc_value at)) }
 {
     match place_of(&lines[..x], &states[..x], lines[x], states[x]) {
@@ -135,7 +136,7 @@ fn begun_type(
     }
 }
 
-/// The place of an object of this line that begins at this state.
+/// The position of an object of this line that begins at this state.
 fn place_of(
     lines: &[ObjectLine],
     states: &[FirstState],
@@ -143,11 +144,11 @@ fn place_of(
     first: FirstState,
 ) -> Option<usize>
     requires { length states.now ≡ length lines.now }
-    ensures { IfSome result (λ place. (slice_get lines.now place ≡ Some line) × (slice_get states.now place ≡ Some first)) }
+    ensures { IfSome result (λ position. (slice_get lines.now position ≡ Some line) × (slice_get states.now position ≡ Some first)) }
 {
-    for place in 0..lines.len() {
-        if lines[place] == line && states[place] == first {
-            return Some(place);
+    for position in 0..lines.len() {
+        if lines[position] == line && states[position] == first {
+            return Some(position);
         }
     }
     None
@@ -160,7 +161,7 @@ fn type_at(
     checked: &CheckedType,
     first: FirstState,
 ) -> Result<Arc<CheckedType>, OpenError>
-    ensures { IfOk result (λ at. IsAt checked.now first (arc_value at)) }
+    ensures { IfOk result (λ at. BeginsAt checked.now first (arc_value at)) }
 {
     match checked.at(alloc, first.state)? {
         Some(at) => Ok(Arc::new(alloc, at)?),

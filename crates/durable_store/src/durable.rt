@@ -1,20 +1,34 @@
 //! A store and the journal of what it does.
 
-ghost use Rattle.std.specs.Prelude.{◌≡◌, ℕ, Some, IfOk, OnOk, slice_get};
-ghost use Rattle.serial_order.specs.History.{begins};
-ghost use Rattle.serial_order.specs.declared.command.Command.TheVariants as command;
+ghost use Rattle.std.specs.Prelude.{◌≡◌, ◌⊎◌, ◌<◌, [], ◌∷◌, length, Some, slice_get, IfErr, IfOk, OnOk, ℕ, ◌++◌, ◌&&◌, false, drop, take};
+ghost use Rattle.sqlite_trees.specs.Tree.{Trees};
+ghost use Rattle.journal.specs.Contents.{IsFile, contents_of};
+ghost use Rattle.journal.specs.Journal.{Clean, ShowsCommit, durable, may_leave, written, IsNumbered, IsOpen, IsJournal};
+ghost use Rattle.table_checker.specs.Checked.{Checked};
+ghost use Rattle.store.specs.Renews.{RefusesRenew, Renews};
+ghost use Rattle.durable_store.specs.Durable.{IsDurable, KeepsSettled, OutcomesStay, WritesSince, kinds, events_of_kinds, IsBehind, with_all};
+ghost use Rattle.durable_store.specs.Epochs.{IsAhead, LeavesEpoch, firsts, renewed};
+ghost use Rattle.serial_order.specs.History.{begins, is_open, summary};
 ghost use Rattle.serial_order.specs.Replay.{call_at};
-ghost use Rattle.store_laws.specs.Stored.{MayStep, objects};
-ghost use Rattle.store.specs.Calls.{Answers};
-ghost use Rattle.journal.specs.Journal.{Clean};
-ghost use Rattle.durable_store.specs.Durable.{IsDurable, KeepsSettled, OutcomesStay, WritesSince};
+ghost use Rattle.store_laws.specs.Stored.{MayStep, objects, Steps};
+ghost use Rattle.store.specs.Calls.{NotesAnswer};
+ghost use Rattle.serial_order.specs.Operations.{is_among};
+ghost use Rattle.store.specs.Ends.{closing, closing_but};
+ghost use Rattle.durable_store.specs.Recovered.{Recovers, recovered_but};
+ghost use Rattle.serial_order.specs.declared.command.Command.TheVariants as command;
 
-use journal::{Journal, JournalError};
+use journal::{FirstState, Journal, JournalError, TypeText};
 use object_calls::Answer;
+use object_trait::{Event, EventKind};
 use objects::Object;
 use serial_order::Refusal;
 use sqlite_trees::store::Alter;
-use store::Store;
+use std::alloc::{AllocError, Global};
+use store::{RenewRefusal, Store};
+use store_text::ObjectLine;
+
+// the most objects whose states a journal writes anew
+const MOST_STATES: usize = 65_536;
 
 /// A store whose events are written into a file: what was settled survives a crash.
 ///
@@ -76,7 +90,7 @@ impl<S: Alter> Durable<S> {
         requires { IsDurable S.Store self.old }
         ensures sound { OnOk result (IsDurable S.Store self.new) }
         ensures step { IfOk result (λ r. MayStep self.old.store 0 (command.Call t x name.now) r self.new.store) }
-        ensures answer { IfOk result (λ r. (c : ℕ) → call_at (slice_get (objects self.old.store) x) name.now ≡ Some c → Answers self.old.store 0 t x c r self.new.store) }
+        ensures answer { IfOk result (λ r. (c : ℕ) → call_at (slice_get (objects self.old.store) x) name.now ≡ Some c → NotesAnswer self.old.store 0 t x c r self.new.store) }
         ensures life { self.new.journal.header ≡ self.old.journal.header }
         ensures written { OnOk result (WritesSince S.Store self.old self.new) }
         ensures settled { OnOk result (KeepsSettled S.Store self.old self.new) }
@@ -87,5 +101,379 @@ impl<S: Alter> Durable<S> {
         let answered = self.store.call_bytes(0, t, x, name);
         self.write_since(count)?;
         Ok(answered)
+    }
+
+    /// Commits transaction t, as the store's `commit`. Its event is written, and a crash may still take it away:
+    /// the client is answered after `settle` only.
+    ///
+    /// # Errors
+    ///
+    /// As `begin`.
+    pub fn commit(&mut self, t: u32) -> Result<Result<(), Refusal>, JournalError>
+        requires { IsDurable S.Store self.old }
+        ensures sound { OnOk result (IsDurable S.Store self.new) }
+        ensures step { IfOk result (λ r. Steps self.old.store 0 (command.Commit t) r self.new.store) }
+        ensures life { self.new.journal.header ≡ self.old.journal.header }
+        ensures written { OnOk result (WritesSince S.Store self.old self.new) }
+        ensures settled { OnOk result (KeepsSettled S.Store self.old self.new) }
+        ensures clean { Clean S.Store self.new.journal → Clean S.Store self.old.journal }
+        ensures crash { OutcomesStay S.Store self.old self.new }
+    {
+        let count = self.store.event_count();
+        let ended = self.store.commit(0, t);
+        self.write_since(count)?;
+        Ok(ended)
+    }
+
+    /// Aborts transaction t, as the store's `abort`. Its event is written, and a crash may still take it away.
+    ///
+    /// # Errors
+    ///
+    /// As `begin`.
+    pub fn abort(&mut self, t: u32) -> Result<Result<(), Refusal>, JournalError>
+        requires { IsDurable S.Store self.old }
+        ensures sound { OnOk result (IsDurable S.Store self.new) }
+        ensures step { IfOk result (λ r. Steps self.old.store 0 (command.Abort t) r self.new.store) }
+        ensures life { self.new.journal.header ≡ self.old.journal.header }
+        ensures written { OnOk result (WritesSince S.Store self.old self.new) }
+        ensures settled { OnOk result (KeepsSettled S.Store self.old self.new) }
+        ensures clean { Clean S.Store self.new.journal → Clean S.Store self.old.journal }
+        ensures crash { OutcomesStay S.Store self.old self.new }
+    {
+        let count = self.store.event_count();
+        let ended = self.store.abort(0, t);
+        self.write_since(count)?;
+        Ok(ended)
+    }
+
+    /// Strikes the last n operations of transaction t, as the store's `rollback`. Its event is written, and a
+    /// crash may still take it away.
+    ///
+    /// # Errors
+    ///
+    /// As `begin`.
+    pub fn rollback(&mut self, t: u32, n: u32) -> Result<Result<(), Refusal>, JournalError>
+        requires { IsDurable S.Store self.old }
+        ensures sound { OnOk result (IsDurable S.Store self.new) }
+        ensures step { IfOk result (λ r. MayStep self.old.store 0 (command.Rollback t n) r self.new.store) }
+        ensures life { self.new.journal.header ≡ self.old.journal.header }
+        ensures written { OnOk result (WritesSince S.Store self.old self.new) }
+        ensures settled { OnOk result (KeepsSettled S.Store self.old self.new) }
+        ensures clean { Clean S.Store self.new.journal → Clean S.Store self.old.journal }
+        ensures crash { OutcomesStay S.Store self.old self.new }
+    {
+        let count = self.store.event_count();
+        let rolled_back = self.store.rollback(0, t, n);
+        self.write_since(count)?;
+        Ok(rolled_back)
+    }
+
+    /// Aborts each open transaction, in the order in which they began. The events are written, and a crash may still
+    /// take them away.
+    ///
+    /// # Errors
+    ///
+    /// As `begin`.
+    pub fn abort_all(&mut self) -> Result<(), JournalError>
+        requires { IsDurable S.Store self.old }
+        ensures sound { OnOk result (IsDurable S.Store self.new) }
+        ensures store { self.new.store ≡ record self.old.store { history = self.old.store.history ++ closing self.old.store.history } }
+        ensures none { (t : ℕ) → is_open (summary self.new.store.history) t ≡ false }
+        ensures life { self.new.journal.header ≡ self.old.journal.header }
+        ensures written { OnOk result (WritesSince S.Store self.old self.new) }
+        ensures settled { OnOk result (KeepsSettled S.Store self.old self.new) }
+        ensures clean { Clean S.Store self.new.journal → Clean S.Store self.old.journal }
+        ensures crash { OutcomesStay S.Store self.old self.new }
+    {
+        self.abort_all_but(&[])
+    }
+
+    /// Aborts each open transaction but those, in the order in which they began. The events are written, and a crash
+    /// may still take them away.
+    ///
+    /// # Errors
+    ///
+    /// As `begin`.
+    pub(crate) fn abort_all_but(&mut self, those: &[u32]) -> Result<(), JournalError>
+        requires { IsDurable S.Store self.old }
+        ensures sound { OnOk result (IsDurable S.Store self.new) }
+        ensures store { self.new.store ≡ record self.old.store { history = self.old.store.history ++ closing_but those.now self.old.store.history } }
+        ensures left { (t : ℕ) → is_open (summary self.new.store.history) t ≡ (is_among those.now t && is_open (summary self.old.store.history) t) }
+        ensures life { self.new.journal.header ≡ self.old.journal.header }
+        ensures written { OnOk result (WritesSince S.Store self.old self.new) }
+        ensures settled { OnOk result (KeepsSettled S.Store self.old self.new) }
+        ensures clean { Clean S.Store self.new.journal → Clean S.Store self.old.journal }
+        ensures crash { OutcomesStay S.Store self.old self.new }
+    {
+        let count = self.store.event_count();
+        self.store.abort_all_but(those);
+        self.write_since(count)
+    }
+
+    /// The texts of types that the file has, in order.
+    ///
+    /// # Errors
+    ///
+    /// The file failed or isn't one of a store, or memory was refused for it: the store isn't to be used any
+    /// more.
+    pub fn types(&mut self, alloc: Global) -> Result<Vec<TypeText>, JournalError>
+        requires sound { IsDurable S.Store self.old }
+        requires shows { ShowsCommit S.Store self.old.journal }
+        ensures said { IfOk result (λ types. Clean S.Store self.new.journal → types.items ≡ (written S.Store self.old.journal).types) }
+        ensures sound { OnOk result (IsDurable S.Store self.new) }
+        ensures store { self.new.store ≡ self.old.store }
+        ensures life { self.new.journal.header ≡ self.old.journal.header }
+        ensures written { OnOk result (Clean S.Store self.new.journal → written S.Store self.new.journal ≡ written S.Store self.old.journal) }
+        ensures settled { OnOk result (KeepsSettled S.Store self.old self.new) }
+        ensures shows { OnOk result (ShowsCommit S.Store self.new.journal) }
+        ensures clean { Clean S.Store self.new.journal → Clean S.Store self.old.journal }
+        ensures crash { OutcomesStay S.Store self.old self.new }
+    {
+        self.journal.types(alloc)
+    }
+
+    /// The objects with the places of their types, in order.
+    ///
+    /// # Errors
+    ///
+    /// As `types`.
+    pub fn objects(&mut self, alloc: Global) -> Result<Vec<ObjectLine>, JournalError>
+        requires sound { IsDurable S.Store self.old }
+        requires shows { ShowsCommit S.Store self.old.journal }
+        ensures said { IfOk result (λ objects. Clean S.Store self.new.journal → objects.items ≡ (written S.Store self.old.journal).objects) }
+        ensures sound { OnOk result (IsDurable S.Store self.new) }
+        ensures store { self.new.store ≡ self.old.store }
+        ensures life { self.new.journal.header ≡ self.old.journal.header }
+        ensures written { OnOk result (Clean S.Store self.new.journal → written S.Store self.new.journal ≡ written S.Store self.old.journal) }
+        ensures settled { OnOk result (KeepsSettled S.Store self.old self.new) }
+        ensures shows { OnOk result (ShowsCommit S.Store self.new.journal) }
+        ensures clean { Clean S.Store self.new.journal → Clean S.Store self.old.journal }
+        ensures crash { OutcomesStay S.Store self.old self.new }
+    {
+        self.journal.objects(alloc)
+    }
+
+    /// The states at which the objects began, in order.
+    ///
+    /// # Errors
+    ///
+    /// As `types`.
+    pub fn states(&mut self, alloc: Global) -> Result<Vec<FirstState>, JournalError>
+        requires sound { IsDurable S.Store self.old }
+        requires shows { ShowsCommit S.Store self.old.journal }
+        ensures said { IfOk result (λ states. Clean S.Store self.new.journal → states.items ≡ (written S.Store self.old.journal).states) }
+        ensures sound { OnOk result (IsDurable S.Store self.new) }
+        ensures store { self.new.store ≡ self.old.store }
+        ensures life { self.new.journal.header ≡ self.old.journal.header }
+        ensures written { OnOk result (Clean S.Store self.new.journal → written S.Store self.new.journal ≡ written S.Store self.old.journal) }
+        ensures settled { OnOk result (KeepsSettled S.Store self.old self.new) }
+        ensures shows { OnOk result (ShowsCommit S.Store self.new.journal) }
+        ensures clean { Clean S.Store self.new.journal → Clean S.Store self.old.journal }
+        ensures crash { OutcomesStay S.Store self.old self.new }
+    {
+        self.journal.states(alloc)
+    }
+
+    /// The events of the history from this place on, oldest first, and at most `count`: the file has them, also
+    /// those of which the store has let go.
+    ///
+    /// # Errors
+    ///
+    /// As `types`.
+    pub fn events(
+        &mut self,
+        alloc: Global,
+        from: u64,
+        count: usize,
+    ) -> Result<Vec<EventKind>, JournalError>
+        requires sound { IsDurable S.Store self.old }
+        requires shows { ShowsCommit S.Store self.old.journal }
+        ensures said { IfOk result (λ events. Clean S.Store self.new.journal → events.items ≡ take count (drop from (written S.Store self.old.journal).events)) }
+        ensures happened { IfOk result (λ events. Clean S.Store self.new.journal → events.items ≡ take count (drop from (kinds self.old.store.history))) }
+        ensures sound { OnOk result (IsDurable S.Store self.new) }
+        ensures store { self.new.store ≡ self.old.store }
+        ensures life { self.new.journal.header ≡ self.old.journal.header }
+        ensures written { OnOk result (Clean S.Store self.new.journal → written S.Store self.new.journal ≡ written S.Store self.old.journal) }
+        ensures settled { OnOk result (KeepsSettled S.Store self.old self.new) }
+        ensures shows { OnOk result (ShowsCommit S.Store self.new.journal) }
+        ensures clean { Clean S.Store self.new.journal → Clean S.Store self.old.journal }
+        ensures crash { OutcomesStay S.Store self.old self.new }
+    {
+        self.journal.events(alloc, from, count)
+    }
+
+    /// Makes durable all that was written: after `Ok` no crash takes any of it away. The store lets go of the
+    /// events, which the file has.
+    ///
+    /// # Errors
+    ///
+    /// The file failed, or memory was refused for it: only an open says whether what was written is there.
+    pub fn settle(&mut self) -> Result<(), JournalError>
+        requires { IsDurable S.Store self.old }
+        ensures sound { OnOk result (IsDurable S.Store self.new) }
+        ensures store { OnOk result (self.new.store ≡ record self.old.store { forgotten = length self.old.store.history }) }
+        ensures types { self.new.store.types ≡ self.old.store.types }
+        ensures life { self.new.journal.header ≡ self.old.journal.header }
+        ensures written { OnOk result (Clean S.Store self.new.journal → written S.Store self.new.journal ≡ written S.Store self.old.journal) }
+        ensures durable { OnOk result (Clean S.Store self.new.journal → durable S.Store self.new.journal ≡ written S.Store self.old.journal) }
+        ensures history { OnOk result (Clean S.Store self.new.journal → self.new.store.history ≡ events_of_kinds (durable S.Store self.new.journal).events) }
+        ensures is_open { OnOk result (Clean S.Store self.new.journal → IsOpen S.Store self.new.journal) }
+        ensures shows { OnOk result (ShowsCommit S.Store self.new.journal) }
+        ensures numbered { IsNumbered S.Store self.old.journal → IsNumbered S.Store self.new.journal }
+        ensures clean { Clean S.Store self.new.journal → Clean S.Store self.old.journal }
+        ensures crash { (db : Trees) → may_leave S.Store self.new.journal db
+            → (Clean S.Store self.old.journal × IsFile db × (contents_of db ≡ written S.Store self.old.journal)) ⊎ may_leave S.Store self.old.journal db }
+    {
+        self.journal.commit()?;
+        self.journal.is_settled();
+        let remembered = self.store.history().len();
+        self.store.forget(remembered);
+        Ok(())
+    }
+
+    /// The trees. What was written since the last `settle` is let go, as at a crash.
+    pub fn into_trees(self) -> S
+        ensures { result ≡ self.journal.store }
+    {
+        let Durable { store, journal } = self;
+        let _ = store.close();
+        journal.into_store()
+    }
+
+    /// Aborts each open transaction but the prepared ones, begins the next life, and commits both at once.
+    ///
+    /// # Errors
+    ///
+    /// The file failed, or memory was refused for it.
+    pub(crate) fn recover(&mut self, prepared: &[u32]) -> Result<(), JournalError>
+        requires { IsDurable S.Store self.old }
+        ensures sound { OnOk result (IsDurable S.Store self.new) }
+        ensures recovers { OnOk result (Recovers S.Store prepared.now self.old self.new) }
+        ensures crash { (db : Trees) → may_leave S.Store self.new.journal db
+            → (Clean S.Store self.old.journal × IsFile db × (contents_of db ≡ recovered_but prepared.now (written S.Store self.old.journal))) ⊎ may_leave S.Store self.old.journal db }
+    {
+        self.abort_all_but(prepared)?;
+        self.journal.begin_life()?;
+        self.settle()
+    }
+
+    /// Begins another epoch, in another life: the file has no event any more, and its history begins anew at the
+    /// states that were kept, all of it in one commit. The store has the same types at these states, and no event yet.
+    ///
+    /// # Errors
+    ///
+    /// The file failed, or memory was refused for it. The store's own refusal is inside, and nothing has changed.
+    pub fn renew(
+        self,
+        alloc: Global,
+    ) -> (Durable<S>, Result<Result<(), RenewRefusal>, JournalError>)
+        requires { IsDurable S.Store self }
+        ensures sound { OnOk result.1 (IsDurable S.Store result.0) }
+        ensures store { IfOk result.1 (λ r. OnOk r (Renews self.store result.0.store)) }
+        ensures refused { IfOk result.1 (λ r. IfErr r (λ why. RefusesRenew self.store why × (result.0 ≡ self))) }
+        ensures durable { IfOk result.1 (λ r. OnOk r (Clean S.Store result.0.journal → durable S.Store result.0.journal ≡ renewed (written S.Store self.journal) result.0.store.types)) }
+        ensures shows { IfOk result.1 (λ r. OnOk r (ShowsCommit S.Store result.0.journal)) }
+        ensures last { IfOk result.1 (λ r. OnOk r (Clean S.Store result.0.journal → (written S.Store self.journal).headers ≡ self.journal.header ∷ [])) }
+        ensures clean { Clean S.Store result.0.journal → Clean S.Store self.journal }
+        ensures crash { LeavesEpoch S.Store self result.0 }
+    {
+        let Durable { store, journal } = self;
+        match store.renew(alloc) {
+            Ok((store, _)) => {
+                let mut ahead = Durable { store, journal };
+                match ahead.write_epoch(alloc) {
+                    Ok(()) => (ahead, Ok(Ok(()))),
+                    Err(error) => (ahead, Err(error)),
+                }
+            }
+            Err((store, refusal)) => (Durable { store, journal }, Ok(Err(refusal))),
+        }
+    }
+
+    /// Writes the epoch that the store has begun, and commits it.
+    ///
+    /// # Errors
+    ///
+    /// The file failed, or memory was refused for it.
+    fn write_epoch(&mut self, alloc: Global) -> Result<(), JournalError>
+        requires { IsAhead S.Store self.old }
+        ensures sound { OnOk result (IsDurable S.Store self.new) }
+        ensures store { OnOk result (self.new.store ≡ record self.old.store { forgotten = length self.old.store.history }) }
+        ensures types { self.new.store.types ≡ self.old.store.types }
+        ensures durable { OnOk result (Clean S.Store self.new.journal → durable S.Store self.new.journal ≡ renewed (written S.Store self.old.journal) self.old.store.types) }
+        ensures shows { OnOk result (ShowsCommit S.Store self.new.journal) }
+        ensures last { OnOk result (Clean S.Store self.new.journal → (written S.Store self.old.journal).headers ≡ self.old.journal.header ∷ []) }
+        ensures clean { Clean S.Store self.new.journal → Clean S.Store self.old.journal }
+        ensures crash { (db : Trees) → may_leave S.Store self.new.journal db
+            → (Clean S.Store self.old.journal × IsFile db × (contents_of db ≡ renewed (written S.Store self.old.journal) self.old.store.types)) ⊎ may_leave S.Store self.old.journal db }
+    {
+        let states = first_states(alloc, &self.store)?;
+        if states.len() > MOST_STATES {
+            return Err(JournalError::Full);
+        }
+        self.journal.begin_epoch(&states)?;
+        self.settle()
+    }
+
+    /// Writes the events of the store after the first ones, as many as that.
+    ///
+    /// # Errors
+    ///
+    /// The file failed, or memory was refused for it.
+    pub(crate) fn write_since(&mut self, count: u32) -> Result<(), JournalError>
+        requires { IsBehind S.Store self.old count }
+        ensures sound { OnOk result (IsDurable S.Store self.new) }
+        ensures store { self.new.store ≡ self.old.store }
+        ensures header { self.new.journal.header ≡ self.old.journal.header }
+        ensures written { OnOk result (Clean S.Store self.new.journal → written S.Store self.new.journal ≡ with_all (written S.Store self.old.journal) (drop count self.old.store.history)) }
+        ensures settled { OnOk result (KeepsSettled S.Store self.old self.new) }
+        ensures clean { Clean S.Store self.new.journal → Clean S.Store self.old.journal }
+        ensures crash { OutcomesStay S.Store self.old self.new }
+    {
+        let more = (self.store.event_count() - count) as usize;
+        let remembered = self.store.history();
+        append_all(&mut self.journal, &remembered[remembered.len() - more..])
+    }
+}
+
+/// Writes these events after the others.
+///
+/// # Errors
+///
+/// The file failed, or memory was refused for it.
+fn append_all<S: Alter>(journal: &mut Journal<S>, events: &[Event]) -> Result<(), JournalError>
+    requires { IsJournal S.Store journal.old }
+    ensures kept { OnOk result (IsJournal S.Store journal.new) }
+    ensures written { OnOk result (Clean S.Store journal.new → written S.Store journal.new ≡ with_all (written S.Store journal.old) events.now) }
+    ensures durable { OnOk result (Clean S.Store journal.new → durable S.Store journal.new ≡ durable S.Store journal.old) }
+    ensures header { journal.new.header ≡ journal.old.header }
+    ensures clean { Clean S.Store journal.new → Clean S.Store journal.old }
+    ensures crash { (db : Trees) → may_leave S.Store journal.new db → may_leave S.Store journal.old db }
+{
+    for event in events {
+        journal.append(event.kind)?;
+    }
+    Ok(())
+}
+
+/// The states at which the types of a store begin.
+fn first_states(alloc: Global, store: &Store<Object>) -> Result<Vec<FirstState>, AllocError>
+    ensures { IfOk result (λ states. states.items ≡ firsts store.now.types) }
+{
+    let mut states = Vec::new(alloc);
+    for x in 0..store.object_count() {
+        states.push(first_state(store, x))?;
+    }
+    Ok(states)
+}
+
+/// The state at which the type of the object at x begins.
+fn first_state(store: &Store<Object>, x: u32) -> FirstState
+    requires { x < length store.now.types }
+    ensures { (c : Checked) → slice_get store.now.types x ≡ Some c → result.state ≡ c.file.table.initial }
+{
+    let checked = store.checked(x).unwrap();
+    FirstState {
+        state: checked.initial(),
     }
 }

@@ -1,23 +1,17 @@
 //! A store whose settled commits survive a crash.
 #![tactic(auto)]
 
-mod asking;
 mod begun_types;
-mod creating;
 mod durable;
-mod ending;
-mod epochs;
 mod format;
-mod making;
+mod new_file;
 mod open_error;
-mod opening;
 mod outage;
-mod settling;
-mod writing;
+mod recovered_store;
 
 pub use begun_types::file_types;
-pub use creating::create;
 pub use durable::Durable;
+pub use new_file::create;
 pub use open_error::OpenError;
-pub use opening::{open, open_counted};
 pub use outage::{restart, settle_and_restart};
+pub use recovered_store::{open, open_counted};

@@ -9,7 +9,7 @@ ghost use Rattle.durable_store.specs.Durable.{IsDurable};
 ghost use Rattle.durable_store.specs.Recovered.{IsRecovered};
 
 use crate::durable::Durable;
-use crate::opening::resume;
+use crate::recovered_store::resume;
 use sqlite_trees::store::{Alter, Reopen};
 use std::alloc::Global;
 

@@ -11,13 +11,13 @@ use Rattle.type_table.specs.declared.kind.Kind.{Kind}
 use Rattle.type_table.specs.declared.kind.Kind.TheVariants.{Escrow}
 use Rattle.type_table.proofs.Elements.{eqb-sym}
 use Rattle.escrow_laws.specs.Amounts.{Amounts, IsNumeric}
-use Rattle.escrow_laws.specs.Safe.{Part, done_by, AreOthers}
+use Rattle.escrow_laws.specs.Safe.{Part, done_in_parts, AreOthers}
 use Rattle.escrow_laws.specs.Laws.{FirmIsSafe}
 use Rattle.escrow_laws.proofs.Runs.{run-step}
 use Rattle.object_trait.specs.Object.{Object, IsCovered}
 use Rattle.serial_order.specs.Operations.{is_among, is_by, ops, of, serial}
 use Rattle.serial_order.specs.View.{own_at}
-use Rattle.dynamic_atomicity.specs.Dynamic.{Dated, plain, AreOnce, comes_first, IsKeptAt, KeepsDated}
+use Rattle.dynamic_atomicity.specs.Dynamic.{Dated, undated, AreOnce, comes_first, ComesAfterCommitted, KeepsDated}
 use Rattle.serial_order.specs.declared.entry.Entry.{Entry}
 use Rattle.serial_order.proofs.Facts.{IsLegalAt}
 use Rattle.serial_order.proofs.Escrow.{EscrowFacts, covers_escrow}
@@ -103,7 +103,7 @@ abbrev parts_of : (ℕ → List ℕ) → List ℕ → List Part
 parts_of own [] = []
 parts_of own (u ∷ R) = (record { by = u; count = length (own u) }) ∷ parts_of own R
 
-done-serial : (C : List ℕ) (W : List Entry) (R : List ℕ) → ((u : ℕ) → is_among R u ≡ true → is_among C u ≡ false) → done_by (own_at C W) (parts_of (own_at C W) R) ≡ ops (serial R W)
+done-serial : (C : List ℕ) (W : List Entry) (R : List ℕ) → ((u : ℕ) → is_among R u ≡ true → is_among C u ≡ false) → done_in_parts (own_at C W) (parts_of (own_at C W) R) ≡ ops (serial R W)
 done-serial C W [] apart = refl
 done-serial C W (u ∷ R) apart =
     let mine : own_at C W u ≡ ops (of u W) = ap ops (of-pending C u W (apart u here)) in
@@ -190,18 +190,18 @@ module _ (along : RunsAlong) (ends : LegalEnds) (safe : FirmIsSafe) (o : Object)
   -- ---- each order
 
   abbrev Claim : List Dated → Type 0
-  Claim D = (ts : List ℕ) → AreOnce ts → KeepsDated ts D → IsLegalAt o (ops (serial ts (plain D)))
+  Claim D = (ts : List ℕ) → AreOnce ts → KeepsDated ts D → IsLegalAt o (ops (serial ts (undated D)))
 
   claim_more : (D : List Dated) (b : Dated) → Came o D b → Claim D → Claim (D ++ b ∷ [])
   claim_more D b came claim ts once kept =
-      let V = plain D in
+      let V = undated D in
       let u = b.entry.by in
       let facts : EscrowFacts o b.after (V ++ b.entry ∷ []) = subst (λ (way : Kind). CameBy way o D b) kind came.known in
-      let before : KeepsDated ts D = each-front (IsKeptAt ts) D (b ∷ []) kept in
+      let before : KeepsDated ts D = each-front (ComesAfterCommitted ts) D (b ∷ []) kept in
       let here : IsLegalAt o (ops (serial ts (V ++ b.entry ∷ []))) = elim (cases_Bool (is_among ts u)) [
         | inl among ↦
             let s = split_at ts u among in
-            let first = (each-rest (IsKeptAt ts) D (b ∷ []) kept).0 among in
+            let first = (each-rest (ComesAfterCommitted ts) D (b ∷ []) kept).0 among in
             let split_once : AreOnce (s.front ++ u ∷ s.rest) = subst AreOnce s.is once in
             let front_kept : KeepsDated s.front D = kept-front s.front (u ∷ s.rest) D (subst (λ v. KeepsDated v D) s.is before) in
             let front_legal : IsLegalAt o (ops (serial s.front (V ++ b.entry ∷ []))) =

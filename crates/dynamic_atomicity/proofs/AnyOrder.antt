@@ -13,7 +13,7 @@ use Rattle.object_trait.specs.Object.{Object, IsCovered}
 use Rattle.type_table.proofs.Legal.{legal-front, legal-behind, legal-after}
 use Rattle.type_table.proofs.Elements.{eqb-sym, each-append, each-weaker, each-both, each-passes, each-map}
 use Rattle.serial_order.specs.Operations.{is_among, is_by, ops, of, serial}
-use Rattle.dynamic_atomicity.specs.Dynamic.{Dated, plain, AreOnce, comes_first, IsKeptAt, KeepsDated}
+use Rattle.dynamic_atomicity.specs.Dynamic.{Dated, undated, AreOnce, comes_first, ComesAfterCommitted, KeepsDated}
 use Rattle.serial_order.specs.declared.entry.Entry.{Entry}
 use Rattle.serial_order.proofs.Facts.{IsLegalAt}
 use Rattle.serial_order.proofs.Lists.{ops-append, serial-snoc, serial-apart, of-more}
@@ -97,22 +97,22 @@ module _ (along : RunsAlong) (inside : EndsInside) (ends : LegalEnds) (equi : Eq
   -- the serial order of transactions that aren't b's and hadn't committed before b: b commutes forward with each operation
   apart-free : (D : List Dated) (b : Dated) (W : List ℕ) → Came o D b
       → ((t : ℕ) → is_among W t ≡ true → (is_among b.after t ≡ false) × ((b.entry.by == t) ≡ false))
-      → AllByRecursion (λ q. CommuteForward o.table o.set b.entry.op q) (ops (serial W (plain D)))
+      → AllByRecursion (λ q. CommuteForward o.table o.set b.entry.op q) (ops (serial W (undated D)))
   apart-free D b W came apart =
-      each-map (λ q. CommuteForward o.table o.set b.entry.op q) (λ (e : Entry). e.op) (serial W (plain D))
-      (each-serial (λ e. CommuteForward o.table o.set b.entry.op e.op) W (plain D)
-      (each-weaker (λ e free among. (covers_deferred o covered kind).commute b.entry.op e.op (free (apart e.by among).0 (apart e.by among).1)) (plain D) (came_deferred D b came).0))
+      each-map (λ q. CommuteForward o.table o.set b.entry.op q) (λ (e : Entry). e.op) (serial W (undated D))
+      (each-serial (λ e. CommuteForward o.table o.set b.entry.op e.op) W (undated D)
+      (each-weaker (λ e free among. (covers_deferred o covered kind).commute b.entry.op e.op (free (apart e.by among).0 (apart e.by among).1)) (undated D) (came_deferred D b came).0))
 
   -- ---- what is claimed of a list of dated operations
 
   abbrev Claim : List Dated → Type 0
   Claim D =
       (ts us : List ℕ) → AreOnce ts → AreOnce us → KeepsDated ts D → KeepsDated us D → ((t : ℕ) → is_among ts t ≡ is_among us t)
-      → IsLegalAt o (ops (serial ts (plain D))) × AreEqui o.table (at (ops (serial ts (plain D)))) (at (ops (serial us (plain D))))
+      → IsLegalAt o (ops (serial ts (undated D))) × AreEqui o.table (at (ops (serial ts (undated D)))) (at (ops (serial us (undated D))))
 
   module _ (D : List Dated) (b : Dated) (came : Came o D b) (grown : Grown o D) (claim : Claim D) where
     abbrev V : List Entry
-    V = plain D
+    V = undated D
 
     abbrev C : List ℕ
     C = b.after
@@ -182,8 +182,8 @@ module _ (along : RunsAlong) (inside : EndsInside) (ends : LegalEnds) (equi : Eq
 
     -- an order with b's transaction in it: legal with b in its place, and equieffective to b after the whole
     in_place : (P Q : List ℕ) → AreOnce (P ++ u ∷ Q) → is_among P u ≡ false → KeepsDated (P ++ u ∷ Q) D → ((t : ℕ) → is_among C t ≡ true → comes_first (P ++ u ∷ Q) t u ≡ true) →
-        IsLegalAt o (ops (serial (P ++ u ∷ Q) (plain (D ++ b ∷ []))))
-        × AreEqui o.table (at (ops (serial (P ++ u ∷ Q) (plain (D ++ b ∷ []))))) (at (ops (serial (P ++ u ∷ Q) V) ++ k ∷ []))
+        IsLegalAt o (ops (serial (P ++ u ∷ Q) (undated (D ++ b ∷ []))))
+        × AreEqui o.table (at (ops (serial (P ++ u ∷ Q) (undated (D ++ b ∷ []))))) (at (ops (serial (P ++ u ∷ Q) V) ++ k ∷ []))
     in_place P Q once apart kept first =
         let within : (t : ℕ) → is_among C t ≡ true → is_among P t ≡ true = λ t before. first-before P Q t u apart (first t before) in
         let longer : (P ++ u ∷ []) ++ Q ≡ P ++ u ∷ Q = append_assoc P (u ∷ []) Q in
@@ -207,7 +207,7 @@ module _ (along : RunsAlong) (inside : EndsInside) (ends : LegalEnds) (equi : Eq
               (or_parts (u == t) false outside.1).0,
             )
 
-        new : ops (serial (P ++ u ∷ Q) (plain (D ++ b ∷ []))) ≡ ops (serial (P ++ u ∷ []) V) ++ k ∷ ops (serial Q V)
+        new : ops (serial (P ++ u ∷ Q) (undated (D ++ b ∷ []))) ≡ ops (serial (P ++ u ∷ []) V) ++ k ∷ ops (serial Q V)
         new =
             ap (λ W. ops (serial (P ++ u ∷ Q) W)) (plain-append D (b ∷ []))
             ∙ ap ops (serial-append P (u ∷ Q) (V ++ b.entry ∷ []) ∙ placed_in ∙ sym (append_assoc (serial P V) (of u V) (b.entry ∷ serial Q V)) ∙ ap (λ W. W ++ b.entry ∷ serial Q V) (sym (serial-snoc P u V)))
@@ -224,25 +224,25 @@ module _ (along : RunsAlong) (inside : EndsInside) (ends : LegalEnds) (equi : Eq
 
     -- of any order with b's transaction in it
     placed : (ts : List ℕ) → AreOnce ts → KeepsDated ts (D ++ b ∷ []) → is_among ts u ≡ true →
-        IsLegalAt o (ops (serial ts (plain (D ++ b ∷ []))))
-        × AreEqui o.table (at (ops (serial ts (plain (D ++ b ∷ []))))) (at (ops (serial ts V) ++ k ∷ []))
+        IsLegalAt o (ops (serial ts (undated (D ++ b ∷ []))))
+        × AreEqui o.table (at (ops (serial ts (undated (D ++ b ∷ []))))) (at (ops (serial ts V) ++ k ∷ []))
     placed ts once kept among =
         let s = split_at ts u among in
-        let kept_before : KeepsDated ts D = each-front (IsKeptAt ts) D (b ∷ []) kept in
+        let kept_before : KeepsDated ts D = each-front (ComesAfterCommitted ts) D (b ∷ []) kept in
         let kept_here : (t : ℕ) → is_among C t ≡ true → comes_first ts t u ≡ true =
-        (each-rest (IsKeptAt ts) D (b ∷ []) kept).0 among in
-        subst (λ v. IsLegalAt o (ops (serial v (plain (D ++ b ∷ [])))) × AreEqui o.table (at (ops (serial v (plain (D ++ b ∷ []))))) (at (ops (serial v V) ++ k ∷ []))) (sym s.is)
+        (each-rest (ComesAfterCommitted ts) D (b ∷ []) kept).0 among in
+        subst (λ v. IsLegalAt o (ops (serial v (undated (D ++ b ∷ [])))) × AreEqui o.table (at (ops (serial v (undated (D ++ b ∷ []))))) (at (ops (serial v V) ++ k ∷ []))) (sym s.is)
         (in_place s.front s.rest (subst AreOnce s.is once) s.apart (subst (λ v. KeepsDated v D) s.is kept_before)
         (subst (λ v. (t : ℕ) → is_among C t ≡ true → comes_first v t u ≡ true) s.is kept_here))
 
     -- and of one without it
-    left_out : (ts : List ℕ) → is_among ts u ≡ false → serial ts (plain (D ++ b ∷ [])) ≡ serial ts V
+    left_out : (ts : List ℕ) → is_among ts u ≡ false → serial ts (undated (D ++ b ∷ [])) ≡ serial ts V
     left_out ts apart = ap (serial ts) (plain-append D (b ∷ [])) ∙ serial-apart ts V b.entry apart
 
     -- the claim of one more
     claim_more : Claim (D ++ b ∷ [])
     claim_more ts us ts_once us_once ts_kept us_kept same =
-        let before = claim ts us ts_once us_once (each-front (IsKeptAt ts) D (b ∷ []) ts_kept) (each-front (IsKeptAt us) D (b ∷ []) us_kept) same in
+        let before = claim ts us ts_once us_once (each-front (ComesAfterCommitted ts) D (b ∷ []) ts_kept) (each-front (ComesAfterCommitted us) D (b ∷ []) us_kept) same in
         elim (cases_Bool (is_among ts u)) [
           | inl among ↦
               let first = placed ts ts_once ts_kept among in
@@ -250,8 +250,8 @@ module _ (along : RunsAlong) (inside : EndsInside) (ends : LegalEnds) (equi : Eq
               let between : AreEqui o.table (at (ops (serial ts V) ++ k ∷ [])) (at (ops (serial us V) ++ k ∷ [])) =
               rw (along o.table begin (ops (serial ts V)) (k ∷ []), along o.table begin (ops (serial us V)) (k ∷ [])) (run-equi along o.table (at (ops (serial ts V))) (at (ops (serial us V))) (k ∷ []) before.1) in (
                 first.0,
-                (equi o.table).through (at (ops (serial ts (plain (D ++ b ∷ []))))) (at (ops (serial ts V) ++ k ∷ [])) (at (ops (serial us (plain (D ++ b ∷ []))))) first.1
-                    ((equi o.table).through (at (ops (serial ts V) ++ k ∷ [])) (at (ops (serial us V) ++ k ∷ [])) (at (ops (serial us (plain (D ++ b ∷ []))))) between (second.1.1, second.1.0)),
+                (equi o.table).through (at (ops (serial ts (undated (D ++ b ∷ []))))) (at (ops (serial ts V) ++ k ∷ [])) (at (ops (serial us (undated (D ++ b ∷ []))))) first.1
+                    ((equi o.table).through (at (ops (serial ts V) ++ k ∷ [])) (at (ops (serial us V) ++ k ∷ [])) (at (ops (serial us (undated (D ++ b ∷ []))))) between (second.1.1, second.1.0)),
               )
           | inr outside ↦ rw (left_out ts outside, left_out us (sym (same u) ∙ outside)) before
         ]

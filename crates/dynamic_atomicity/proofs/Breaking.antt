@@ -18,7 +18,7 @@ use Rattle.serial_order.specs.History.{Summary, summary, is_open}
 use Rattle.serial_order.specs.View.{view, conflicts_with, stops_at}
 use Rattle.serial_order.specs.Machine.{May, MayDo, RunsOn, IsRun}
 use Rattle.serial_order.specs.Examples.{events}
-use Rattle.dynamic_atomicity.specs.Converse.{by, breaking, Goes, StepsHaveOps, UndoBreaks}
+use Rattle.dynamic_atomicity.specs.Converse.{executed_by, breaking, Goes, StepsHaveOps, UndoBreaks}
 use Rattle.serial_order.specs.declared.entry.Entry.{Entry}
 use Rattle.serial_order.proofs.Events.{summary_after, summary-snoc}
 use Rattle.serial_order.proofs.Facts.{IsLegalAt}
@@ -126,13 +126,13 @@ module _ (objects : List Object) (x : ℕ) (along : RunsAlong) (ends : LegalEnds
   after-one s t k = rw (append-nil s.committed, append-nil s.aborted) refl
 
   alone_runs : (s : Summary) (t : ℕ) (r : List ℕ) (rest : List EventKind) → is_open s t ≡ true → IsAlone s t → Goes o.table (ops (view o.kind s x t)) r
-      → RunsFrom objects (with_surviving s (s.survives ++ done_by x t r)) rest → RunsFrom objects s (by x t r ++ rest)
+      → RunsFrom objects (with_surviving s (s.survives ++ done_by x t r)) rest → RunsFrom objects s (executed_by x t r ++ rest)
   alone_runs s t [] rest open_now alone goes on = rw (append-nil s.survives) at on
   alone_runs s t (k ∷ r) rest open_now alone goes on =
       let e : Entry = record { by = t; at = x; op = k } in
       let next_summary : Summary = with_surviving s (s.survives ++ e ∷ []) in (
         may_do s t k (ops (view o.kind s x t)) open_now refl goes.0 (alone-free s t k alone),
-        subst (λ (now : Summary). RunsFrom objects now (by x t r ++ rest)) (sym (after-one s t k))
+        subst (λ (now : Summary). RunsFrom objects now (executed_by x t r ++ rest)) (sym (after-one s t k))
             (alone_runs next_summary t r rest open_now
             (each-append (λ (e : Entry). (is_open s e.by && not (e.by == t)) ≡ false) s.survives (e ∷ []) alone (own, tt))
             (rw (view-more o.kind s t k (open_is_uncommitted s t open_now)) goes.1)
@@ -142,11 +142,11 @@ module _ (objects : List Object) (x : ℕ) (along : RunsAlong) (ends : LegalEnds
       own : (is_open s t && not (t == t)) ≡ false
       own = rw (open_now, eq-eqb t t refl) refl
 
-  summary_from-by : (s : Summary) (t : ℕ) (r : List ℕ) (rest : List EventKind) → summary_from s (by x t r ++ rest) ≡ summary_from (with_surviving s (s.survives ++ done_by x t r)) rest
+  summary_from-by : (s : Summary) (t : ℕ) (r : List ℕ) (rest : List EventKind) → summary_from s (executed_by x t r ++ rest) ≡ summary_from (with_surviving s (s.survives ++ done_by x t r)) rest
   summary_from-by s t [] rest = ap (λ V. summary_from (with_surviving s V) rest) (sym (append-nil s.survives))
   summary_from-by s t (k ∷ r) rest =
       let e : Entry = record { by = t; at = x; op = k } in
-      ap (λ (now : Summary). summary_from now (by x t r ++ rest)) (after-one s t k)
+      ap (λ (now : Summary). summary_from now (executed_by x t r ++ rest)) (after-one s t k)
       ∙ summary_from-by (with_surviving s (s.survives ++ e ∷ [])) t r rest
       ∙ ap (λ V. summary_from (with_surviving s V) rest) (append_assoc s.survives (e ∷ []) (done_by x t r))
 
@@ -227,7 +227,7 @@ module _ (objects : List Object) (x : ℕ) (along : RunsAlong) (ends : LegalEnds
     -- up to the two operations
     prefix_runs : (rest : List EventKind) → IsLetIn → IsLegalAt o (w ++ q ∷ []) → IsLegalAt o (view_of_2 o.kind ++ p ∷ [])
         → RunsFrom objects (record { begun = 3; committed = 0 ∷ []; aborted = []; survives = survived }) rest
-        → RunsFrom objects (summary []) (Begin 0 ∷ (by x 0 w ++ (Commit 0 ∷ Begin 1 ∷ Begin 2 ∷ Op q 1 x ∷ Op p 2 x ∷ rest)))
+        → RunsFrom objects (summary []) (Begin 0 ∷ (executed_by x 0 w ++ (Commit 0 ∷ Begin 1 ∷ Begin 2 ∷ Op q 1 x ∷ Op p 2 x ∷ rest)))
     prefix_runs rest free q_legal p_legal on = (
       refl,
       alone_runs (record { begun = 1; committed = []; aborted = []; survives = [] }) 0 w (Commit 0 ∷ Begin 1 ∷ Begin 2 ∷ Op q 1 x ∷ Op p 2 x ∷ rest) refl tt
@@ -248,7 +248,7 @@ module _ (objects : List Object) (x : ℕ) (along : RunsAlong) (ends : LegalEnds
         → is_open (record { begun = 3; committed = 0 ∷ first ∷ []; aborted = []; survives = survived }) second ≡ true
         → is_open (ended first second) 1 ≡ false → is_open (ended first second) 2 ≡ false → is_open (ended first second) 3 ≡ true
         → Goes o.table (ops (view o.kind (ended first second) x 3)) r
-        → RunsFrom objects (record { begun = 3; committed = 0 ∷ []; aborted = []; survives = survived }) (Commit first ∷ Commit second ∷ Begin 3 ∷ (by x 3 r ++ Commit 3 ∷ []))
+        → RunsFrom objects (record { begun = 3; committed = 0 ∷ []; aborted = []; survives = survived }) (Commit first ∷ Commit second ∷ Begin 3 ∷ (executed_by x 3 r ++ Commit 3 ∷ []))
     tail_runs first second r first_open second_open one_closed two_closed three_open goes =
         (first_open, (second_open, (refl, alone_runs (ended first second) 3 r (Commit 3 ∷ []) three_open alone goes (three_open, tt))))
       where
@@ -263,9 +263,9 @@ module _ (objects : List Object) (x : ℕ) (along : RunsAlong) (ends : LegalEnds
     pub summary_at_end : (first second : ℕ) (r : List ℕ) →
         summary (breaking x first second w p q r) ≡ record { begun = 4; committed = 0 ∷ first ∷ second ∷ 3 ∷ []; aborted = []; survives = survived ++ done_by x 3 r }
     summary_at_end first second r =
-        let last : List EventKind = by x 3 r ++ Commit 3 ∷ [] in
+        let last : List EventKind = executed_by x 3 r ++ Commit 3 ∷ [] in
         let middle : List EventKind = Commit 0 ∷ Begin 1 ∷ Begin 2 ∷ Op q 1 x ∷ Op p 2 x ∷ Commit first ∷ Commit second ∷ Begin 3 ∷ last in
-        summary-events [] (Begin 0 ∷ (by x 0 w ++ middle))
+        summary-events [] (Begin 0 ∷ (executed_by x 0 w ++ middle))
         ∙ summary_from-by (record { begun = 1; committed = []; aborted = []; survives = [] }) 0 w middle
         ∙ summary_from-by (ended first second) 3 r (Commit 3 ∷ [])
 
@@ -331,8 +331,8 @@ module _ (objects : List Object) (x : ℕ) (along : RunsAlong) (ends : LegalEnds
       let q_then_p : IsLegalAt o (w ++ q ∷ p ∷ []) = legal-front o.table begin (w ++ q ∷ p ∷ []) r both in
       let p_legal : IsLegalAt o ((w ++ q ∷ []) ++ p ∷ []) = rw (append_assoc w (q ∷ []) (p ∷ [])) q_then_p in
       let q_legal : IsLegalAt o (w ++ q ∷ []) = legal-front o.table begin (w ++ q ∷ []) (p ∷ []) p_legal in
-      let rest : List EventKind = Commit 2 ∷ Commit 1 ∷ Begin 3 ∷ (by x 3 r ++ Commit 3 ∷ []) in
-      runs-events objects [] (Begin 0 ∷ (by x 0 w ++ (Commit 0 ∷ Begin 1 ∷ Begin 2 ∷ Op q 1 x ∷ Op p 2 x ∷ rest)))
+      let rest : List EventKind = Commit 2 ∷ Commit 1 ∷ Begin 3 ∷ (executed_by x 3 r ++ Commit 3 ∷ []) in
+      runs-events objects [] (Begin 0 ∷ (executed_by x 0 w ++ (Commit 0 ∷ Begin 1 ∷ Begin 2 ∷ Op q 1 x ∷ Op p 2 x ∷ rest)))
       (prefix_runs objects x along ends o there named w p q rest (let_in Undo undo (λ V. free)) q_legal (seen_legal Undo undo p_legal)
       (tail_runs objects x along ends o there named w p q 2 1 r refl refl refl refl refl (goes_on Undo undo (ended objects x along ends o there named w p q 2 1) (rw (view_3_undo (ended objects x along ends o there named w p q 2 1) refl) (goes_from objects x along ends o there named (w ++ q ∷ p ∷ []) r both)))))
 
@@ -362,15 +362,15 @@ module _ (objects : List Object) (x : ℕ) (along : RunsAlong) (ends : LegalEnds
   -- the first commits first
   pub one_two_runs : o.kind ≡ Intentions → IsLegalAt o (w ++ q ∷ []) → IsLegalAt o (w ++ p ∷ []) → Goes o.table (w ++ q ∷ p ∷ []) r → IsRun objects (breaking x 1 2 w p q r)
   one_two_runs deferred q_legal p_legal goes =
-      let rest : List EventKind = Commit 1 ∷ Commit 2 ∷ Begin 3 ∷ (by x 3 r ++ Commit 3 ∷ []) in
-      runs-events objects [] (Begin 0 ∷ (by x 0 w ++ (Commit 0 ∷ Begin 1 ∷ Begin 2 ∷ Op q 1 x ∷ Op p 2 x ∷ rest)))
+      let rest : List EventKind = Commit 1 ∷ Commit 2 ∷ Begin 3 ∷ (executed_by x 3 r ++ Commit 3 ∷ []) in
+      runs-events objects [] (Begin 0 ∷ (executed_by x 0 w ++ (Commit 0 ∷ Begin 1 ∷ Begin 2 ∷ Op q 1 x ∷ Op p 2 x ∷ rest)))
       (prefix_runs objects x along ends o there named w p q rest (let_in objects x along ends o there named w p q r free Intentions deferred (λ V. free)) q_legal (seen_legal objects x along ends o there named w p q r free Intentions deferred p_legal)
       (tail_runs objects x along ends o there named w p q 1 2 r refl refl refl refl refl (goes_on objects x along ends o there named w p q r free Intentions deferred (ended objects x along ends o there named w p q 1 2) (rw view_one_two goes))))
 
   -- the second does
   pub two_one_runs : o.kind ≡ Intentions → IsLegalAt o (w ++ q ∷ []) → IsLegalAt o (w ++ p ∷ []) → Goes o.table (w ++ p ∷ q ∷ []) r → IsRun objects (breaking x 2 1 w p q r)
   two_one_runs deferred q_legal p_legal goes =
-      let rest : List EventKind = Commit 2 ∷ Commit 1 ∷ Begin 3 ∷ (by x 3 r ++ Commit 3 ∷ []) in
-      runs-events objects [] (Begin 0 ∷ (by x 0 w ++ (Commit 0 ∷ Begin 1 ∷ Begin 2 ∷ Op q 1 x ∷ Op p 2 x ∷ rest)))
+      let rest : List EventKind = Commit 2 ∷ Commit 1 ∷ Begin 3 ∷ (executed_by x 3 r ++ Commit 3 ∷ []) in
+      runs-events objects [] (Begin 0 ∷ (executed_by x 0 w ++ (Commit 0 ∷ Begin 1 ∷ Begin 2 ∷ Op q 1 x ∷ Op p 2 x ∷ rest)))
       (prefix_runs objects x along ends o there named w p q rest (let_in objects x along ends o there named w p q r free Intentions deferred (λ V. free)) q_legal (seen_legal objects x along ends o there named w p q r free Intentions deferred p_legal)
       (tail_runs objects x along ends o there named w p q 2 1 r refl refl refl refl refl (goes_on objects x along ends o there named w p q r free Intentions deferred (ended objects x along ends o there named w p q 2 1) (rw view_two_one goes))))

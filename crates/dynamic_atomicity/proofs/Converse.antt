@@ -16,7 +16,7 @@ use Rattle.serial_order.specs.Operations.{is_among, at_object, ops, serial}
 use Rattle.serial_order.specs.History.{Summary, commits}
 use Rattle.serial_order.specs.Machine.{IsRun}
 use Rattle.serial_order.specs.Serial.{surviving_at, serial_at}
-use Rattle.dynamic_atomicity.specs.Dynamic.{IsOrderOf, KeepsPrecedes, executed_at, end_of, EndsAgree, CoveredIsAtomic, CommitOrderKeeps}
+use Rattle.dynamic_atomicity.specs.Dynamic.{IsOrderOf, KeepsObjectPrecedes, executed_at, end_state, EndsAgree, CoveredIsAtomic, CommitOrderKeeps}
 use Rattle.dynamic_atomicity.specs.Converse.{breaking, Goes, AdmitsLegalOnly, StepsHaveOps, IsReached, CoverIsExact, UndoSerialIsExact, StrongIsExact}
 use Rattle.serial_order.specs.declared.entry.Entry.{Entry}
 use Rattle.serial_order.proofs.Facts.{IsLegalAt}
@@ -141,8 +141,8 @@ undo_serial_is_exact along ends atomic keeps objects x o there named undo reache
 -- ---- the strong form
 
 module _ (objects : List Object) (x : ℕ) (along : RunsAlong) (ends : LegalEnds) (o : Object) (there : slice_get objects x ≡ Some o) (named : StepsHaveOps o.table) (undo : o.kind ≡ Undo) (reached : IsReached o) (covered : IsCovered o)
-    (equi : (H : List Event) → IsRun objects H → (ts : List ℕ) → IsOrderOf (commits H) ts → KeepsPrecedes x H ts
-    → AreEqui o.table (end_of o (executed_at x H)) (end_of o (serial ts (surviving_at x H)))) where
+    (equi : (H : List Event) → IsRun objects H → (ts : List ℕ) → IsOrderOf (commits H) ts → KeepsObjectPrecedes x H ts
+    → AreEqui o.table (end_state o (executed_at x H)) (end_state o (serial ts (surviving_at x H)))) where
   -- what was executed
   executed-ops : (w : List ℕ) (p q : ℕ) → ops (executed_at x (breaking x 2 1 w p q [])) ≡ w ++ q ∷ p ∷ []
   executed-ops w p q =
@@ -164,7 +164,7 @@ module _ (objects : List Object) (x : ℕ) (along : RunsAlong) (ends : LegalEnds
       let at_s = (reached.reach s member).1 in
       let H = breaking x 2 1 w p q [] in
       let known = undo_breaks along ends objects x o w p q [] there named undo free (legal-after along T begin_here w (q ∷ p ∷ []) s at_s legal) in
-      let same : AreEqui T (end_of o (executed_at x H)) (end_of o (serial_at x H)) = equi H known.0 (commits H) (rw known.1 (record { once = (refl, (refl, (refl, (refl, tt)))); same = λ t. refl }))
+      let same : AreEqui T (end_state o (executed_at x H)) (end_state o (serial_at x H)) = equi H known.0 (commits H) (rw known.1 (record { once = (refl, (refl, (refl, (refl, tt)))); same = λ t. refl }))
       (rw known.1 (keeps_breaking x two_then_one 2 1 w p q [] refl refl (refl, (refl, (refl, tt))))) in
       let covers = covers_undo o covered undo in
       let turned : AreEqui T (run T begin_here (w ++ q ∷ p ∷ [])) (run T begin_here (w ++ p ∷ q ∷ [])) = rw (executed-ops w p q, known.2) at same in

@@ -20,7 +20,7 @@ use Rattle.serial_order.specs.View.{view, is_legal_after}
 use Rattle.serial_order.specs.Machine.{May, MayDo, IsRun}
 use Rattle.serial_order.specs.Serial.{surviving_at}
 use Rattle.serial_order.specs.After.{AreInRun}
-use Rattle.dynamic_atomicity.specs.Dynamic.{Dated, dated_by, plain, dated_after, dated_from, dated, dated_at, AreOnce}
+use Rattle.dynamic_atomicity.specs.Dynamic.{Dated, dated_by, undated, dated_after, dated_from, dated, dated_at, AreOnce}
 use Rattle.serial_order.specs.declared.entry.Entry.{Entry}
 use Rattle.serial_order.proofs.Strikes.{keep_first-part}
 use Rattle.serial_order.proofs.Facts.{IsAdmitted, IsLegalAt, free_undo, free_deferred}
@@ -45,7 +45,7 @@ dated-snoc H e = dated_from-snoc [] [] H e
 
 -- ---- they are what survives
 
-plain-after : (C : List ℕ) (D : List Dated) (happened : EventKind) → plain (dated_after C D happened) ≡ survive_after (plain D) happened
+plain-after : (C : List ℕ) (D : List Dated) (happened : EventKind) → undated (dated_after C D happened) ≡ survive_after (undated D) happened
 plain-after C D (Begin t) = refl
 plain-after C D (Op k t x) = plain-append D ((record { entry = record { by = t; at = x; op = k }; after = C }) ∷ [])
 plain-after C D (Busy c t x u) = refl
@@ -54,18 +54,18 @@ plain-after C D (Commit t) = refl
 plain-after C D (Abort t) = plain-keep_first (is_by t) 0 D
 plain-after C D (Rollback t n) =
     plain-keep_first (is_by t) (length (filter (dated_by t) D) - n) D
-    ∙ ap (λ m. keep_first (is_by t) (m - n) (plain D)) (sym (length-map (filter (dated_by t) D) (λ (d : Dated). d.entry)) ∙ ap length (plain-filter (is_by t) D))
+    ∙ ap (λ m. keep_first (is_by t) (m - n) (undated D)) (sym (length-map (filter (dated_by t) D) (λ (d : Dated). d.entry)) ∙ ap length (plain-filter (is_by t) D))
 
-plain-from : (C : List ℕ) (D : List Dated) (H : List Event) → plain (dated_from C D H) ≡ fold (λ V (e : Event). survive_after V e.kind) (plain D) H
+plain-from : (C : List ℕ) (D : List Dated) (H : List Event) → undated (dated_from C D H) ≡ fold (λ V (e : Event). survive_after V e.kind) (undated D) H
 plain-from C D [] = refl
 plain-from C D (e ∷ H) =
     plain-from (C ++ committed_by e.kind) (dated_after C D e.kind) H
     ∙ ap (λ V. fold (λ V (e : Event). survive_after V e.kind) V H) (plain-after C D e.kind)
 
-pub plain-dated : (H : List Event) → plain (dated H) ≡ surviving H
+pub plain-dated : (H : List Event) → undated (dated H) ≡ surviving H
 plain-dated H = plain-from [] [] H
 
-pub plain-dated_at : (x : ℕ) (H : List Event) → plain (dated_at x H) ≡ surviving_at x H
+pub plain-dated_at : (x : ℕ) (H : List Event) → undated (dated_at x H) ≡ surviving_at x H
 plain-dated_at x H = plain-filter (λ e. e.at == x) (dated H) ∙ ap (at_object x) (plain-dated H)
 
 -- ---- in a run
@@ -117,7 +117,7 @@ module _ (strikes : FirmAfterStrike) (objects : List Object) (x : ℕ) (o : Obje
 
   -- by ways of recovery, what is so of an operation that the machine allows
   came_now : (way : Kind) → o.kind ≡ way → (s : Summary) (t k : ℕ) → IsAdmitted o s.committed (at_object x s.survives) (record { by = t; at = x; op = k }) → is_legal_after o (view way s x t) k ≡ true
-      → (way ≡ Escrow → EscrowFacts o s.committed (at_object x s.survives)) → (D : List Dated) → plain D ≡ at_object x s.survives → CameBy way o D (record { entry = record { by = t; at = x; op = k }; after = s.committed })
+      → (way ≡ Escrow → EscrowFacts o s.committed (at_object x s.survives)) → (D : List Dated) → undated D ≡ at_object x s.survives → CameBy way o D (record { entry = record { by = t; at = x; op = k }; after = s.committed })
   came_now Undo is s t k admitted legal facts D are = rw are (free_undo o s.committed (at_object x s.survives) (record { by = t; at = x; op = k }) is admitted).free
   came_now Intentions is s t k admitted legal facts D are = (rw are (free_deferred o s.committed (at_object x s.survives) (record { by = t; at = x; op = k }) is admitted).free, rw are legal)
   came_now Escrow is s t k admitted legal facts D are = rw are (escrow_more is s.committed (at_object x s.survives) (record { by = t; at = x; op = k }) admitted legal (facts refl))
@@ -127,7 +127,7 @@ module _ (strikes : FirmAfterStrike) (objects : List Object) (x : ℕ) (o : Obje
   Firm s = o.kind ≡ Escrow → EscrowFacts o s.committed (at_object x s.survives)
 
   -- an operation at x
-  op_here : (s : Summary) (D : List Dated) (t k : ℕ) → plain (here D) ≡ at_object x s.survives → AreInRun s → is_open s t ≡ true → MayDo (slice_get objects x) s x t k → Firm s
+  op_here : (s : Summary) (D : List Dated) (t k : ℕ) → undated (here D) ≡ at_object x s.survives → AreInRun s → is_open s t ≡ true → MayDo (slice_get objects x) s x t k → Firm s
       → AreDated o s.committed (here D) → AreDated o s.committed (here (D ++ (record { entry = record { by = t; at = x; op = k }; after = s.committed }) ∷ []))
   op_here s D t k are known open_now may firm h =
       let allowed : MayDo (Some o) s x t k = subst (λ (found : Option Object). MayDo found s x t k) there may in
@@ -136,7 +136,7 @@ module _ (strikes : FirmAfterStrike) (objects : List Object) (x : ℕ) (o : Obje
       rw (filter-more (λ (d : Dated). d.entry.at == x) D (record { entry = e; after = s.committed }) (eq-eqb x x refl))
       (one_more s.committed (here D) e admitted.uncommitted (came_now o.kind refl s t k admitted allowed.1 firm (here D) are) h)
 
-  step : (H : List Event) (happened : EventKind) → plain (here (dated H)) ≡ at_object x (surviving H) → AreInRun (summary H) → May objects (summary H) happened → Firm (summary H)
+  step : (H : List Event) (happened : EventKind) → undated (here (dated H)) ≡ at_object x (surviving H) → AreInRun (summary H) → May objects (summary H) happened → Firm (summary H)
       → AreDated o (commits H) (here (dated H)) → AreDated o (commits H ++ committed_by happened) (here (dated_after (commits H) (dated H) happened))
   step H (Begin t) are known may firm h = same_committed (commits H) (here (dated H)) h
   step H (Op k t y) are known may firm h = same_committed (commits H) _ (⊎_elim

@@ -27,7 +27,7 @@ use Rattle.serial_order.specs.History.{commits, committed_by, summary, Summary, 
 use Rattle.serial_order.specs.Machine.{IsRun, RunsOn, MayFollow, May}
 use Rattle.serial_order.specs.Serial.{surviving_at}
 use Rattle.serial_order.specs.Laws.{may_pass}
-use Rattle.dynamic_atomicity.specs.Dynamic.{comes_first, AreOnce, IsOrderOf, is_op_at, Precedes, KeepsPrecedes, Dated, dated_by, plain, dated_after, dated, dated_at, IsKeptAt, KeepsDated, end_of, EndsAgree, CoveredIsAtomic, RunsAreAtomicLiving, CommitOrderKeeps}
+use Rattle.dynamic_atomicity.specs.Dynamic.{comes_first, AreOnce, IsOrderOf, is_op_at, PrecedesAtObject, KeepsObjectPrecedes, Dated, dated_by, undated, dated_after, dated, dated_at, ComesAfterCommitted, KeepsDated, end_state, EndsAgree, CoveredIsAtomic, RunsAreAtomicLiving, CommitOrderKeeps}
 use Rattle.serial_order.specs.declared.entry.Entry.{Entry}
 use Rattle.serial_order.proofs.Facts.{IsLegalAt}
 use Rattle.serial_order.proofs.Lists.{ops-append, is_among-apart}
@@ -49,7 +49,7 @@ use Rattle.dynamic_atomicity.proofs.InRun.{covers_undo_strongly, passes_both_way
 -- ---- what precedes
 
 -- what precedes in a history precedes in a longer one
-precedes-more : (x : ℕ) (H : List Event) (e : Event) (t u : ℕ) → Precedes x H t u → Precedes x (H ++ e ∷ []) t u
+precedes-more : (x : ℕ) (H : List Event) (e : Event) (t u : ℕ) → PrecedesAtObject x H t u → PrecedesAtObject x (H ++ e ∷ []) t u
 precedes-more x H e t u h = record {
   before = h.before;
   happened = h.happened;
@@ -61,7 +61,7 @@ precedes-more x H e t u h = record {
 
 -- the dates of an operation say what precedes
 abbrev Tells : List Event → Dated → Type 0
-Tells H d = (t : ℕ) → is_among d.after t ≡ true → Precedes d.entry.at H t d.entry.by
+Tells H d = (t : ℕ) → is_among d.after t ≡ true → PrecedesAtObject d.entry.at H t d.entry.by
 
 each_event : (G : List Event) (e : Event) (happened : EventKind) → e.kind ≡ happened → AllByRecursion (Tells (G ++ e ∷ [])) (dated G)
     → AllByRecursion (Tells (G ++ e ∷ [])) (dated_after (commits G) (dated G) happened)
@@ -83,10 +83,10 @@ dates-tell objects = in_run objects (λ G. AllByRecursion (Tells G) (dated G)) t
     (λ G e going may h. rw (dated-snoc G e) (each_event G e e.kind refl (each-weaker {P = Tells G} {Q = Tells (G ++ e ∷ [])} (λ (d : Dated) tells t before. precedes-more d.entry.at G e t d.entry.by (tells t before)) (dated G) h)))
 
 -- an order that keeps what precedes at x keeps it by the operations that survive there
-keeps-living : (objects : List Object) (H : List Event) (x : ℕ) (ts : List ℕ) → IsRun objects H → KeepsPrecedes x H ts → KeepsDated ts (dated_at x H)
+keeps-living : (objects : List Object) (H : List Event) (x : ℕ) (ts : List ℕ) → IsRun objects H → KeepsObjectPrecedes x H ts → KeepsDated ts (dated_at x H)
 keeps-living objects H x ts run keeps =
-    each-passes (IsKeptAt ts) (λ (d : Dated). d.entry.at == x) (dated H)
-    (each-weaker {P = Tells H} {Q = λ (d : Dated). (d.entry.at == x) ≡ true → IsKeptAt ts d} (λ (d : Dated) tells here inside t before. keeps t d.entry.by (subst (λ y. Precedes y H t d.entry.by) (eqb-true d.entry.at x here) (tells t before)) inside) (dated H) (dates-tell objects H run))
+    each-passes (ComesAfterCommitted ts) (λ (d : Dated). d.entry.at == x) (dated H)
+    (each-weaker {P = Tells H} {Q = λ (d : Dated). (d.entry.at == x) ≡ true → ComesAfterCommitted ts d} (λ (d : Dated) tells here inside t before. keeps t d.entry.by (subst (λ y. PrecedesAtObject y H t d.entry.by) (eqb-true d.entry.at x here) (tells t before)) inside) (dated H) (dates-tell objects H run))
 
 -- ---- commit order
 
@@ -125,7 +125,7 @@ op_is_open objects s x u (Rollback t n) is may = absurd (false≢true is)
 pub commit_order_keeps : CommitOrderKeeps
 commit_order_keeps objects H run = (record { once = commits_once objects H run; same = λ t. refl }, kept)
   where
-    kept : (x : ℕ) → KeepsPrecedes x H (commits H)
+    kept : (x : ℕ) → KeepsObjectPrecedes x H (commits H)
     kept x t u h inside =
         let going : RunsOn objects [] (h.before ++ h.happened ∷ h.behind) = subst (IsRun objects) h.whole run in
         let open_then = op_is_open objects (summary h.before) x u h.happened.kind h.operation (follows objects [] h.before h.happened h.behind going) in
@@ -143,16 +143,16 @@ pairs-with {E} R P (a ∷ V) pairs each = (both V pairs.0 each.1, pairs-with R P
     both [] r p = tt
     both (b ∷ W) r p = ((r.0, p.0), both W r.1 p.1)
 
-each-plain : (P : Entry → Type 0) (D : List Dated) → AllByRecursion (λ (d : Dated). P d.entry) D → AllByRecursion P (plain D)
+each-plain : (P : Entry → Type 0) (D : List Dated) → AllByRecursion (λ (d : Dated). P d.entry) D → AllByRecursion P (undated D)
 each-plain P [] p = tt
 each-plain P (d ∷ D) p = (p.0, each-plain P D p.1)
 
-pairs-plain : (R : Entry → Entry → Type 0) (D : List Dated) → Pairs (λ (a b : Dated). R a.entry b.entry) D → Pairs R (plain D)
+pairs-plain : (R : Entry → Entry → Type 0) (D : List Dated) → Pairs (λ (a b : Dated). R a.entry b.entry) D → Pairs R (undated D)
 pairs-plain R [] p = tt
 pairs-plain R (d ∷ D) p = (each-plain (R d.entry) D p.0, pairs-plain R D p.1)
 
 -- an operation that the order puts after a later one may be passed by it
-turned : (o : Object) (ts : List ℕ) (a b : Dated) → IsApartFree o a b → IsKeptAt ts b → comes_first ts b.entry.by a.entry.by ≡ true → may_pass o a.entry b.entry ≡ true
+turned : (o : Object) (ts : List ℕ) (a b : Dated) → IsApartFree o a b → ComesAfterCommitted ts b → comes_first ts b.entry.by a.entry.by ≡ true → may_pass o a.entry b.entry ≡ true
 turned o ts a b locked kept first =
     let apart = first-apart ts b.entry.by a.entry.by first in
     passes_from o a.entry b.entry apart (elim (cases_Bool (is_among b.after a.entry.by)) [
@@ -160,10 +160,10 @@ turned o ts a b locked kept first =
       | inr open_then ↦ locked open_then apart
     ])
 
-turned_free : (o : Object) → o.kind ≡ Undo → (ts : List ℕ) (D : List Dated) → Grown o D → KeepsDated ts D → Pairs (IsTurnedFree (may_pass o) ts) (plain D)
+turned_free : (o : Object) → o.kind ≡ Undo → (ts : List ℕ) (D : List Dated) → Grown o D → KeepsDated ts D → Pairs (IsTurnedFree (may_pass o) ts) (undated D)
 turned_free o undo ts D grown kept =
     pairs-plain (IsTurnedFree (may_pass o) ts) D
-    (pairs-weaker {P = λ (a b : Dated). IsApartFree o a b × IsKeptAt ts b} (λ (a b : Dated) h. turned o ts a b h.0 h.1) D (pairs-with (IsApartFree o) (IsKeptAt ts) D (grown-locked o undo D grown) kept))
+    (pairs-weaker {P = λ (a b : Dated). IsApartFree o a b × ComesAfterCommitted ts b} (λ (a b : Dated) h. turned o ts a b h.0 h.1) D (pairs-with (IsApartFree o) (ComesAfterCommitted ts) D (grown-locked o undo D grown) kept))
 
 -- one of an open transaction may be passed by a later one of a committed one
 open_passed : (o : Object) (C : List ℕ) (a b : Dated) → IsApartFree o a b → IsFront b.after C → is_among C a.entry.by ≡ false → is_among C b.entry.by ≡ true → may_pass o a.entry b.entry ≡ true
@@ -171,7 +171,7 @@ open_passed o C a b locked front pending ended =
     let apart = is_among-apart C a.entry.by b.entry.by pending ended in
     passes_from o a.entry b.entry apart (locked (front-outside b.after C a.entry.by front pending) apart)
 
-open_free : (o : Object) → o.kind ≡ Undo → (C : List ℕ) (D : List Dated) → AreDated o C D → Pairs (λ (a b : Entry). is_among C a.by ≡ false → is_among C b.by ≡ true → may_pass o a b ≡ true) (plain D)
+open_free : (o : Object) → o.kind ≡ Undo → (C : List ℕ) (D : List Dated) → AreDated o C D → Pairs (λ (a b : Entry). is_among C a.by ≡ false → is_among C b.by ≡ true → may_pass o a b ≡ true) (undated D)
 open_free o undo C D h =
     pairs-plain (λ (a b : Entry). is_among C a.by ≡ false → is_among C b.by ≡ true → may_pass o a b ≡ true) D
     (pairs-weaker {P = λ (a b : Dated). IsApartFree o a b × IsFront b.after C} (λ (a b : Dated) both. open_passed o C a b both.0 both.1) D
@@ -226,11 +226,11 @@ module _ (along : RunsAlong) (parts : PartsSort Entry) (look : SortsLook Entry) 
       rw (executed-order C ts V order) at
       (sorts-into_order parts (may_pass o) ts W order.once (pairs-passes (IsTurnedFree (may_pass o) ts) (λ e. is_among C e.by) V (pairs-weaker (λ a b h _ _. h) V free)))
 
-  pub undo_order : IsLegalAt o (ops (serial ts V)) × Looks o.table (end_of o W) (end_of o (serial ts V))
+  pub undo_order : IsLegalAt o (ops (serial ts V)) × Looks o.table (end_state o W) (end_state o (serial ts V))
   undo_order =
       look o.table o.set (λ e. e.op) (may_pass o) o.table.initial W (serial ts V) covers.closed covers.begins_inside (passes-commute o covers) sorted_order executed-legal
 
-  pub undo_order_strongly : IsCoveredStrongly o → AreEqui o.table (end_of o W) (end_of o (serial ts V))
+  pub undo_order_strongly : IsCoveredStrongly o → AreEqui o.table (end_state o W) (end_state o (serial ts V))
   undo_order_strongly strong =
       (equi o.table o.set (λ e. e.op) (may_pass o) o.table.initial W (serial ts V) (covers_undo_strongly o strong undo).closed (covers_undo_strongly o strong undo).begins_inside (passes_both_ways o strong undo) sorted_order executed-legal).1
 
@@ -243,7 +243,7 @@ module _ (along : RunsAlong) (inside : EndsInside) (ends : LegalEnds) (extends :
       let known = dated_in_run strikes objects x o there
       (λ escrow C V e admitted legal facts. escrow_op along apply strikes nothing o C V e covered escrow admitted legal facts)
       (λ G going escrow. escrow_in_run along ends apply firm_commits strikes nothing firm_legal fresh objects G x o covered going there escrow) H run in
-      let are : plain (dated_at x H) ≡ surviving_at x H = plain-dated_at x H in
+      let are : undated (dated_at x H) ≡ surviving_at x H = plain-dated_at x H in
       let C = commits H in
       let commit_kept : KeepsDated C (dated_at x H) = rw (append-nil C) at (kept-past C [] (dated_at x H) known.fronts (grown-fresh o (dated_at x H) known.grown)) in
       ⊎_elim

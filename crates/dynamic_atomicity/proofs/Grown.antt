@@ -13,7 +13,7 @@ use Rattle.object_trait.proofs.Lists.{pairs-push}
 use Rattle.object_trait.proofs.Striking.{each-keep_first}
 use Rattle.type_table.proofs.Elements.{eqb-sym, each-append}
 use Rattle.serial_order.specs.Operations.{is_among, is_by, ops, of, serial}
-use Rattle.dynamic_atomicity.specs.Dynamic.{Dated, dated_by, plain, AreOnce}
+use Rattle.dynamic_atomicity.specs.Dynamic.{Dated, dated_by, undated, AreOnce}
 use Rattle.serial_order.specs.declared.entry.Entry.{Entry}
 use Rattle.serial_order.proofs.Strikes.{keep_first-others, keep_first-none}
 use Rattle.serial_order.proofs.Facts.{IsLegalAt}
@@ -44,14 +44,14 @@ front-outside A B t h outside = (among-neither A h.rest t (rw h.is at outside)).
 
 -- it conflicts with none that another, open, transaction held
 abbrev pub IsFreeOf : Object → List Dated → Dated → Type 0
-IsFreeOf o D b = AllByRecursion (λ e. is_among b.after e.by ≡ false → (b.entry.by == e.by) ≡ false → o.conflicts b.entry.op e.op ≡ false) (plain D)
+IsFreeOf o D b = AllByRecursion (λ e. is_among b.after e.by ≡ false → (b.entry.by == e.by) ≡ false → o.conflicts b.entry.op e.op ≡ false) (undated D)
 
 -- by ways of recovery, what is so of an operation when it comes. With a conflict table it is free; with deferred update it was also legal
 -- after its view; under escrow what each open transaction did with it is legal whatever the others do
 abbrev pub CameBy : Kind → Object → List Dated → Dated → Type 0
 CameBy Undo o D b = IsFreeOf o D b
-CameBy Intentions o D b = IsFreeOf o D b × IsLegalAt o (ops (serial b.after (plain D) ++ of b.entry.by (plain D)) ++ b.entry.op ∷ [])
-CameBy Escrow o D b = EscrowFacts o b.after (plain D ++ b.entry ∷ [])
+CameBy Intentions o D b = IsFreeOf o D b × IsLegalAt o (ops (serial b.after (undated D) ++ of b.entry.by (undated D)) ++ b.entry.op ∷ [])
+CameBy Escrow o D b = EscrowFacts o b.after (undated D ++ b.entry ∷ [])
 
 -- and in each: its transaction hadn't committed; those that had are those of each earlier operation, and more
 pub record Came (o : Object) (D : List Dated) (b : Dated) : Type 0 where
@@ -76,7 +76,7 @@ grown-fresh o _ (grows {D} {b} g came) = each-append (λ (d : Dated). is_among d
 abbrev pub IsApartFree : Object → Dated → Dated → Type 0
 IsApartFree o a b = is_among b.after a.entry.by ≡ false → (b.entry.by == a.entry.by) ≡ false → o.conflicts b.entry.op a.entry.op ≡ false
 
-each-from_plain : (P : Entry → Type 0) (D : List Dated) → AllByRecursion P (plain D) → AllByRecursion (λ (d : Dated). P d.entry) D
+each-from_plain : (P : Entry → Type 0) (D : List Dated) → AllByRecursion P (undated D) → AllByRecursion (λ (d : Dated). P d.entry) D
 each-from_plain P [] p = tt
 each-from_plain P (d ∷ D) p = (p.0, each-from_plain P D p.1)
 
@@ -89,10 +89,10 @@ grown-locked o undo _ (grows {D} {b} g came) =
 
 -- ---- plain lists
 
-pub plain-append : (D E : List Dated) → plain (D ++ E) ≡ plain D ++ plain E
+pub plain-append : (D E : List Dated) → undated (D ++ E) ≡ undated D ++ undated E
 plain-append D E = map-append (λ (d : Dated). d.entry) D E
 
-pub plain-keep_first : (mine : Entry → Bool) (n : ℕ) (D : List Dated) → plain (keep_first (λ d. mine d.entry) n D) ≡ keep_first mine n (plain D)
+pub plain-keep_first : (mine : Entry → Bool) (n : ℕ) (D : List Dated) → undated (keep_first (λ d. mine d.entry) n D) ≡ keep_first mine n (undated D)
 plain-keep_first mine n [] = refl
 plain-keep_first mine zero (d ∷ D) =
     elim (cases_Bool (mine d.entry)) [
@@ -105,7 +105,7 @@ plain-keep_first mine (suc n) (d ∷ D) =
       | inr isnt ↦ simp isnt (ap (λ rest. d.entry ∷ rest) (plain-keep_first mine (suc n) D))
     ]
 
-pub plain-filter : (test : Entry → Bool) (D : List Dated) → plain (filter (λ d. test d.entry) D) ≡ filter test (plain D)
+pub plain-filter : (test : Entry → Bool) (D : List Dated) → undated (filter (λ d. test d.entry) D) ≡ filter test (undated D)
 plain-filter test [] = refl
 plain-filter test (d ∷ D) =
     elim (cases_Bool (test d.entry)) [
@@ -160,18 +160,18 @@ keep_first-stays mine (suc n) (x ∷ V) e other =
 -- an operation of another came so after a strike of t too, where t hadn't committed before it
 module _ (strikes : FirmAfterStrike) (o : Object) (D : List Dated) (b : Dated) (t n : ℕ) (pending : is_among b.after t ≡ false) (other : dated_by t b ≡ false) where
   free-strike : IsFreeOf o D b → IsFreeOf o (keep_first (dated_by t) n D) b
-  free-strike free = rw (plain-keep_first (is_by t) n D) (each-keep_first _ (is_by t) n (plain D) free)
+  free-strike free = rw (plain-keep_first (is_by t) n D) (each-keep_first _ (is_by t) n (undated D) free)
 
   known-strike : (way : Kind) → CameBy way o D b → CameBy way o (keep_first (dated_by t) n D) b
   known-strike Undo free = free-strike free
-  known-strike Intentions known = (free-strike known.0, rw (plain-keep_first (is_by t) n D, serial-strike b.after t n (plain D) pending, its) known.1)
+  known-strike Intentions known = (free-strike known.0, rw (plain-keep_first (is_by t) n D, serial-strike b.after t n (undated D) pending, its) known.1)
     where
-      its : of b.entry.by (keep_first (is_by t) n (plain D)) ≡ of b.entry.by (plain D)
-      its = keep_first-others (is_by b.entry.by) (is_by t) n (plain D) (λ e mine. is_one-apart e.by t b.entry.by (eqb-sym t b.entry.by ∙ other) mine)
+      its : of b.entry.by (keep_first (is_by t) n (undated D)) ≡ of b.entry.by (undated D)
+      its = keep_first-others (is_by b.entry.by) (is_by t) n (undated D) (λ e mine. is_one-apart e.by t b.entry.by (eqb-sym t b.entry.by ∙ other) mine)
   known-strike Escrow facts =
-      let whole : keep_first (is_by t) n (plain D ++ b.entry ∷ []) ≡ plain (keep_first (dated_by t) n D) ++ b.entry ∷ [] =
-      keep_first-stays (is_by t) n (plain D) b.entry other ∙ ap (λ V. V ++ b.entry ∷ []) (sym (plain-keep_first (is_by t) n D)) in
-      subst (EscrowFacts o b.after) whole (escrow_strike strikes o b.after (plain D ++ b.entry ∷ []) t n pending facts)
+      let whole : keep_first (is_by t) n (undated D ++ b.entry ∷ []) ≡ undated (keep_first (dated_by t) n D) ++ b.entry ∷ [] =
+      keep_first-stays (is_by t) n (undated D) b.entry other ∙ ap (λ V. V ++ b.entry ∷ []) (sym (plain-keep_first (is_by t) n D)) in
+      subst (EscrowFacts o b.after) whole (escrow_strike strikes o b.after (undated D ++ b.entry ∷ []) t n pending facts)
 
   came-strike : Came o D b → Came o (keep_first (dated_by t) n D) b
   came-strike came = record {

@@ -13,8 +13,8 @@ use Rattle.object_trait.specs.declared.event.EventKind.TheVariants.{Begin, Op, B
 use Rattle.serial_order.specs.Operations.{is_among}
 use Rattle.serial_order.specs.History.{commits, committed_by}
 use Rattle.serial_order.specs.Readings.{is_op_of}
-use Rattle.dynamic_atomicity.specs.Dynamic.{comes_first, AreOnce, IsOrderOf, is_op_at, KeepsPrecedes, CoveredIsAtomic}
-use Rattle.dynamic_atomicity.specs.Joined.{At, history_of, Names, parts_at, order_at, AreJoined, first_after, first_commits, JoinedOrder, JoinedIsAtomic}
+use Rattle.dynamic_atomicity.specs.Dynamic.{comes_first, AreOnce, IsOrderOf, is_op_at, KeepsObjectPrecedes, CoveredIsAtomic}
+use Rattle.dynamic_atomicity.specs.Joined.{At, store_history, Names, parts_at, order_at, AreJoined, first_after, first_commits, JoinedOrder, JoinedIsAtomic}
 use Rattle.serial_order.proofs.Events.{commits-snoc}
 use Rattle.dynamic_atomicity.proofs.Before.{first-inside, among-append, among-filter, once-append, once-filter, once-more}
 use Rattle.dynamic_atomicity.proofs.Grown.{IsFront, front-itself}
@@ -31,16 +31,16 @@ from_left P start step V = on [] V start
 
 -- ---- histories
 
-history-append : (i : ℕ) (A B : List At) → history_of i (A ++ B) ≡ history_of i A ++ history_of i B
+history-append : (i : ℕ) (A B : List At) → store_history i (A ++ B) ≡ store_history i A ++ store_history i B
 history-append i A B = ap (map (λ (m : At). m.event)) (filter-append (λ (m : At). m.store == i) A B) ∙ map-append (λ (m : At). m.event) (filter (λ (m : At). m.store == i) A) (filter (λ (m : At). m.store == i) B)
 
 -- the commits of a longer history
-committed-more : (i : ℕ) (M : List At) (m : At) → commits (history_of i (M ++ m ∷ [])) ≡ commits (history_of i M) ++ cond (m.store == i) (committed_by m.event.kind) []
+committed-more : (i : ℕ) (M : List At) (m : At) → commits (store_history i (M ++ m ∷ [])) ≡ commits (store_history i M) ++ cond (m.store == i) (committed_by m.event.kind) []
 committed-more i M m =
     ap commits (history-append i M (m ∷ []))
     ∙ elim (cases_Bool (m.store == i)) [
-      | inl is ↦ rw is (commits-snoc (history_of i M) m.event)
-      | inr isnt ↦ rw isnt (ap commits (append-nil (history_of i M)) ∙ sym (append-nil (commits (history_of i M))))
+      | inl is ↦ rw is (commits-snoc (store_history i M) m.event)
+      | inr isnt ↦ rw isnt (ap commits (append-nil (store_history i M)) ∙ sym (append-nil (commits (store_history i M))))
     ]
 
 -- where an event of one store's history comes among all
@@ -51,7 +51,7 @@ pub record IsPlaced (i : ℕ) (M : List At) (before : List Event) (e : Event) : 
   pub whole : M ≡ all_before ++ at ∷ all_behind
   pub store : at.store ≡ i
   pub event : at.event ≡ e
-  pub same : history_of i all_before ≡ before
+  pub same : store_history i all_before ≡ before
 
 -- after an event of another store
 further : (i : ℕ) (m : At) (M : List At) (before : List Event) (e : Event) → (m.store == i) ≡ false → IsPlaced i M before e → IsPlaced i (m ∷ M) before e
@@ -77,21 +77,21 @@ further_own i m M f before e mine first p = record {
   same = rw (mine, p.same, first) refl;
 }
 
-place : (i : ℕ) (M : List At) (before : List Event) (e : Event) (behind : List Event) → history_of i M ≡ before ++ e ∷ behind → IsPlaced i M before e
+place : (i : ℕ) (M : List At) (before : List Event) (e : Event) (behind : List Event) → store_history i M ≡ before ++ e ∷ behind → IsPlaced i M before e
 place i [] [] e behind is = absurd cc
 place i [] (f ∷ before) e behind is = absurd cc
 place i (m ∷ M) [] e behind is =
     elim (cases_Bool (m.store == i)) [
       | inl mine ↦
-          let both : m.event ∷ history_of i M ≡ e ∷ behind = rw mine at is in
+          let both : m.event ∷ store_history i M ≡ e ∷ behind = rw mine at is in
           record { all_before = []; at = m; all_behind = M; whole = refl; store = eqb-true m.store i mine; event = cc; same = refl }
       | inr its ↦ further i m M [] e its (place i M [] e behind (rw its at is))
     ]
 place i (m ∷ M) (f ∷ before) e behind is =
     elim (cases_Bool (m.store == i)) [
       | inl mine ↦
-          let both : m.event ∷ history_of i M ≡ f ∷ (before ++ e ∷ behind) = rw mine at is in
-          let rest : history_of i M ≡ before ++ e ∷ behind = cc in
+          let both : m.event ∷ store_history i M ≡ f ∷ (before ++ e ∷ behind) = rw mine at is in
+          let rest : store_history i M ≡ before ++ e ∷ behind = cc in
           let first : m.event ≡ f = cc in
           further_own i m M f before e mine first (place i M before e behind rest)
       | inr its ↦ further i m M (f ∷ before) e its (place i M (f ∷ before) e behind (rw its at is))
@@ -148,12 +148,12 @@ module _ (N : Names) where
   record HasCommitted (M : List At) (T : ℕ) : Type 0 where
     i : ℕ
     t : ℕ
-    ended : is_among (commits (history_of i M)) t ≡ true
+    ended : is_among (commits (store_history i M)) t ≡ true
     is : N.whole i t ≡ T
 
-  ended-more : (i t : ℕ) (M : List At) (m : At) → is_among (commits (history_of i M)) t ≡ true → is_among (commits (history_of i (M ++ m ∷ []))) t ≡ true
+  ended-more : (i t : ℕ) (M : List At) (m : At) → is_among (commits (store_history i M)) t ≡ true → is_among (commits (store_history i (M ++ m ∷ []))) t ≡ true
   ended-more i t M m ended =
-      ap (λ C. is_among C t) (committed-more i M m) ∙ among-append (commits (history_of i M)) (cond (m.store == i) (committed_by m.event.kind) []) t ∙ simp ended
+      ap (λ C. is_among C t) (committed-more i M m) ∙ among-append (commits (store_history i M)) (cond (m.store == i) (committed_by m.event.kind) []) t ∙ simp ended
 
   committed-longer : (M : List At) (m : At) (T : ℕ) → HasCommitted M T → HasCommitted (M ++ m ∷ []) T
   committed-longer M m T h = record { i = h.i; t = h.t; ended = ended-more h.i h.t M m h.ended; is = h.is }
@@ -177,11 +177,11 @@ module _ (N : Names) where
         ]
       ]
     where
-      here : is_among (commits (history_of m.store (M ++ m ∷ []))) t ≡ true
+      here : is_among (commits (store_history m.store (M ++ m ∷ []))) t ≡ true
       here =
           ap (λ C. is_among C t) (committed-more m.store M m)
-          ∙ among-append (commits (history_of m.store M)) (cond (m.store == m.store) (committed_by m.event.kind) []) t
-          ∙ rw (eq-eqb m.store m.store refl, is) (or-last (is_among (commits (history_of m.store M)) t))
+          ∙ among-append (commits (store_history m.store M)) (cond (m.store == m.store) (committed_by m.event.kind) []) t
+          ∙ rw (eq-eqb m.store m.store refl, is) (or-last (is_among (commits (store_history m.store M)) t))
         where
           or-last : (x : Bool) → (x || is_among (t ∷ []) t) ≡ true
           or-last true = refl
@@ -217,15 +217,15 @@ module _ (N : Names) where
         | inr new ↦ rw new (among-append K (T ∷ []) T ∙ simp (new, eq-eqb T T refl))
       ]
 
-  firsts-has : (i t : ℕ) (M : List At) → is_among (commits (history_of i M)) t ≡ true → is_among (first_commits N M) (N.whole i t) ≡ true
-  firsts-has i t = from_left (λ M. is_among (commits (history_of i M)) t ≡ true → is_among (first_commits N M) (N.whole i t) ≡ true) (λ ended. absurd (false≢true ended))
+  firsts-has : (i t : ℕ) (M : List At) → is_among (commits (store_history i M)) t ≡ true → is_among (first_commits N M) (N.whole i t) ≡ true
+  firsts-has i t = from_left (λ M. is_among (commits (store_history i M)) t ≡ true → is_among (first_commits N M) (N.whole i t) ≡ true) (λ ended. absurd (false≢true ended))
       (λ M m h ended. one_more M m h ended)
     where
-      one_more : (M : List At) (m : At) → (is_among (commits (history_of i M)) t ≡ true → is_among (first_commits N M) (N.whole i t) ≡ true)
-          → is_among (commits (history_of i (M ++ m ∷ []))) t ≡ true → is_among (first_commits N (M ++ m ∷ [])) (N.whole i t) ≡ true
+      one_more : (M : List At) (m : At) → (is_among (commits (store_history i M)) t ≡ true → is_among (first_commits N M) (N.whole i t) ≡ true)
+          → is_among (commits (store_history i (M ++ m ∷ []))) t ≡ true → is_among (first_commits N (M ++ m ∷ [])) (N.whole i t) ≡ true
       one_more M m h ended =
           let now : List ℕ = cond (m.store == i) (committed_by m.event.kind) [] in
-          elim (or_cases (is_among (commits (history_of i M)) t) (is_among now t) (sym (ap (λ C. is_among C t) (committed-more i M m) ∙ among-append (commits (history_of i M)) now t) ∙ ended)) [
+          elim (or_cases (is_among (commits (store_history i M)) t) (is_among now t) (sym (ap (λ C. is_among C t) (committed-more i M m) ∙ among-append (commits (store_history i M)) now t) ∙ ended)) [
             | inl before ↦
                 let front = firsts-longer M (m ∷ []) in
                 ap (λ K. is_among K (N.whole i t)) front.is ∙ among-append (first_commits N M) front.rest (N.whole i t) ∙ simp (h before)
@@ -291,7 +291,7 @@ module _ (N : Names) where
 
   module _ (M : List At) (joined : AreJoined N M) (i : ℕ) where
     abbrev C : List ℕ
-    C = commits (history_of i M)
+    C = commits (store_history i M)
 
     members : (t : ℕ) → is_among (order_at N M i (first_commits N M)) t ≡ is_among C t
     members t = among-filter (is_among C) (parts_at N i (first_commits N M)) t ∙ elim (cases_Bool (is_among C t)) [
@@ -308,7 +308,7 @@ module _ (N : Names) where
     op_of_it x u (Abort t) is = absurd (false≢true is)
     op_of_it x u (Rollback t n) is = absurd (false≢true is)
 
-    kept : (x : ℕ) → KeepsPrecedes x (history_of i M) (order_at N M i (first_commits N M))
+    kept : (x : ℕ) → KeepsObjectPrecedes x (store_history i M) (order_at N M i (first_commits N M))
     kept x t u h among =
         let p = place i M h.before h.happened h.behind h.whole in
         let A = p.all_before in
@@ -317,7 +317,7 @@ module _ (N : Names) where
         ap (λ L. filter (is_among C) (parts_at N i (first_commits N L))) p.whole ∙ ap (λ K. filter (is_among C) (parts_at N i K)) front.is
         ∙ ap (filter (is_among C)) (flat_map-append (λ T. option_to_list (N.part i T)) (first_commits N A) front.rest)
         ∙ filter-append (is_among C) (parts_at N i (first_commits N A)) (parts_at N i front.rest) in
-        let ended : is_among (commits (history_of i A)) t ≡ true = ap (λ G. is_among (commits G) t) p.same ∙ h.ended in
+        let ended : is_among (commits (store_history i A)) t ≡ true = ap (λ G. is_among (commits G) t) p.same ∙ h.ended in
         let ended_after : is_among C t ≡ true =
         ap (λ G. is_among (commits G) t) h.whole ∙ ap (λ B. is_among B t) (flat_map-append (λ (e : Event). committed_by e.kind) h.before (h.happened ∷ h.behind))
         ∙ among-append (commits h.before) (commits (h.happened ∷ h.behind)) t ∙ ap (λ b. b || is_among (commits (h.happened ∷ h.behind)) t) h.ended in
@@ -338,14 +338,14 @@ module _ (N : Names) where
         and-false true = refl
         and-false false = refl
 
-    at_store : IsOrderOf C (order_at N M i (first_commits N M)) × ((x : ℕ) → KeepsPrecedes x (history_of i M) (order_at N M i (first_commits N M)))
+    at_store : IsOrderOf C (order_at N M i (first_commits N M)) × ((x : ℕ) → KeepsObjectPrecedes x (store_history i M) (order_at N M i (first_commits N M)))
     at_store = (record { once = once-filter (is_among C) (parts_at N i (first_commits N M)) (order-once i (first_commits N M) (firsts-once M)); same = members }, kept)
 
 pub joined_order : JoinedOrder
 joined_order = λ N M joined i. at_store N M joined i
 
 pub joined_is_atomic : CoveredIsAtomic → JoinedIsAtomic
-joined_is_atomic atomic = λ objects N M ts runs order i x o there covered. atomic (objects i) (history_of i M) x o (runs i) there covered (order_at N M i ts) (order i).0 ((order i).1 x)
+joined_is_atomic atomic = λ objects N M ts runs order i x o there covered. atomic (objects i) (store_history i M) x o (runs i) there covered (order_at N M i ts) (order i).0 ((order i).1 x)
 
 -- ---- joined, event by event
 

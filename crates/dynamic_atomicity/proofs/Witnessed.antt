@@ -11,10 +11,9 @@ use Rattle.object_trait.specs.Object.{Object}
 use Rattle.serial_order.specs.Operations.{at_object, ops, serial}
 use Rattle.serial_order.specs.History.{Summary, commits}
 use Rattle.serial_order.specs.Serial.{surviving_at}
-use Rattle.explaining.specs.Text.{first_commit, second_commit, failing_order}
-use Rattle.explaining.specs.Witnesses.{Parts, Shows, lead_of, tell_of}
+use Rattle.pair_needs.specs.Witnesses.{first_commit, second_commit, failing_order, Parts, Shows, lead_of, tell_of}
 use Rattle.dynamic_atomicity.specs.Converse.{breaking, Goes, StepsHaveOps}
-use Rattle.dynamic_atomicity.specs.Witnessed.{IsBroken, WitnessBreaks}
+use Rattle.dynamic_atomicity.specs.Witnessed.{BreaksOrder, WitnessBreaks}
 use Rattle.dynamic_atomicity.proofs.Breaking.{goes_from, summary_at_end, one_two, two_one, undo_breaks, one_two_runs, two_one_runs}
 use Rattle.dynamic_atomicity.proofs.Converse.{either}
 use Rattle.dynamic_atomicity.proofs.Keeping.{keeps_breaking}
@@ -44,7 +43,7 @@ module _ (objects : List Object) (x : ℕ) (along : RunsAlong) (ends : LegalEnds
   committed first second = ap (λ (m : Summary). m.committed) (summary_at_end objects x along ends o there named w p q first second r)
 
   broken-undo : o.kind ≡ Undo → IsLegal o.table (Some s) (q ∷ p ∷ []) → Parts o.table (run o.table (Some s) (q ∷ p ∷ [])) (run o.table (Some s) (p ∷ q ∷ [])) r →
-      IsBroken objects x o (breaking x 2 1 w p q r) (0 ∷ 2 ∷ 1 ∷ 3 ∷ [])
+      BreaksOrder objects x o (breaking x 2 1 w p q r) (0 ∷ 2 ∷ 1 ∷ 3 ∷ [])
   broken-undo undo asked parts =
       let legal : IsLegal o.table (run o.table (Some s) (q ∷ p ∷ [])) r = elim parts.goes_on [
         | inl empty ↦ rw empty asked
@@ -65,7 +64,7 @@ module _ (objects : List Object) (x : ℕ) (along : RunsAlong) (ends : LegalEnds
     after_q : IsLegal o.table (Some o.table.initial) (w ++ q ∷ [])
     after_q = legal-after along o.table (Some o.table.initial) w (q ∷ []) s leads q_legal
 
-    broken-held_first : Parts o.table (run o.table (Some s) (q ∷ p ∷ [])) (run o.table (Some s) (p ∷ q ∷ [])) r → IsBroken objects x o (breaking x 1 2 w p q r) (0 ∷ 2 ∷ 1 ∷ 3 ∷ [])
+    broken-held_first : Parts o.table (run o.table (Some s) (q ∷ p ∷ [])) (run o.table (Some s) (p ∷ q ∷ [])) r → BreaksOrder objects x o (breaking x 1 2 w p q r) (0 ∷ 2 ∷ 1 ∷ 3 ∷ [])
     broken-held_first parts = record {
       is_run = one_two_runs objects x along ends o there named w p q r free deferred after_q after_p (goes q p parts.goes_on);
       is_order = rw (committed 1 2) (record { once = (refl, (refl, (refl, (refl, tt)))); same = either });
@@ -73,7 +72,7 @@ module _ (objects : List Object) (x : ℕ) (along : RunsAlong) (ends : LegalEnds
       illegal = λ h. not_legal p q parts.breaks (rw (serial_two 1 2) at h);
     }
 
-    broken-other : Parts o.table (run o.table (Some s) (p ∷ q ∷ [])) (run o.table (Some s) (q ∷ p ∷ [])) r → IsBroken objects x o (breaking x 2 1 w p q r) (0 ∷ 1 ∷ 2 ∷ 3 ∷ [])
+    broken-other : Parts o.table (run o.table (Some s) (p ∷ q ∷ [])) (run o.table (Some s) (q ∷ p ∷ [])) r → BreaksOrder objects x o (breaking x 2 1 w p q r) (0 ∷ 1 ∷ 2 ∷ 3 ∷ [])
     broken-other parts = record {
       is_run = two_one_runs objects x along ends o there named w p q r free deferred after_q after_p (goes p q parts.goes_on);
       is_order = rw (committed 2 1) (record { once = (refl, (refl, (refl, (refl, tt)))); same = λ t. sym (either t) });
@@ -81,7 +80,7 @@ module _ (objects : List Object) (x : ℕ) (along : RunsAlong) (ends : LegalEnds
       illegal = λ h. not_legal q p parts.breaks (rw (serial_one 2 1) at h);
     }
 
-  by_kind : (kind : TableKind) (h : Bool) → o.kind ≡ of_table kind → Shows kind o.table p q s h r → IsBroken objects x o (breaking x (first_commit kind h) (second_commit kind h) w p q r) (failing_order h)
+  by_kind : (kind : TableKind) (h : Bool) → o.kind ≡ of_table kind → Shows kind o.table p q s h r → BreaksOrder objects x o (breaking x (first_commit kind h) (second_commit kind h) w p q r) (failing_order h)
   by_kind tabled.Undo true is shows = broken-undo is shows.asked shows.parts
   by_kind tabled.Undo false is shows = absurd shows.parts
   by_kind tabled.Intentions true is shows = broken-held_first is (shows.asked).0 (shows.asked).1 shows.parts

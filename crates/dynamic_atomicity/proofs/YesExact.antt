@@ -14,9 +14,9 @@ use Rattle.type_table.specs.declared.kind.Kind.TheVariants.{Undo, Intentions}
 use Rattle.type_table.specs.declared.table_kind.TableKind.{TableKind}
 use Rattle.type_table.specs.declared.table_kind.TableKind.TheVariants as tabled
 use Rattle.type_table.proofs.Legal.{some_state}
-use Rattle.type_text.specs.TypeFile.{conflicts_of}
-use Rattle.type_text.specs.declared.type_file.TypeFile.{TypeFile}
-use Rattle.table_checker.specs.Condition.{ends_relate, end_of, passes, passes_forward, passes_backward, PassesEverywhere}
+use Rattle.declared_types.specs.TypeFile.{conflicts_of}
+use Rattle.declared_types.specs.declared.type_file.TypeFile.{TypeFile}
+use Rattle.table_checker.specs.Condition.{ends_relate, end_of_two, passes, passes_forward, passes_backward, PassesEverywhere}
 use Rattle.table_checker.specs.Reach.{NeverLeaves}
 use Rattle.table_checker.specs.Checked.{Checked, IsCertified, IsChecked, condition_of}
 use Rattle.object_trait.specs.Object.{Object, object_of}
@@ -38,7 +38,7 @@ module _ (inside : EndsWithin) (file : TypeFile) (table : IsTable file.table) (c
   backward_passes : (p q s : ℕ) → s < file.table.states → has file.reach s ≡ true → CommutesBackward file.table (has file.reach) p q → passes_backward file.table (relates file.relation) p q s ≡ true
   unfolding passes_backward
   backward_passes p q s state member commutes =
-      elim (cases_Bool (is_some (end_of file.table s q p))) [
+      elim (cases_Bool (is_some (end_of_two file.table s q p))) [
         | inl legal ↦
             let both = commutes s member legal in
             rw legal (ends_related s (q ∷ p ∷ []) (p ∷ q ∷ []) state legal both.0 both.1)

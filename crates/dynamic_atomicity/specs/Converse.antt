@@ -5,7 +5,7 @@ use Rattle.type_table.specs.Table.{Table, IsTable, has_op, next}
 use Rattle.type_table.specs.Run.{run, IsLegal, Looks, AreEqui}
 use Rattle.type_table.specs.StateSet.{has, IsClosed}
 use Rattle.equi_cert.specs.Relation.{relates}
-use Rattle.type_text.specs.declared.type_file.TypeFile.{TypeFile}
+use Rattle.declared_types.specs.declared.type_file.TypeFile.{TypeFile}
 use Rattle.table_checker.specs.Checked.{Checked, IsCertified, IsChecked}
 use Rattle.type_table.specs.Kind.{of_table}
 use Rattle.type_table.specs.declared.kind.Kind.TheVariants.{Undo}
@@ -18,7 +18,7 @@ use Rattle.serial_order.specs.Operations.{ops, serial}
 use Rattle.serial_order.specs.History.{commits}
 use Rattle.serial_order.specs.Machine.{IsRun}
 use Rattle.serial_order.specs.Serial.{surviving_at, serial_at}
-use Rattle.dynamic_atomicity.specs.Dynamic.{IsOrderOf, KeepsPrecedes, executed_at, end_of}
+use Rattle.dynamic_atomicity.specs.Dynamic.{IsOrderOf, KeepsObjectPrecedes, executed_at, end_state}
 use Rattle.serial_order.specs.Examples.{events}
 
 -- each step is by one of the type's operations: numbers of its table that have no name are legal nowhere. So it is of every type that is
@@ -27,13 +27,13 @@ abbrev pub StepsHaveOps : Table → Type 0
 StepsHaveOps T = (s k : ℕ) → IsSome (next T s k) → has_op T k ≡ true
 
 -- these operations, by t, at the object at x
-abbrev pub by : ℕ → ℕ → List ℕ → List EventKind
-by x t ks = map (λ k. Op k t x) ks
+abbrev pub executed_by : ℕ → ℕ → List ℕ → List EventKind
+executed_by x t ks = map (λ k. Op k t x) ks
 
 -- at x, transaction 0 leads to a state by w and commits; 1 executes q, and 2, while 1 is open, p; both commit, in this order; and 3 runs r
 abbrev pub breaking : ℕ → ℕ → ℕ → List ℕ → ℕ → ℕ → List ℕ → List Event
 breaking x first second w p q r =
-    events (Begin 0 ∷ (by x 0 w ++ (Commit 0 ∷ Begin 1 ∷ Begin 2 ∷ Op q 1 x ∷ Op p 2 x ∷ Commit first ∷ Commit second ∷ Begin 3 ∷ (by x 3 r ++ Commit 3 ∷ []))))
+    events (Begin 0 ∷ (executed_by x 0 w ++ (Commit 0 ∷ Begin 1 ∷ Begin 2 ∷ Op q 1 x ∷ Op p 2 x ∷ Commit first ∷ Commit second ∷ Begin 3 ∷ (executed_by x 3 r ++ Commit 3 ∷ []))))
 
 -- each operation is legal after v and those before it
 abbrev pub Goes : Table → List ℕ → List ℕ → Type 0
@@ -43,7 +43,7 @@ Goes T v (k ∷ r) = IsLegal T (Some T.initial) (v ++ k ∷ []) × Goes T (v ++ 
 -- in every run over these objects, each order that keeps what precedes at x is legal there
 abbrev pub AdmitsLegalOnly : List Object → ℕ → Object → Type 0
 AdmitsLegalOnly objects x o =
-    (H : List Event) → IsRun objects H → (ts : List ℕ) → IsOrderOf (commits H) ts → KeepsPrecedes x H ts
+    (H : List Event) → IsRun objects H → (ts : List ℕ) → IsOrderOf (commits H) ts → KeepsObjectPrecedes x H ts
     → IsLegal o.table (Some o.table.initial) (ops (serial ts (surviving_at x H)))
 
 -- a list leads to the state
@@ -94,5 +94,5 @@ abbrev pub StrongIsExact : Type 0
 StrongIsExact =
     (objects : List Object) (x : ℕ) (o : Object) → slice_get objects x ≡ Some o → StepsHaveOps o.table → o.kind ≡ Undo → IsReached o
     → IsCovered o → IsCoveredStrongly o
-    ↔ ((H : List Event) → IsRun objects H → (ts : List ℕ) → IsOrderOf (commits H) ts → KeepsPrecedes x H ts
-    → AreEqui o.table (end_of o (executed_at x H)) (end_of o (serial ts (surviving_at x H))))
+    ↔ ((H : List Event) → IsRun objects H → (ts : List ℕ) → IsOrderOf (commits H) ts → KeepsObjectPrecedes x H ts
+    → AreEqui o.table (end_state o (executed_at x H)) (end_state o (serial ts (surviving_at x H))))

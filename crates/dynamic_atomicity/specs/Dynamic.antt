@@ -40,7 +40,7 @@ is_op_at x u (Op k t y) = if y == x then t == u else false
 is_op_at x u _ = false
 
 -- t precedes u at x: some operation of u there comes after t's commit (Weihl's precedes, at one object)
-pub record Precedes (x : ℕ) (H : List Event) (t u : ℕ) : Type 0 where
+pub record PrecedesAtObject (x : ℕ) (H : List Event) (t u : ℕ) : Type 0 where
   pub before : List Event
   pub happened : Event
   pub behind : List Event
@@ -49,8 +49,8 @@ pub record Precedes (x : ℕ) (H : List Event) (t u : ℕ) : Type 0 where
   pub operation : is_op_at x u happened.kind ≡ true
 
 -- the order keeps what precedes at x, as far as it is of the order's transactions
-abbrev pub KeepsPrecedes : ℕ → List Event → List ℕ → Type 0
-KeepsPrecedes x H ts = (t u : ℕ) → Precedes x H t u → is_among ts u ≡ true → comes_first ts t u ≡ true
+abbrev pub KeepsObjectPrecedes : ℕ → List Event → List ℕ → Type 0
+KeepsObjectPrecedes x H ts = (t u : ℕ) → PrecedesAtObject x H t u → is_among ts u ≡ true → comes_first ts t u ≡ true
 
 -- ---- dated operations
 
@@ -63,8 +63,8 @@ abbrev pub dated_by : ℕ → Dated → Bool
 dated_by t d = is_by t d.entry
 
 -- the operations alone
-abbrev pub plain : List Dated → List Entry
-plain D = map (λ d. d.entry) D
+abbrev pub undated : List Dated → List Entry
+undated D = map (λ d. d.entry) D
 
 -- after one more event, C having committed
 abbrev pub dated_after : List ℕ → List Dated → EventKind → List Dated
@@ -85,12 +85,12 @@ abbrev pub dated_at : ℕ → List Event → List Dated
 dated_at x H = filter (λ d. d.entry.at == x) (dated H)
 
 -- the order has the operation's transaction after each that had committed before it
-abbrev pub IsKeptAt : List ℕ → Dated → Type 0
-IsKeptAt ts d = is_among ts d.entry.by ≡ true → (t : ℕ) → is_among d.after t ≡ true → comes_first ts t d.entry.by ≡ true
+abbrev pub ComesAfterCommitted : List ℕ → Dated → Type 0
+ComesAfterCommitted ts d = is_among ts d.entry.by ≡ true → (t : ℕ) → is_among d.after t ≡ true → comes_first ts t d.entry.by ≡ true
 
 -- and so of each of these operations
 abbrev pub KeepsDated : List ℕ → List Dated → Type 0
-KeepsDated ts D = AllByRecursion (IsKeptAt ts) D
+KeepsDated ts D = AllByRecursion (ComesAfterCommitted ts) D
 
 -- the order keeps what precedes by operations that survive
 abbrev pub KeepsLiving : ℕ → List Event → List ℕ → Type 0
@@ -103,17 +103,17 @@ abbrev pub executed_at : ℕ → List Event → List Entry
 executed_at x H = filter (λ e. is_among (commits H) e.by) (surviving_at x H)
 
 -- the state after some operations
-abbrev pub end_of : Object → List Entry → Option ℕ
-end_of o V = run o.table (Some o.table.initial) (ops V)
+abbrev pub end_state : Object → List Entry → Option ℕ
+end_state o V = run o.table (Some o.table.initial) (ops V)
 
 -- update in place: the end of what was executed looks like the order's, and is equieffective to it where the yes is strong.
 -- Deferred update: the end of commit order is equieffective to it. Escrow: it is the same number
 abbrev pub EndsAgree : Kind → Object → ℕ → List Event → List ℕ → Type 0
 EndsAgree Undo o x H ts =
-    Looks o.table (end_of o (executed_at x H)) (end_of o (serial ts (surviving_at x H)))
-    × (IsCoveredStrongly o → AreEqui o.table (end_of o (executed_at x H)) (end_of o (serial ts (surviving_at x H))))
-EndsAgree Intentions o x H ts = AreEqui o.table (end_of o (serial (commits H) (surviving_at x H))) (end_of o (serial ts (surviving_at x H)))
-EndsAgree Escrow o x H ts = end_of o (serial (commits H) (surviving_at x H)) ≡ end_of o (serial ts (surviving_at x H))
+    Looks o.table (end_state o (executed_at x H)) (end_state o (serial ts (surviving_at x H)))
+    × (IsCoveredStrongly o → AreEqui o.table (end_state o (executed_at x H)) (end_state o (serial ts (surviving_at x H))))
+EndsAgree Intentions o x H ts = AreEqui o.table (end_state o (serial (commits H) (surviving_at x H))) (end_state o (serial ts (surviving_at x H)))
+EndsAgree Escrow o x H ts = end_state o (serial (commits H) (surviving_at x H)) ≡ end_state o (serial ts (surviving_at x H))
 
 -- the order is legal at x, and its end agrees
 pub record IsLegalOrder (o : Object) (x : ℕ) (H : List Event) (ts : List ℕ) : Type 0 where
@@ -122,7 +122,7 @@ pub record IsLegalOrder (o : Object) (x : ℕ) (H : List Event) (ts : List ℕ) 
 
 -- dynamically atomic at one object: each order that keeps what precedes there
 abbrev pub IsAtomicAt : Object → ℕ → List Event → Type 0
-IsAtomicAt o x H = (ts : List ℕ) → IsOrderOf (commits H) ts → KeepsPrecedes x H ts → IsLegalOrder o x H ts
+IsAtomicAt o x H = (ts : List ℕ) → IsOrderOf (commits H) ts → KeepsObjectPrecedes x H ts → IsLegalOrder o x H ts
 
 -- and at each object of a list
 abbrev pub IsDynamicallyAtomic : List Object → List Event → Type 0
@@ -146,4 +146,4 @@ RunsAreAtomic = (objects : List Object) (H : List Event) → AreCovered objects 
 -- commit order is one of them
 abbrev pub CommitOrderKeeps : Type 0
 CommitOrderKeeps =
-    (objects : List Object) (H : List Event) → IsRun objects H → IsOrderOf (commits H) (commits H) × ((x : ℕ) → KeepsPrecedes x H (commits H))
+    (objects : List Object) (H : List Event) → IsRun objects H → IsOrderOf (commits H) (commits H) × ((x : ℕ) → KeepsObjectPrecedes x H (commits H))

@@ -10,7 +10,7 @@ use Rattle.serial_order.specs.Operations.{is_among}
 use Rattle.serial_order.specs.History.{commits}
 use Rattle.serial_order.specs.Machine.{IsRun}
 use Rattle.serial_order.specs.Readings.{is_op_of}
-use Rattle.dynamic_atomicity.specs.Dynamic.{IsOrderOf, KeepsPrecedes, IsLegalOrder}
+use Rattle.dynamic_atomicity.specs.Dynamic.{IsOrderOf, KeepsObjectPrecedes, IsLegalOrder}
 
 -- an event at a store
 pub record At : Type 0 where
@@ -18,8 +18,8 @@ pub record At : Type 0 where
   pub event : Event
 
 -- the history of one store
-abbrev pub history_of : ℕ → List At → List Event
-history_of i M = map (λ m. m.event) (filter (λ m. m.store == i) M)
+abbrev pub store_history : ℕ → List At → List Event
+store_history i M = map (λ m. m.event) (filter (λ m. m.store == i) M)
 
 -- which transaction of all a store's transaction is part of, and which part a store has of it
 pub record Names : Type 0 where
@@ -34,17 +34,17 @@ parts_at N i ts = flat_map (λ T. option_to_list (N.part i T)) ts
 
 -- those that committed there
 abbrev pub order_at : Names → List At → ℕ → List ℕ → List ℕ
-order_at N M i ts = filter (is_among (commits (history_of i M))) (parts_at N i ts)
+order_at N M i ts = filter (is_among (commits (store_history i M))) (parts_at N i ts)
 
 -- no operation of a transaction, at any store, comes after a commit of it at any store
 abbrev pub AreJoined : Names → List At → Type 0
 AreJoined N M =
     (before behind : List At) (m : At) (u j v : ℕ) → M ≡ before ++ m ∷ behind → is_op_of u m.event.kind ≡ true
-    → is_among (commits (history_of j before)) v ≡ true → N.whole j v ≡ N.whole m.store u → ⊥
+    → is_among (commits (store_history j before)) v ≡ true → N.whole j v ≡ N.whole m.store u → ⊥
 
 -- an order of all committed transactions that is one at each store, and keeps what precedes there
 abbrev pub IsOrderOfAll : Names → List At → List ℕ → Type 0
-IsOrderOfAll N M ts = (i : ℕ) → IsOrderOf (commits (history_of i M)) (order_at N M i ts) × ((x : ℕ) → KeepsPrecedes x (history_of i M) (order_at N M i ts))
+IsOrderOfAll N M ts = (i : ℕ) → IsOrderOf (commits (store_history i M)) (order_at N M i ts) × ((x : ℕ) → KeepsObjectPrecedes x (store_history i M) (order_at N M i ts))
 
 -- one more transaction, at its first commit
 abbrev pub first_after : Names → List ℕ → ℕ → EventKind → List ℕ
@@ -62,5 +62,5 @@ JoinedOrder = (N : Names) (M : List At) → AreJoined N M → IsOrderOfAll N M (
 -- and each such order is legal at every covered object of every store
 abbrev pub JoinedIsAtomic : Type 0
 JoinedIsAtomic =
-    (objects : ℕ → List Object) (N : Names) (M : List At) (ts : List ℕ) → ((i : ℕ) → IsRun (objects i) (history_of i M)) → IsOrderOfAll N M ts
-    → (i x : ℕ) (o : Object) → slice_get (objects i) x ≡ Some o → IsCovered o → IsLegalOrder o x (history_of i M) (order_at N M i ts)
+    (objects : ℕ → List Object) (N : Names) (M : List At) (ts : List ℕ) → ((i : ℕ) → IsRun (objects i) (store_history i M)) → IsOrderOfAll N M ts
+    → (i x : ℕ) (o : Object) → slice_get (objects i) x ≡ Some o → IsCovered o → IsLegalOrder o x (store_history i M) (order_at N M i ts)

@@ -9,7 +9,7 @@ use Rattle.object_trait.specs.Object.{Object}
 use Rattle.object_trait.specs.declared.event.Event.{Event}
 use Rattle.object_trait.specs.declared.event.EventKind.{EventKind}
 use Rattle.object_trait.specs.declared.event.EventKind.TheVariants.{Begin, Op, Commit}
-use Rattle.serial_order.specs.Examples.{events, no_amounts, account}
+use Rattle.serial_order.specs.Examples.{events, no_amounts, small_account}
 use Rattle.dynamic_atomicity.specs.Dynamic.{Dated}
 use Rattle.dynamic_atomicity.specs.Joined.{At, Names}
 use Rattle.serial_order.specs.declared.entry.Entry.{Entry}
@@ -44,7 +44,7 @@ deferred_parting = record {
 abbrev pub loose_account : Object
 loose_account = record {
   kind = Undo;
-  table = account;
+  table = small_account;
   set = λ s. nat_lt s 2;
   conflicts = conflicts ((false ∷ false ∷ false ∷ []) ∷ (false ∷ false ∷ false ∷ []) ∷ (true ∷ false ∷ false ∷ []) ∷ []);
   amounts = no_amounts;

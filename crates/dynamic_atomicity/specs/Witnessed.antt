@@ -9,25 +9,24 @@ use Rattle.serial_order.specs.Operations.{ops, serial}
 use Rattle.serial_order.specs.History.{commits}
 use Rattle.serial_order.specs.Machine.{IsRun}
 use Rattle.serial_order.specs.Serial.{surviving_at}
-use Rattle.explaining.specs.Text.{first_commit, second_commit, failing_order}
-use Rattle.explaining.specs.Witnesses.{IsWitness, lead_of, tell_of}
-use Rattle.explaining.specs.declared.witness.Witness.{Witness}
-use Rattle.dynamic_atomicity.specs.Dynamic.{IsOrderOf, KeepsPrecedes}
+use Rattle.pair_needs.specs.Witnesses.{first_commit, second_commit, failing_order, IsWitness, lead_of, tell_of}
+use Rattle.pair_needs.specs.declared.witness.Witness.{Witness}
+use Rattle.dynamic_atomicity.specs.Dynamic.{IsOrderOf, KeepsObjectPrecedes}
 use Rattle.dynamic_atomicity.specs.Converse.{StepsHaveOps, breaking}
 
 -- the history that is written of it, at the object at x
-abbrev pub history_of : ℕ → TableKind → ℕ → ℕ → Witness → List Event
-history_of x kind p q w = breaking x (first_commit kind w.held_first) (second_commit kind w.held_first) (lead_of w) p q (tell_of w)
+abbrev pub witness_history : ℕ → TableKind → ℕ → ℕ → Witness → List Event
+witness_history x kind p q w = breaking x (first_commit kind w.held_first) (second_commit kind w.held_first) (lead_of w) p q (tell_of w)
 
 -- the history is a run, and in an order of its commits that keeps what precedes at x it isn't legal there
-pub record IsBroken (objects : List Object) (x : ℕ) (o : Object) (H : List Event) (ts : List ℕ) : Type 0 where
+pub record BreaksOrder (objects : List Object) (x : ℕ) (o : Object) (H : List Event) (ts : List ℕ) : Type 0 where
   pub is_run : IsRun objects H
   pub is_order : IsOrderOf (commits H) ts
-  pub keeps : KeepsPrecedes x H ts
+  pub keeps : KeepsObjectPrecedes x H ts
   pub illegal : IsLegal o.table (Some o.table.initial) (ops (serial ts (surviving_at x H))) → ⊥
 
 -- so it is of each witness of a pair that the object's conflict table hasn't
 abbrev pub WitnessBreaks : Type 0
 WitnessBreaks =
     (objects : List Object) (x : ℕ) (o : Object) (kind : TableKind) (p q : ℕ) (w : Witness) → slice_get objects x ≡ Some o → StepsHaveOps o.table
-    → o.kind ≡ of_table kind → o.conflicts p q ≡ false → IsWitness kind o.table p q w → IsBroken objects x o (history_of x kind p q w) (failing_order w.held_first)
+    → o.kind ≡ of_table kind → o.conflicts p q ≡ false → IsWitness kind o.table p q w → BreaksOrder objects x o (witness_history x kind p q w) (failing_order w.held_first)

@@ -1,11 +1,11 @@
 //! What the converse asks of a type.
 
-ghost use Rattle.number_text.specs.Operations.{number_table};
-ghost use Rattle.table_checker.specs.Declarations.{table_of};
+ghost use Rattle.number_types.specs.Operations.{number_table};
+ghost use Rattle.declared_types.specs.Declarations.{table_of};
 ghost use Rattle.dynamic_atomicity.specs.Converse.{StepsHaveOps};
 
-use number_text::{NumberFile, number_has_table};
-use table_checker::{Declaration, DeclaredType};
+use declared_types::{Declaration, DeclaredType};
+use number_types::{NumberFile, number_has_table};
 use type_table::TypeTable;
 
 /// Each step of a declared type is by one of its operations.

@@ -8,9 +8,9 @@ ghost use Rattle.serial_order.specs.Operations.{ops, serial};
 ghost use Rattle.serial_order.specs.History.{commits};
 ghost use Rattle.serial_order.specs.Machine.{IsRun};
 ghost use Rattle.serial_order.specs.Serial.{serial_at, surviving_at, IsSerial};
-ghost use Rattle.serial_order.specs.Examples.{entry, undo_one_way, undo_counter, undo_semiqueue, one_way_history, semiqueue_history, lock_history, half_deferred_history, number};
-ghost use Rattle.dynamic_atomicity.specs.Dynamic.{comes_first, dated, dated_at, end_of, executed_at, KeepsDated, KeepsPrecedes};
-ghost use Rattle.dynamic_atomicity.specs.Joined.{AreJoined, first_commits, history_of, order_at};
+ghost use Rattle.serial_order.specs.Examples.{entry, undo_one_way, undo_counter, undo_semiqueue, one_way_history, semiqueue_history, lock_history, half_deferred_history, number_object};
+ghost use Rattle.dynamic_atomicity.specs.Dynamic.{comes_first, dated, dated_at, end_state, executed_at, KeepsDated, KeepsObjectPrecedes};
+ghost use Rattle.dynamic_atomicity.specs.Joined.{AreJoined, first_commits, store_history, order_at};
 ghost use Rattle.dynamic_atomicity.specs.Converse.{breaking};
 ghost use Rattle.dynamic_atomicity.specs.OrderExamples.{deferred_parting, fives_history, loose_account, one_way_other, parting, parting_history, same_names, two_stores, with_date};
 
@@ -39,21 +39,21 @@ pub fn ends_of_orders_may_part()
     ensures other_runs { IsRun (undo_one_way ∷ []) one_way_other }
     ensures commits { commits one_way_history ≡ 1 ∷ 0 ∷ [] }
     ensures other_commits { commits one_way_other ≡ 0 ∷ 1 ∷ [] }
-    ensures keeps { KeepsPrecedes 0 one_way_history (0 ∷ 1 ∷ []) }
-    ensures other_keeps { KeepsPrecedes 0 one_way_other (1 ∷ 0 ∷ []) }
+    ensures keeps { KeepsObjectPrecedes 0 one_way_history (0 ∷ 1 ∷ []) }
+    ensures other_keeps { KeepsObjectPrecedes 0 one_way_other (1 ∷ 0 ∷ []) }
     ensures executed { ops (executed_at 0 one_way_history) ≡ 1 ∷ 0 ∷ [] }
-    ensures end { end_of undo_one_way (serial (1 ∷ 0 ∷ []) (surviving_at 0 one_way_history)) ≡ Some 4 }
-    ensures other_end { end_of undo_one_way (serial (0 ∷ 1 ∷ []) (surviving_at 0 one_way_history)) ≡ Some 3 }
-    ensures end_2 { end_of undo_one_way (serial (0 ∷ 1 ∷ []) (surviving_at 0 one_way_other)) ≡ Some 3 }
-    ensures other_end_2 { end_of undo_one_way (serial (1 ∷ 0 ∷ []) (surviving_at 0 one_way_other)) ≡ Some 4 }
+    ensures end { end_state undo_one_way (serial (1 ∷ 0 ∷ []) (surviving_at 0 one_way_history)) ≡ Some 4 }
+    ensures other_end { end_state undo_one_way (serial (0 ∷ 1 ∷ []) (surviving_at 0 one_way_history)) ≡ Some 3 }
+    ensures end_2 { end_state undo_one_way (serial (0 ∷ 1 ∷ []) (surviving_at 0 one_way_other)) ≡ Some 3 }
+    ensures other_end_2 { end_state undo_one_way (serial (1 ∷ 0 ∷ []) (surviving_at 0 one_way_other)) ≡ Some 4 }
     ensures parts { Looks one_way (Some 4) (Some 3) → ⊥ }
 {}
 
 /// Each order of two that take from a semiqueue together gives them the same replies.
 pub fn either_takes_first()
-    ensures one { end_of undo_semiqueue (serial (0 ∷ 1 ∷ 2 ∷ []) (surviving_at 0 semiqueue_history)) ≡ Some 0 }
-    ensures other { end_of undo_semiqueue (serial (0 ∷ 2 ∷ 1 ∷ []) (surviving_at 0 semiqueue_history)) ≡ Some 0 }
-    ensures turned { end_of undo_semiqueue (serial (1 ∷ 0 ∷ 2 ∷ []) (surviving_at 0 semiqueue_history)) ≡ None }
+    ensures one { end_state undo_semiqueue (serial (0 ∷ 1 ∷ 2 ∷ []) (surviving_at 0 semiqueue_history)) ≡ Some 0 }
+    ensures other { end_state undo_semiqueue (serial (0 ∷ 2 ∷ 1 ∷ []) (surviving_at 0 semiqueue_history)) ≡ Some 0 }
+    ensures turned { end_state undo_semiqueue (serial (1 ∷ 0 ∷ 2 ∷ []) (surviving_at 0 semiqueue_history)) ≡ None }
     ensures kept { KeepsDated (0 ∷ 1 ∷ 2 ∷ []) (dated_at 0 semiqueue_history) }
     ensures turned_is_not { KeepsDated (1 ∷ 0 ∷ 2 ∷ []) (dated_at 0 semiqueue_history) → ⊥ }
 {}
@@ -62,28 +62,28 @@ pub fn either_takes_first()
 pub fn commit_order_may_stay_legal()
     ensures runs { IsRun (deferred_parting ∷ []) parting_history }
     ensures serial { IsSerial (deferred_parting ∷ []) parting_history }
-    ensures keeps { KeepsPrecedes 0 parting_history (0 ∷ 1 ∷ 2 ∷ []) }
+    ensures keeps { KeepsObjectPrecedes 0 parting_history (0 ∷ 1 ∷ 2 ∷ []) }
     ensures illegal { IsLegal parting (Some 0) (ops (serial (0 ∷ 1 ∷ 2 ∷ []) (surviving_at 0 parting_history))) → ⊥ }
 {}
 
 /// Under escrow each order that keeps what precedes ends at the same number. One that doesn't may be illegal.
 #[tactic(auto, unfolding(type_table::specs::Table::next, escrow_laws::specs::Bounds::steps_of))]
 pub fn numbers_end_the_same()
-    ensures runs { IsRun (number ∷ []) fives_history }
+    ensures runs { IsRun (number_object ∷ []) fives_history }
     ensures commits { commits fives_history ≡ 1 ∷ 0 ∷ 2 ∷ [] }
     ensures kept { KeepsDated (0 ∷ 1 ∷ 2 ∷ []) (dated_at 0 fives_history) }
-    ensures end { end_of number (serial (1 ∷ 0 ∷ 2 ∷ []) (surviving_at 0 fives_history)) ≡ Some 0 }
-    ensures other_end { end_of number (serial (0 ∷ 1 ∷ 2 ∷ []) (surviving_at 0 fives_history)) ≡ Some 0 }
+    ensures end { end_state number_object (serial (1 ∷ 0 ∷ 2 ∷ []) (surviving_at 0 fives_history)) ≡ Some 0 }
+    ensures other_end { end_state number_object (serial (0 ∷ 1 ∷ 2 ∷ []) (surviving_at 0 fives_history)) ≡ Some 0 }
     ensures turned { KeepsDated (0 ∷ 2 ∷ 1 ∷ []) (dated_at 0 fives_history) → ⊥ }
-    ensures illegal { end_of number (serial (0 ∷ 2 ∷ 1 ∷ []) (surviving_at 0 fives_history)) ≡ None }
+    ensures illegal { end_state number_object (serial (0 ∷ 2 ∷ 1 ∷ []) (surviving_at 0 fives_history)) ≡ None }
 {}
 
 /// Two stores whose commit orders disagree have one order that keeps what precedes at both.
 pub fn two_stores_have_one_order()
-    ensures first_runs { IsRun (undo_counter ∷ []) (history_of 0 two_stores) }
-    ensures second_runs { IsRun (undo_counter ∷ []) (history_of 1 two_stores) }
-    ensures first_commits { commits (history_of 0 two_stores) ≡ 0 ∷ 1 ∷ [] }
-    ensures second_commits { commits (history_of 1 two_stores) ≡ 1 ∷ 0 ∷ [] }
+    ensures first_runs { IsRun (undo_counter ∷ []) (store_history 0 two_stores) }
+    ensures second_runs { IsRun (undo_counter ∷ []) (store_history 1 two_stores) }
+    ensures first_commits { commits (store_history 0 two_stores) ≡ 0 ∷ 1 ∷ [] }
+    ensures second_commits { commits (store_history 1 two_stores) ≡ 1 ∷ 0 ∷ [] }
     ensures joined { AreJoined same_names two_stores }
     ensures one_order { first_commits same_names two_stores ≡ 0 ∷ 1 ∷ [] }
     ensures at_second { order_at same_names two_stores 1 (first_commits same_names two_stores) ≡ 0 ∷ 1 ∷ [] }

@@ -6,7 +6,7 @@ use Rattle.type_table.specs.ConflictTable.{IsSquare}
 use Rattle.equi_cert.specs.Relation.{relates, rows_by}
 use Rattle.equi_cert.specs.Simulation.{IsSimulation}
 use Rattle.equi_cert.specs.Fault.{is_fault, IsFirstFault}
-use Rattle.equi_cert.specs.Examples.{is_among, related_by}
+use Rattle.equi_cert.specs.Examples.{is_pair_among, related_by}
 use Rattle.equi_cert.proofs.Rows.{square-rows_by, relates-past_first, relates-past_second}
 use Rattle.equi_cert.proofs.Faults.{past_passes, faultless-simulates}
 
@@ -47,10 +47,10 @@ quiet-before T rows n s t k square quiet below =
 -- no triple is a fault
 pub simulates : (T : Table) (pairs : List (ℕ × ℕ)) → is_quiet T (related_by T.states pairs) T.states ≡ true → IsSimulation T (related_by T.states pairs)
 simulates T pairs quiet = faultless-simulates T (related_by T.states pairs) (λ s t k.
-    let square = square-rows_by T.states (is_among pairs) in
+    let square = square-rows_by T.states (is_pair_among pairs) in
     elim (cases_lt s T.states) [
-      | inl below ↦ quiet-before T (rows_by T.states (is_among pairs)) T.states s t k square quiet below
-      | inr past ↦ and_left (related_by T.states pairs s t) _ (relates-past_first T.states s t (rows_by T.states (is_among pairs)) square past)
+      | inl below ↦ quiet-before T (rows_by T.states (is_pair_among pairs)) T.states s t k square quiet below
+      | inr past ↦ and_left (related_by T.states pairs s t) _ (relates-past_first T.states s t (rows_by T.states (is_pair_among pairs)) square past)
     ])
 
 -- a triple is the first fault
@@ -62,7 +62,7 @@ first-fault T pairs s t k s_in t_in k_in fails firsts seconds operations = recor
   second = t_in;
   operation = k_in;
   fails = fails;
-  least_first = λ a b c below. quiet-before T (rows_by T.states (is_among pairs)) s a b c (square-rows_by T.states (is_among pairs)) firsts below;
+  least_first = λ a b c below. quiet-before T (rows_by T.states (is_pair_among pairs)) s a b c (square-rows_by T.states (is_pair_among pairs)) firsts below;
   least_second = λ b c below. quiet-row_before T (related_by T.states pairs) s t b c seconds below;
   least_operation = λ c below. agree_below_at (is_fault T (related_by T.states pairs) s t) (λ _. false) k c operations below;
 }

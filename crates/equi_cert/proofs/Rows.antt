@@ -4,7 +4,7 @@ use Rattle.std.specs.List.{range_with_len}
 use Rattle.std.proofs.lemmas.Bool.{cases_lt}
 use Rattle.std.proofs.lemmas.List.{get_or_past, ext_get_or}
 use Rattle.std.proofs.lemmas.List.FromFn.{get_or-map-range_with_len, length-map-range_with_len}
-use Rattle.type_table.specs.ConflictTable.{row, IsSquare}
+use Rattle.type_table.specs.ConflictTable.{conflict_row, IsSquare}
 use Rattle.equi_cert.specs.Relation.{relates, rows_by}
 use Rattle.equi_cert.specs.Laws.{SamePairs}
 
@@ -13,7 +13,7 @@ use Rattle.equi_cert.specs.Laws.{SamePairs}
 pub length-rows_by : (states : ℕ) (test : ℕ → ℕ → Bool) → length (rows_by states test) ≡ states
 length-rows_by states test = length-map-range_with_len (λ s. map (test s) (range_with_len 0 states)) 0 states
 
-row-rows_by : (states s : ℕ) (test : ℕ → ℕ → Bool) → s < states → row (rows_by states test) s ≡ map (test s) (range_with_len 0 states)
+row-rows_by : (states s : ℕ) (test : ℕ → ℕ → Bool) → s < states → conflict_row (rows_by states test) s ≡ map (test s) (range_with_len 0 states)
 row-rows_by states s test below = get_or-map-range_with_len (λ a. map (test a) (range_with_len 0 states)) 0 states s s [] below (omega arith)
 
 -- a cell is its test
@@ -38,7 +38,7 @@ relates-past_first states s t rows square past =
 pub relates-past_second : (states s t : ℕ) (rows : List (List Bool)) → IsSquare states rows → states ≤ t → relates rows s t ≡ false
 relates-past_second states s t rows square past =
     elim (cases_lt s states) [
-      | inl below ↦ get_or_past (row rows s) t false (omega (arith, square.width s below))
+      | inl below ↦ get_or_past (conflict_row rows s) t false (omega (arith, square.width s below))
       | inr above ↦ relates-past_first states s t rows square above
     ]
 
@@ -48,4 +48,4 @@ same-pairs states old new old_square new_square same =
     ext_get_or [] old new (old_square.height ∙ sym new_square.height) (λ s s_below.
     let s_in : s < states = omega (arith, old_square.height) in
     let old_width = old_square.width s s_in in
-    ext_get_or false (row old s) (row new s) (old_width ∙ sym (new_square.width s s_in)) (λ t t_below. same s t s_in (omega (arith, old_width))))
+    ext_get_or false (conflict_row old s) (conflict_row new s) (old_width ∙ sym (new_square.width s s_in)) (λ t t_below. same s t s_in (omega (arith, old_width))))

@@ -6,12 +6,12 @@ use Rattle.type_table.specs.Examples.{ok_op}
 use Rattle.equi_cert.specs.Relation.{relates, rows_by}
 
 -- the states are equal, or one of these pairs
-abbrev pub is_among : List (ℕ × ℕ) → ℕ → ℕ → Bool
-is_among pairs s t = s == t || list_any (λ p. p.0 == s && p.1 == t) pairs
+abbrev pub is_pair_among : List (ℕ × ℕ) → ℕ → ℕ → Bool
+is_pair_among pairs s t = s == t || list_any (λ p. p.0 == s && p.1 == t) pairs
 
 -- the relation of these pairs and the equal ones, over this many states
 abbrev pub related_by : ℕ → List (ℕ × ℕ) → ℕ → ℕ → Bool
-related_by states pairs = relates (rows_by states (is_among pairs))
+related_by states pairs = relates (rows_by states (is_pair_among pairs))
 
 -- p and then q ends in 4, q and then p in 3, and these two allow the same
 abbrev pub twin : Table

@@ -1,13 +1,13 @@
 -- Which state is related to which.
 use Rattle.std.specs.Prelude.{◌≡◌, ℕ, ◌<◌, ◌≤◌, Bool, true, false, List, length, map, slice_index_or}
 use Rattle.std.specs.List.{range_with_len}
-use Rattle.type_table.specs.ConflictTable.{row, IsSquare}
+use Rattle.type_table.specs.ConflictTable.{conflict_row, IsSquare}
 
 -- a row for each first state, and in it a cell for each second one
 
 -- s is related to t
 abbrev pub relates : List (List Bool) → ℕ → ℕ → Bool
-relates rows s t = slice_index_or (row rows s) t false
+relates rows s t = slice_index_or (conflict_row rows s) t false
 
 -- the rows of a test of two states
 abbrev pub rows_by : ℕ → (ℕ → ℕ → Bool) → List (List Bool)

@@ -16,14 +16,14 @@ pub struct Relation {
 
 impl Model for Relation {
     ghost use Rattle.std.specs.Prelude.{Bool, List};
-    ghost use Rattle.equi_cert.specs.Bits.{rows_of, HasRoom};
+    ghost use Rattle.equi_cert.specs.Bits.{rows_of_bits, HaveCells};
     ghost use Rattle.equi_cert.specs.Relation.{IsRelation};
 
     ghost Value = { List (List Bool) };
 
-    ghost view = { λ a. rows_of a.states a.words.items };
+    ghost view = { λ a. rows_of_bits a.states a.words.items };
 
-    ghost invariant = { λ a. HasRoom a.states a.words.items × IsRelation (rows_of a.states a.words.items) };
+    ghost invariant = { λ a. HaveCells a.states a.words.items × IsRelation (rows_of_bits a.states a.words.items) };
 }
 
 impl Relation {

@@ -5,7 +5,7 @@ ghost use Rattle.type_table.specs.Table.{next};
 ghost use Rattle.equi_cert.specs.Relation.{relates};
 ghost use Rattle.equi_cert.specs.Simulation.{IsSimulation};
 ghost use Rattle.equi_cert.specs.Fault.{leads_outside, NeverFails, IsFirstFault};
-ghost use Rattle.equi_cert.specs.Scan.{PairPasses, IsFirstOperation, RowPasses, IsFirstOfRow};
+ghost use Rattle.equi_cert.specs.Scan.{PairStays, IsFirstOperation, RowHasNoFault, IsFirstOfRow};
 
 use crate::cert_fault::CertFault;
 use crate::relation::Relation;
@@ -48,7 +48,7 @@ fn first_fault_of(table: &TypeTable, relation: &Relation, s: u16) -> Option<Cert
     requires fits { length relation.now ≡ table.now.states }
     requires first { s < table.now.states }
     ensures { MatchOption result
-        (RowPasses table.now (relates relation.now) s)
+        (RowHasNoFault table.now (relates relation.now) s)
         (λ f. (f.s ≡ s) × IsFirstOfRow table.now (relates relation.now) s f.t f.k) }
 {
     for t in 0..relation.states() {
@@ -67,7 +67,7 @@ fn first_failing_operation(table: &TypeTable, relation: &Relation, s: u16, t: u1
     requires first { s < table.now.states }
     requires second { t < table.now.states }
     ensures { MatchOption result
-        (PairPasses table.now (relates relation.now) s t)
+        (PairStays table.now (relates relation.now) s t)
         (IsFirstOperation table.now (relates relation.now) s t) }
 {
     for k in 0..table.op_count() {

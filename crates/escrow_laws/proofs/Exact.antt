@@ -8,7 +8,7 @@ use Rattle.escrow_laws.specs.Amounts.{fall, rise}
 use Rattle.escrow_laws.specs.declared.bounded.Bounded.{Bounded}
 use Rattle.escrow_laws.specs.declared.mark.Mark.{Mark}
 use Rattle.escrow_laws.specs.Bounds.{moved, moved_by, gives_of, takes_of, amounts_of, AreBounds}
-use Rattle.escrow_laws.specs.Marks.{unmarked, marked, marked_by, marked_on}
+use Rattle.escrow_laws.specs.Marks.{unmarked, mark_after, marked_by, marked_on}
 use Rattle.escrow_laws.specs.Laws.{MarksAreExact}
 use Rattle.escrow_laws.proofs.Runs.{legal-step, run-step, step-legal}
 use Rattle.escrow_laws.proofs.Numbers.{within, inside_is, moves_by, by_found}
@@ -106,20 +106,20 @@ module _ (T : Table) (top : ℕ) (ops : List Bounded) (bounds : AreBounds T top 
   legal-by k ks m s now at (Some b) is rest =
       let here : next T now k ≡ moved b now = bounds.steps now k ∙ ap (λ found. moved_by found now) is in
       let takes : b.takes ≤ b.low = (bounds.within k b is).enough in
-      let floor = floor-on ops ks (marked m b) in
-      let ceiling = ceiling-on ops ks (marked m b) in (
+      let floor = floor-on ops ks (mark_after m b) in
+      let ceiling = ceiling-on ops ks (mark_after m b) in (
         λ h.
             let low : b.low ≤ now = omega (arith, floor, h.0, at) in
             let high : now ≤ b.high = omega (arith, ceiling, h.1, at) in
             let after : ℕ = now + b.gives - b.takes in
-            let legal = (rest (marked m b) after (omega (arith, at, takes, low))).0 h in
+            let legal = (rest (mark_after m b) after (omega (arith, at, takes, low))).0 h in
             (omega (arith, floor, h.0), omega (arith, ceiling, h.1), step-legal T now k after ks (here ∙ inside_is b now low high) legal.2),
         λ h.
             let step = legal-step T now k ks h.2 in
             let does : moved b now ≡ Some step.0 = sym here ∙ step.1 in
             let inside = within b now (is_there (moved b now) step.0 does) in
             let by = moves_by b now step.0 takes does in
-            (rest (marked m b) step.0 (omega (arith, at, by))).1 (omega (arith, h.0, inside.0, at), omega (arith, h.1, inside.1, at), step.2),
+            (rest (mark_after m b) step.0 (omega (arith, at, by))).1 (omega (arith, h.0, inside.0, at), omega (arith, h.1, inside.1, at), step.2),
       )
 
   legal-on : (ks : List ℕ) (m : Mark) (s now : ℕ) → now + m.fall ≡ s + m.above → IsLegalOn T ops ks m s now

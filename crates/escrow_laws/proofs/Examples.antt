@@ -9,9 +9,9 @@ use Rattle.type_table.specs.Run.{IsLegal}
 use Rattle.type_table.proofs.Elements.{eqb-sym}
 use Rattle.escrow_laws.specs.declared.bounded.Bounded.{Bounded}
 use Rattle.escrow_laws.specs.Amounts.{Amounts, IsNumeric}
-use Rattle.escrow_laws.specs.Bounds.{IsWithin, AreWithin}
+use Rattle.escrow_laws.specs.Bounds.{IsWithinBounds, AreWithin}
 use Rattle.escrow_laws.specs.Faults.{IsFirstNumericFault}
-use Rattle.escrow_laws.specs.Search.{IsFirstLegal, IsStretch, is_alike}
+use Rattle.escrow_laws.specs.Search.{IsFirstLegalState, IsStretch, is_alike}
 use Rattle.escrow_laws.specs.Firm.{IsIdleFrom, IsFirm, keeps}
 use Rattle.escrow_laws.specs.Laws.{FirmAfterApply, NothingKeeps}
 use Rattle.escrow_laws.specs.Marks.{AreMarks}
@@ -24,7 +24,7 @@ use Rattle.escrow_laws.proofs.Searching.{before-stop, stop-fault}
 abbrev pub is_within : ℕ → Bounded → Bool
 is_within top b = nat_le b.takes b.low && (nat_le b.high top && nat_le (b.high + b.gives) (top + b.takes))
 
-within-by : (top : ℕ) (b : Bounded) → is_within top b ≡ true → IsWithin top b
+within-by : (top : ℕ) (b : Bounded) → is_within top b ≡ true → IsWithinBounds top b
 within-by top b passes =
     let first = and_parts (nat_le b.takes b.low) (nat_le b.high top && nat_le (b.high + b.gives) (top + b.takes)) passes in
     let second = and_parts (nat_le b.high top) (nat_le (b.high + b.gives) (top + b.takes)) first.1 in
@@ -37,7 +37,7 @@ within-by top b passes =
 -- each of these
 pub are_within : (top : ℕ) (ops : List Bounded) → list_all (is_within top) ops ≡ true → AreWithin top ops
 are_within top [] all k b there = absurd (none-some b there)
-are_within top (c ∷ ops) all zero b there = subst (λ d. IsWithin top d) (same_Some c b there) (within-by top c (and_parts (is_within top c) (list_all (is_within top) ops) all).0)
+are_within top (c ∷ ops) all zero b there = subst (λ d. IsWithinBounds top d) (same_Some c b there) (within-by top c (and_parts (is_within top c) (list_all (is_within top) ops) all).0)
 are_within top (c ∷ ops) all (suc k) b there = are_within top ops (and_parts (is_within top c) (list_all (is_within top) ops) all).1 k b there
 
 -- ---- faults
@@ -53,7 +53,7 @@ first-fault T t stop r e leads past inside alike ends far later some = record {
   least_state = before-stop T 0 0 t stop first stretch;
 }
   where
-    first : IsFirstLegal T 0 0 0 t
+    first : IsFirstLegalState T 0 0 0 t
     first = record {
       later = omega arith;
       leads = leads;

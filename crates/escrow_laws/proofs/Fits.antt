@@ -8,7 +8,7 @@ use Rattle.type_table.specs.Run.{run, IsLegal}
 use Rattle.type_table.proofs.Legal.{some_state, is_there}
 use Rattle.escrow_laws.specs.declared.bounded.Bounded.{Bounded}
 use Rattle.escrow_laws.specs.Amounts.{fall, rise}
-use Rattle.escrow_laws.specs.Bounds.{moved, moved_by, gives_of, takes_of, amounts_of, IsWithin, AreBounds}
+use Rattle.escrow_laws.specs.Bounds.{moved, moved_by, gives_of, takes_of, amounts_of, IsWithinBounds, AreBounds}
 use Rattle.escrow_laws.specs.Firm.{sum_below, others_fall, others_rise}
 use Rattle.escrow_laws.specs.Laws.{FirmKeepsNobody, MarksFit, SumsFit}
 use Rattle.escrow_laws.specs.Marks.{unmarked}
@@ -27,7 +27,7 @@ firm_keeps = λ T a base m own t u firm.
 -- ---- what is legal has room
 
 -- by one operation
-step-room : (top : ℕ) (found : Option Bounded) (s t : ℕ) → ((b : Bounded) → found ≡ Some b → IsWithin top b) → moved_by found s ≡ Some t →
+step-room : (top : ℕ) (found : Option Bounded) (s t : ℕ) → ((b : Bounded) → found ≡ Some b → IsWithinBounds top b) → moved_by found s ≡ Some t →
     (t + takes_of found ≡ s + gives_of found) × (t ≤ top)
 step-room top None s t fits is = absurd (none-some t is)
 step-room top (Some b) s t fits is =

@@ -8,7 +8,7 @@ use Rattle.type_table.specs.Laws.{RunsAlong}
 use Rattle.type_table.proofs.Legal.{some_state}
 use Rattle.escrow_laws.specs.Amounts.{Amounts, IsNumeric}
 use Rattle.escrow_laws.specs.Firm.{IsIdleFrom, IsFirm, with_op, IsAdmitted}
-use Rattle.escrow_laws.specs.Escrow.{Escrow, Happening, Does, Commits, Strikes, begun, without, struck, escrow_after, IsAllowed, left_by, AreAllowed, IsSound}
+use Rattle.escrow_laws.specs.Escrow.{Escrow, Happening, Does, Commits, Strikes, escrow_begun, without, struck, escrow_after, IsAllowed, left_by, AreAllowed, IsSoundWork}
 use Rattle.escrow_laws.specs.Laws.{FirmIsSafe, SafeIsFirm, AdmittedWhereSafe, BaseIsSerial}
 use Rattle.escrow_laws.proofs.Staying.{fresh_firm, firm_legal, firm_applied, firm_committed, firm_struck}
 use Rattle.escrow_laws.proofs.Fits.{firm_keeps}
@@ -74,15 +74,15 @@ front-struck own t n u = elim (cases_Bool (u == t)) [
 serial-on : RunsAlong → (T : Table) (initial base now : ℕ) (serial own : List ℕ) → run T (Some initial) serial ≡ Some base → run T (Some base) own ≡ Some now → run T (Some initial) (serial ++ own) ≡ Some now
 serial-on along T initial base now serial own before step = along T (Some initial) serial own ∙ ap (λ o. run T o own) before ∙ step
 
-committed-sound : RunsAlong → (T : Table) (a : Amounts) (initial m : ℕ) → IsNumeric T a → (x : Escrow) (t now moved : ℕ) → IsSound T a initial m x → run T (Some x.base) (x.own t) ≡ Some now → moved ≡ now →
-    IsSound T a initial m (record { base = moved; own = without x.own t; serial = x.serial ++ x.own t })
+committed-sound : RunsAlong → (T : Table) (a : Amounts) (initial m : ℕ) → IsNumeric T a → (x : Escrow) (t now moved : ℕ) → IsSoundWork T a initial m x → run T (Some x.base) (x.own t) ≡ Some now → moved ≡ now →
+    IsSoundWork T a initial m (record { base = moved; own = without x.own t; serial = x.serial ++ x.own t })
 committed-sound along T a initial m numeric x t now moved sound reached is = record {
   firm = rw is (firm_committed T a x.base now x.own (without x.own t) t numeric sound.firm reached (rw (eq-eqb t t refl) refl) (λ u other. rw other refl));
   is_serial = rw is (serial-on along T initial x.base now x.serial (x.own t) sound.is_serial reached);
   idle = idle-without x.own m t sound.idle;
 }
 
-stays-sound : RunsAlong → (T : Table) (a : Amounts) (initial m : ℕ) → IsNumeric T a → (x : Escrow) (h : Happening) → IsSound T a initial m x → IsAllowed T a m x h → IsSound T a initial m (escrow_after T x h)
+stays-sound : RunsAlong → (T : Table) (a : Amounts) (initial m : ℕ) → IsNumeric T a → (x : Escrow) (h : Happening) → IsSoundWork T a initial m x → IsAllowed T a m x h → IsSoundWork T a initial m (escrow_after T x h)
 stays-sound along T a initial m numeric x (Does t k) sound admitted = record {
   firm = admitted-firm T a x.base m x.own t k numeric sound.idle admitted;
   is_serial = sound.is_serial;
@@ -97,13 +97,13 @@ stays-sound along T a initial m numeric x (Strikes t n) sound allowed = record {
   idle = idle-struck x.own m t n sound.idle;
 }
 
-all-sound : RunsAlong → (T : Table) (a : Amounts) (initial m : ℕ) → IsNumeric T a → (x : Escrow) (hs : List Happening) → IsSound T a initial m x → AreAllowed T a m x hs → IsSound T a initial m (left_by T x hs)
+all-sound : RunsAlong → (T : Table) (a : Amounts) (initial m : ℕ) → IsNumeric T a → (x : Escrow) (hs : List Happening) → IsSoundWork T a initial m x → AreAllowed T a m x hs → IsSoundWork T a initial m (left_by T x hs)
 all-sound along T a initial m numeric x [] sound allowed = sound
 all-sound along T a initial m numeric x (h ∷ hs) sound allowed =
     all-sound along T a initial m numeric (escrow_after T x h) hs (stays-sound along T a initial m numeric x h sound allowed.0) allowed.1
 
 pub serial_base : RunsAlong → BaseIsSerial
-serial_base along = λ T a initial m hs numeric allowed. all-sound along T a initial m numeric (begun initial) hs (record {
+serial_base along = λ T a initial m hs numeric allowed. all-sound along T a initial m numeric (escrow_begun initial) hs (record {
   firm = fresh_firm T a initial (λ _. []) (λ u. refl);
   is_serial = refl;
   idle = λ u far. refl;

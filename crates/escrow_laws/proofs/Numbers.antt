@@ -4,7 +4,7 @@ use Rattle.std.specs.Prelude.{nat_le, slice_get}
 use Rattle.std.proofs.lemmas.Bool.{cases_Bool, false≢true, and_parts, and_left, and_right, leb-true, le-leb, lt-leb}
 use Rattle.std.proofs.lemmas.Option.{none-some}
 use Rattle.escrow_laws.specs.declared.bounded.Bounded.{Bounded}
-use Rattle.escrow_laws.specs.Bounds.{moved, moved_by, gives_of, takes_of, IsWithin, nowhere}
+use Rattle.escrow_laws.specs.Bounds.{moved, moved_by, gives_of, takes_of, IsWithinBounds, nowhere}
 use Rattle.escrow_laws.specs.Laws.{BoundsAreNumeric}
 
 -- the bounds between which an operation is legal
@@ -30,7 +30,7 @@ moved-nowhere zero = moved-under nowhere zero (omega arith)
 moved-nowhere (suc s) = moved-over nowhere (suc s) (omega arith)
 
 -- so none is legal above the top
-pub none-above : (found : Option Bounded) (top s : ℕ) → ((b : Bounded) → found ≡ Some b → IsWithin top b) → top < s → moved_by found s ≡ None
+pub none-above : (found : Option Bounded) (top s : ℕ) → ((b : Bounded) → found ≡ Some b → IsWithinBounds top b) → top < s → moved_by found s ≡ None
 none-above None top s fits above = refl
 none-above (Some b) top s fits above = let most = (fits b refl).legal in moved-over b s (omega (arith, most, above))
 

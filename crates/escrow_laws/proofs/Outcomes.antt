@@ -9,7 +9,7 @@ use Rattle.type_table.specs.Laws.{RunsAlong}
 use Rattle.type_table.proofs.Legal.{some_state, is_there, legal-front, legal-behind, legal-after}
 use Rattle.escrow_laws.specs.Amounts.{Amounts, IsNumeric, fall, rise}
 use Rattle.escrow_laws.specs.Firm.{sum_below, except, IsFirm}
-use Rattle.escrow_laws.specs.Safe.{Part, done_by, AreOthers}
+use Rattle.escrow_laws.specs.Safe.{Part, done_in_parts, AreOthers}
 use Rattle.escrow_laws.specs.Laws.{FirmIsSafe, SafeIsFirm}
 use Rattle.escrow_laws.proofs.Runs.{legal-between}
 use Rattle.escrow_laws.proofs.Lowest.{falls-somewhere, rises-somewhere}
@@ -18,12 +18,12 @@ use Rattle.escrow_laws.proofs.Staying.{firm_legal, firm_struck, firm_committed}
 -- ---- what is firm is safe
 
 -- what is done by others than a transaction doesn't depend on it
-same-done : (own rest : ℕ → List ℕ) (t : ℕ) (ps : List Part) → ((u : ℕ) → (u == t) ≡ false → rest u ≡ own u) → AllByRecursion (λ q. (q.by == t) ≡ false) ps → done_by rest ps ≡ done_by own ps
+same-done : (own rest : ℕ → List ℕ) (t : ℕ) (ps : List Part) → ((u : ℕ) → (u == t) ≡ false → rest u ≡ own u) → AllByRecursion (λ q. (q.by == t) ≡ false) ps → done_in_parts rest ps ≡ done_in_parts own ps
 same-done own rest t [] same apart = refl
 same-done own rest t (p ∷ ps) same apart = rw (same p.by apart.0, same-done own rest t ps same apart.1) refl
 
 safe-by : RunsAlong → (T : Table) (a : Amounts) → IsNumeric T a → (t : ℕ) (ps : List Part) (base : ℕ) (own : ℕ → List ℕ) → IsFirm T a base own → AreOthers t ps →
-    IsLegal T (Some base) (done_by own ps ++ own t)
+    IsLegal T (Some base) (done_in_parts own ps ++ own t)
 safe-by along T a numeric t [] base own firm others = firm_legal T a base own t firm
 safe-by along T a numeric t (p ∷ ps) base own firm others =
     let cut : ℕ → List ℕ = λ v. cond (v == p.by) (take p.count (own v)) (own v) in
@@ -40,9 +40,9 @@ safe-by along T a numeric t (p ∷ ps) base own firm others =
     let after = safe-by along T a numeric t ps reached.0 rest firm_rest others.2 in
     let apart : (t == p.by) ≡ false = ne_eqb t p.by (λ same. false≢true (sym others.0 ∙ eq-eqb p.by t (sym same))) in
     let same : rest t ≡ own t = rw apart refl in
-    let dones : done_by rest ps ≡ done_by own ps = same-done own rest p.by ps (λ u other. rw other refl) others.1 in
-    rw (append_assoc (take p.count (own p.by)) (done_by own ps) (own t))
-    (legal-after along T (Some base) (take p.count (own p.by)) (done_by own ps ++ own t) reached.0 reached.1 (rw (dones, same) at after))
+    let dones : done_in_parts rest ps ≡ done_in_parts own ps = same-done own rest p.by ps (λ u other. rw other refl) others.1 in
+    rw (append_assoc (take p.count (own p.by)) (done_in_parts own ps) (own t))
+    (legal-after along T (Some base) (take p.count (own p.by)) (done_in_parts own ps ++ own t) reached.0 reached.1 (rw (dones, same) at after))
 
 pub firm_safe : RunsAlong → FirmIsSafe
 firm_safe along = λ T a base own numeric firm t ps others. safe-by along T a numeric t ps base own firm others
@@ -54,13 +54,13 @@ record Lowest (T : Table) (a : Amounts) (own : ℕ → List ℕ) (t m : ℕ) : T
   parts : List Part
   others : AreOthers t parts
   inside : AllByRecursion (λ p. p.by < m) parts
-  ends : (s e : ℕ) → run T (Some s) (done_by own parts) ≡ Some e → s ≡ e + sum_below m (except t (λ u. fall a (own u)))
+  ends : (s e : ℕ) → run T (Some s) (done_in_parts own parts) ≡ Some e → s ≡ e + sum_below m (except t (λ u. fall a (own u)))
 
 record Highest (T : Table) (a : Amounts) (own : ℕ → List ℕ) (t m : ℕ) : Type 0 where
   parts : List Part
   others : AreOthers t parts
   inside : AllByRecursion (λ p. p.by < m) parts
-  ends : (s e : ℕ) → run T (Some s) (done_by own parts) ≡ Some e → e ≡ s + sum_below m (except t (λ u. rise a (own u)))
+  ends : (s e : ℕ) → run T (Some s) (done_in_parts own parts) ≡ Some e → e ≡ s + sum_below m (except t (λ u. rise a (own u)))
 
 -- what is below m is below m + 1, and isn't m
 more-inside : (m : ℕ) (ps : List Part) → AllByRecursion (λ p. p.by < m) ps → AllByRecursion (λ p. p.by < suc m) ps
@@ -90,7 +90,7 @@ lowest-parts along T a numeric own t (suc m) =
             inside = (omega arith, more-inside m rest.parts rest.inside);
             ends = λ s e run_is. rw other
                 (let v : List ℕ = take down.count (own m) in
-                let w : List ℕ = done_by own rest.parts in
+                let w : List ℕ = done_in_parts own rest.parts in
                 let middle = some_state (run T (Some s) v) (legal-front T (Some s) v w (is_there (run T (Some s) (v ++ w)) e run_is)) in
                 let first = down.ends s middle.0 middle.1 in
                 let second = rest.ends middle.0 e (rw (along T (Some s) v w, middle.1) at run_is) in
@@ -117,7 +117,7 @@ highest-parts along T a numeric own t (suc m) =
             inside = (omega arith, more-inside m rest.parts rest.inside);
             ends = λ s e run_is. rw other
                 (let v : List ℕ = take up.count (own m) in
-                let w : List ℕ = done_by own rest.parts in
+                let w : List ℕ = done_in_parts own rest.parts in
                 let middle = some_state (run T (Some s) v) (legal-front T (Some s) v w (is_there (run T (Some s) (v ++ w)) e run_is)) in
                 let first = up.ends s middle.0 middle.1 in
                 let second = rest.ends middle.0 e (rw (along T (Some s) v w, middle.1) at run_is) in
@@ -129,8 +129,8 @@ pub safe_firm : RunsAlong → SafeIsFirm
 safe_firm along = λ T a base own numeric safe t m s low high.
     let down = lowest-parts along T a numeric own t m in
     let up = highest-parts along T a numeric own t m in
-    let v : List ℕ = done_by own down.parts in
-    let w : List ℕ = done_by own up.parts in
+    let v : List ℕ = done_in_parts own down.parts in
+    let w : List ℕ = done_in_parts own up.parts in
     let lower = safe t down.parts down.others in
     let upper = safe t up.parts up.others in
     let bottom = some_state (run T (Some base) v) (legal-front T (Some base) v (own t) lower) in

@@ -14,7 +14,7 @@ use Rattle.type_table.proofs.Legal.{some_state}
 use Rattle.escrow_laws.specs.declared.bounded.Bounded.{Bounded}
 use Rattle.escrow_laws.specs.Bounds.{moved, moved_by, AreBounds, least_legal, greatest_legal, bounded_between, bounded_at, bounds_of, nowhere}
 use Rattle.escrow_laws.specs.Faults.{IsNumericFault, IsFaultless, IsFirstNumericFault}
-use Rattle.escrow_laws.specs.Search.{IsIllegalFrom, IsFirstLegal, IsStretch, is_alike, IsFirstOfOperation, IsFaultlessAt, bounded_until, IsBounded}
+use Rattle.escrow_laws.specs.Search.{IsIllegalFrom, IsFirstLegalState, IsStretch, is_alike, IsFirstOfOperation, IsFaultlessAt, bounded_until, IsBounded}
 use Rattle.escrow_laws.proofs.Numbers.{inside_is, moved-under, moved-over, moved-nowhere}
 
 -- ---- steps
@@ -104,7 +104,7 @@ pub stop-last : StepsWithin → (T : Table) → IsTable T → (k s t : ℕ) → 
 stop-last within T table k s t = rw (past-states within T table T.states k (omega arith)) refl
 
 -- before the stop there is no fault
-pub before-stop : (T : Table) (k s t stop : ℕ) → IsFirstLegal T k 0 s t → IsStretch T k s t stop → (r : ℕ) → r < stop → IsNumericFault T k r → ⊥
+pub before-stop : (T : Table) (k s t stop : ℕ) → IsFirstLegalState T k 0 s t → IsStretch T k s t stop → (r : ℕ) → r < stop → IsNumericFault T k r → ⊥
 before-stop T k s t stop first stretch r inside fault = elim fault [
   | inl gap ↦
       let low = some_state (next T gap.low k) gap.legal_low in
@@ -140,7 +140,7 @@ before-stop T k s t stop first stretch r inside fault = elim fault [
     ]
 
 -- where it is legal at the stop or later, it is at fault there
-pub stop-fault : (T : Table) (k s t stop r e : ℕ) → IsFirstLegal T k 0 s t → IsStretch T k s t stop → stop ≤ r → next T r k ≡ Some e → IsNumericFault T k stop
+pub stop-fault : (T : Table) (k s t stop r e : ℕ) → IsFirstLegalState T k 0 s t → IsStretch T k s t stop → stop ≤ r → next T r k ≡ Some e → IsNumericFault T k stop
 stop-fault T k s t stop r e first stretch far leads = by_step (next T stop k) refl
   where
     by_step : (o : Option ℕ) → next T stop k ≡ o → IsNumericFault T k stop
@@ -169,14 +169,14 @@ stop-fault T k s t stop r e first stretch far leads = by_step (next T stop k) re
     })
 
 -- so the stop is the first fault where it is legal at it or later
-pub stop-first : (T : Table) (k s t stop r e : ℕ) → IsFirstLegal T k 0 s t → IsStretch T k s t stop → IsFirstLegal T k stop r e → IsFirstOfOperation T k stop
+pub stop-first : (T : Table) (k s t stop r e : ℕ) → IsFirstLegalState T k 0 s t → IsStretch T k s t stop → IsFirstLegalState T k stop r e → IsFirstOfOperation T k stop
 stop-first T k s t stop r e first stretch again = record {
   fails = stop-fault T k s t stop r e first stretch again.later again.leads;
   least = before-stop T k s t stop first stretch;
 }
 
 -- and there is none where it isn't
-pub ended-faultless : (T : Table) (k s t stop : ℕ) → IsFirstLegal T k 0 s t → IsStretch T k s t stop → IsIllegalFrom T k stop → IsFaultlessAt T k
+pub ended-faultless : (T : Table) (k s t stop : ℕ) → IsFirstLegalState T k 0 s t → IsStretch T k s t stop → IsIllegalFrom T k stop → IsFaultlessAt T k
 ended-faultless T k s t stop first stretch ended r fault =
     elim (cases_lt r stop) [
       | inl inside ↦ before-stop T k s t stop first stretch r inside fault
@@ -201,7 +201,7 @@ none-yet T k start r before far = absurd (omega (arith, before, far))
 pub none-more : (T : Table) (k start n : ℕ) → IsIllegalBefore T k start n → next T n k ≡ None → IsIllegalBefore T k start (n + 1)
 none-more T k start n before here = below_more (λ r. start ≤ r → next T r k ≡ None) n before (λ _. here)
 
-pub legal-first : (T : Table) (k start s t : ℕ) → IsIllegalBefore T k start s → start ≤ s → next T s k ≡ Some t → IsFirstLegal T k start s t
+pub legal-first : (T : Table) (k start s t : ℕ) → IsIllegalBefore T k start s → start ≤ s → next T s k ≡ Some t → IsFirstLegalState T k start s t
 legal-first T k start s t before far leads = record { later = far; leads = leads; least = λ r later less. before r less later }
 
 pub none-all : StepsWithin → (T : Table) → IsTable T → (k start n : ℕ) → IsIllegalBefore T k start n → T.states ≤ n → IsIllegalFrom T k start
@@ -237,7 +237,7 @@ stop-end within T table k s t n leads before whole =
 -- ---- its bounds
 
 -- where it is nowhere at fault, it is illegal from the stop on
-ended-by : (T : Table) (k s t stop : ℕ) → IsFirstLegal T k 0 s t → IsStretch T k s t stop → IsFaultlessAt T k → IsIllegalFrom T k stop
+ended-by : (T : Table) (k s t stop : ℕ) → IsFirstLegalState T k 0 s t → IsStretch T k s t stop → IsFaultlessAt T k → IsIllegalFrom T k stop
 ended-by T k s t stop first stretch faultless r far =
     illegal-by (next T r k) (λ e leads. faultless stop (stop-fault T k s t stop r e first stretch far leads))
 
@@ -257,7 +257,7 @@ nowhere-bounded T k illegal = record {
 }
 
 -- and so has one that is legal from s up to the stop
-pub stretch-bounded : StepsWithin → (T : Table) → IsTable T → (k s t stop : ℕ) → IsFirstLegal T k 0 s t → IsStretch T k s t stop → IsFaultlessAt T k → IsBounded T k (bounded_until s t stop)
+pub stretch-bounded : StepsWithin → (T : Table) → IsTable T → (k s t stop : ℕ) → IsFirstLegalState T k 0 s t → IsStretch T k s t stop → IsFaultlessAt T k → IsBounded T k (bounded_until s t stop)
 stretch-bounded within T table k s t stop first stretch faultless = record {
   is = sym (ap (λ low. bounded_between T k low (greatest_legal T k)) least ∙ ap (bounded_between T k (Some s)) greatest
       ∙ ap (λ step. (let end = unwrap_or step s in record { low = s; high = stop - 1; gives = end - s; takes = s - end })) leads);

@@ -14,7 +14,7 @@ use Rattle.escrow_laws.specs.declared.mark.OpenMark.{OpenMark}
 use Rattle.escrow_laws.specs.Amounts.{fall, rise}
 use Rattle.escrow_laws.specs.Bounds.{amounts_of, AreBounds}
 use Rattle.escrow_laws.specs.Firm.{sum_below, except, others_fall, others_rise, IsIdleFrom, IsFirm, is_low_legal, is_high_legal}
-use Rattle.escrow_laws.specs.Marks.{unmarked, mark_of, AreOnce, AreMarks, fallen_of, risen_of, is_legal_from, is_low, is_high, are_firm}
+use Rattle.escrow_laws.specs.Marks.{unmarked, mark_of, HaveOneMarkEach, AreMarks, fallen_of, risen_of, is_legal_from, is_low, is_high, are_firm}
 use Rattle.escrow_laws.specs.Laws.{MarksTell, MarksTellFirm}
 use Rattle.escrow_laws.proofs.Runs.{legal-step}
 use Rattle.escrow_laws.proofs.Sums.{sum-zero, sum-apart}
@@ -25,7 +25,7 @@ use Rattle.escrow_laws.proofs.Staying.{firm_both, both_firm}
 -- ---- sums
 
 -- the sum over a list that has each with something once
-sum-listed : (amount : OpenMark → ℕ) (m : ℕ) (marks : List OpenMark) (f : ℕ → ℕ) → AllByRecursion (λ o. amount o ≡ f o.by) marks → AllByRecursion (λ o. o.by < m) marks → AreOnce marks
+sum-listed : (amount : OpenMark → ℕ) (m : ℕ) (marks : List OpenMark) (f : ℕ → ℕ) → AllByRecursion (λ o. amount o ≡ f o.by) marks → AllByRecursion (λ o. o.by < m) marks → HaveOneMarkEach marks
     → ((u : ℕ) → list_any (λ o. o.by == u) marks ≡ false → f u ≡ 0) → sum_by amount marks ≡ sum_below m f
 sum-listed amount m [] f same inside once none = sym (sum-zero m f (λ u. none u refl))
 sum-listed amount m (o ∷ os) f same inside once none =

@@ -7,7 +7,7 @@ use Rattle.std.proofs.lemmas.List.FromFn.{fill_by_all}
 use Rattle.type_table.specs.Table.{Table, next}
 use Rattle.type_table.proofs.Least.{first_below-none, first_below-found, last_below-found}
 use Rattle.escrow_laws.specs.declared.bounded.Bounded.{Bounded}
-use Rattle.escrow_laws.specs.Bounds.{moved, moved_by, IsWithin, IsOneWay, nowhere, least_legal, greatest_legal, bounded_between, bounded_at}
+use Rattle.escrow_laws.specs.Bounds.{moved, moved_by, IsWithinBounds, IsOneWay, nowhere, least_legal, greatest_legal, bounded_between, bounded_at}
 use Rattle.escrow_laws.specs.Laws.{BoundsAreTold}
 use Rattle.escrow_laws.proofs.Numbers.{inside_is, moved-under, moved-over, moved-nowhere}
 
@@ -70,7 +70,7 @@ bounds_told = λ T ops some count plain bounds.
     sym (fill_by_all (bounded_at T) ops (length T.ops) none (sym count) (λ k below.
     let b : Bounded = get_or ops k none in
     let found : slice_get ops k ≡ Some b = slice_get-get_or ops k none (omega (arith, below, count)) in
-    let fits : IsWithin (T.states - 1) b = bounds.within k b found in
+    let fits : IsWithinBounds (T.states - 1) b = bounds.within k b found in
     let steps : (s : ℕ) → next T s k ≡ moved b s = λ s. bounds.steps s k ∙ ap (λ o. moved_by o s) found in
     sym (elim (plain k b found) [
       | inl way ↦

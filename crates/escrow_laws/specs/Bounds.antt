@@ -31,14 +31,14 @@ abbrev pub amounts_of : List Bounded → Amounts
 amounts_of ops = record { gives = λ k. gives_of (slice_get ops k); takes = λ k. takes_of (slice_get ops k) }
 
 -- an operation on numbers from 0 to top: it is legal at none above, and leads to none below or above
-pub record IsWithin (top : ℕ) (b : Bounded) : Type 0 where
+pub record IsWithinBounds (top : ℕ) (b : Bounded) : Type 0 where
   pub enough : b.takes ≤ b.low
   pub legal : b.high ≤ top
   pub room : b.high + b.gives ≤ top + b.takes
 
 -- each of these is one
 abbrev pub AreWithin : ℕ → List Bounded → Type 0
-AreWithin top ops = (k : ℕ) (b : Bounded) → slice_get ops k ≡ Some b → IsWithin top b
+AreWithin top ops = (k : ℕ) (b : Bounded) → slice_get ops k ≡ Some b → IsWithinBounds top b
 
 -- the type's states are the numbers from 0 to top, and its operations are these
 pub record AreBounds (T : Table) (top : ℕ) (ops : List Bounded) : Type 0 where
@@ -83,9 +83,9 @@ pub record IsOneWay (b : Bounded) : Type 0 where
   pub one_way : (b.gives ≡ 0) ⊎ (b.takes ≡ 0)
 
 -- such an operation, or one that is legal nowhere: no others have the same steps
-abbrev pub IsPlain : Bounded → Type 0
-IsPlain b = IsOneWay b ⊎ (b ≡ nowhere)
+abbrev pub IsPlainOperation : Bounded → Type 0
+IsPlainOperation b = IsOneWay b ⊎ (b ≡ nowhere)
 
 -- each of these is one
 abbrev pub ArePlain : List Bounded → Type 0
-ArePlain ops = (k : ℕ) (b : Bounded) → slice_get ops k ≡ Some b → IsPlain b
+ArePlain ops = (k : ℕ) (b : Bounded) → slice_get ops k ≡ Some b → IsPlainOperation b

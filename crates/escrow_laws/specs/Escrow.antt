@@ -18,8 +18,8 @@ pub data Happening : Type 0 where
   Strikes : (t n : ℕ) → Happening
 
 -- where nothing has happened
-abbrev pub begun : ℕ → Escrow
-begun initial = record { base = initial; own = λ _. []; serial = [] }
+abbrev pub escrow_begun : ℕ → Escrow
+escrow_begun initial = record { base = initial; own = λ _. []; serial = [] }
 
 -- what each did, without t
 abbrev pub without : (ℕ → List ℕ) → ℕ → ℕ → List ℕ
@@ -52,7 +52,7 @@ AreAllowed T a m x [] = Unit {0}
 AreAllowed T a m x (h ∷ hs) = IsAllowed T a m x h × AreAllowed T a m (escrow_after T x h) hs
 
 -- what each open transaction did stays legal whatever the others do, and base is the state to which what was committed leads, in commit order
-pub record IsSound (T : Table) (a : Amounts) (initial m : ℕ) (x : Escrow) : Type 0 where
+pub record IsSoundWork (T : Table) (a : Amounts) (initial m : ℕ) (x : Escrow) : Type 0 where
   pub firm : IsFirm T a x.base x.own
   pub is_serial : run T (Some initial) x.serial ≡ Some x.base
   pub idle : IsIdleFrom m x.own

@@ -28,8 +28,8 @@ op_with call reply = record { call = call; reply = reply }
 -- ---- a counter from 0 to 5
 
 -- operation 0 gives 1, operation 1 takes 2, and operation 2 says that there aren't 2
-abbrev pub five : Table
-five = record {
+abbrev pub five_table : Table
+five_table = record {
   name = codes "five";
   states = 6;
   initial = 3;
@@ -65,8 +65,8 @@ two_marks = (record { by = 0; mark = mark_of 5 five_ops (1 ∷ []) }) ∷ (recor
 abbrev pub stock_ops : List Bounded
 stock_ops = taking 1 1000 1 ∷ giving 0 991 9 ∷ []
 
-abbrev pub stock : Table
-stock = record {
+abbrev pub stock_table : Table
+stock_table = record {
   name = codes "stock";
   states = 1001;
   initial = 500;
@@ -84,8 +84,8 @@ nine_given = mark_of 1000 stock_ops (1 ∷ [])
 -- ---- of the families
 
 -- an account of 0, 1 or 2
-abbrev pub account : Table
-account = record {
+abbrev pub account_of_two : Table
+account_of_two = record {
   name = codes "account";
   states = 3;
   initial = 0;

@@ -8,8 +8,8 @@ use Rattle.escrow_laws.specs.Bounds.{amounts_of, AreWithin, AreBounds, steps_of,
 use Rattle.escrow_laws.specs.Faults.{IsFaultless}
 use Rattle.escrow_laws.specs.Firm.{sum_below, IsIdleFrom, IsFirm, with_op, keeps, IsAdmitted}
 use Rattle.escrow_laws.specs.Safe.{IsSafe}
-use Rattle.escrow_laws.specs.Escrow.{Happening, begun, left_by, AreAllowed, IsSound}
-use Rattle.escrow_laws.specs.Marks.{mark_of, IsExact, FitsIn, AreMarks, fallen_of, risen_of, mark_keeps, are_firm, most_needed, least_limit}
+use Rattle.escrow_laws.specs.Escrow.{Happening, escrow_begun, left_by, AreAllowed, IsSoundWork}
+use Rattle.escrow_laws.specs.Marks.{mark_of, IsExactMark, FitsIn, AreMarks, fallen_of, risen_of, mark_keeps, are_firm, most_needed, least_limit}
 use Rattle.escrow_laws.specs.declared.bounded.Bounded.{Bounded}
 use Rattle.escrow_laws.specs.declared.mark.OpenMark.{OpenMark}
 
@@ -100,14 +100,14 @@ AdmittedWhereSafe =
 -- whatever happens to a number, of which each operation is admitted: it stays firm, and base is the serial state itself
 abbrev pub BaseIsSerial : Type 0
 BaseIsSerial =
-    (T : Table) (a : Amounts) (initial m : ℕ) (hs : List Happening) → IsNumeric T a → AreAllowed T a m (begun initial) hs
-    → IsSound T a initial m (left_by T (begun initial) hs)
+    (T : Table) (a : Amounts) (initial m : ℕ) (hs : List Happening) → IsNumeric T a → AreAllowed T a m (escrow_begun initial) hs
+    → IsSoundWork T a initial m (left_by T (escrow_begun initial) hs)
 
 -- ---- marks
 
 -- what is kept of operations is exact
 abbrev pub MarksAreExact : Type 0
-MarksAreExact = (T : Table) (top : ℕ) (ops : List Bounded) (ks : List ℕ) → AreBounds T top ops → IsExact T top ops ks (mark_of top ops ks)
+MarksAreExact = (T : Table) (top : ℕ) (ops : List Bounded) (ks : List ℕ) → AreBounds T top ops → IsExactMark T top ops ks (mark_of top ops ks)
 
 -- and its numbers stay as small as base and the room above it, however many operations there are
 abbrev pub MarksFit : Type 0

@@ -21,8 +21,8 @@ abbrev pub above_with : Mark → Bounded → ℕ
 above_with m b = (m.above + b.gives) - b.takes
 
 -- with one more
-abbrev pub marked : Mark → Bounded → Mark
-marked m b = record {
+abbrev pub mark_after : Mark → Bounded → Mark
+mark_after m b = record {
   fall = fall_with m b;
   rise = max m.rise (above_with m b - fall_with m b);
   above = above_with m b;
@@ -33,7 +33,7 @@ marked m b = record {
 -- an operation that there isn't is legal nowhere
 abbrev pub marked_by : Mark → Option Bounded → Mark
 marked_by m None = record { fall = m.fall; rise = m.rise; above = m.above; floor = m.floor; ceiling = 0 }
-marked_by m (Some b) = marked m b
+marked_by m (Some b) = mark_after m b
 
 -- with more of them, and of these alone
 abbrev pub marked_on : List Bounded → Mark → List ℕ → Mark
@@ -43,7 +43,7 @@ abbrev pub mark_of : ℕ → List Bounded → List ℕ → Mark
 mark_of top ops ks = marked_on ops (unmarked top) ks
 
 -- what it says: how far they fall and rise; that they end so far above their lowest; and that they are legal from `floor` on and below `ceiling`
-pub record IsExact (T : Table) (top : ℕ) (ops : List Bounded) (ks : List ℕ) (m : Mark) : Type 0 where
+pub record IsExactMark (T : Table) (top : ℕ) (ops : List Bounded) (ks : List ℕ) (m : Mark) : Type 0 where
   pub down : m.fall ≡ fall (amounts_of ops) ks
   pub up : m.rise ≡ rise (amounts_of ops) ks
   pub ends : (s e : ℕ) → run T (Some s) ks ≡ Some e → e + m.fall ≡ s + m.above
@@ -60,16 +60,16 @@ pub record FitsIn (top base : ℕ) (m : Mark) : Type 0 where
 -- ---- the marks of all open transactions
 
 -- no two are of one transaction
-abbrev pub AreOnce : List OpenMark → Type 0
-AreOnce [] = Unit {0}
-AreOnce (o ∷ os) = AllByRecursion (λ q. (q.by == o.by) ≡ false) os × AreOnce os
+abbrev pub HaveOneMarkEach : List OpenMark → Type 0
+HaveOneMarkEach [] = Unit {0}
+HaveOneMarkEach (o ∷ os) = AllByRecursion (λ q. (q.by == o.by) ≡ false) os × HaveOneMarkEach os
 
 -- these are the marks of what each transaction below m did, and who isn't listed did nothing
 pub record AreMarks (top : ℕ) (ops : List Bounded) (own : ℕ → List ℕ) (m : ℕ) (marks : List OpenMark) : Type 0 where
   pub exact : AllByRecursion (λ o. o.mark ≡ mark_of top ops (own o.by)) marks
   pub inside : AllByRecursion (λ o. o.by < m) marks
   pub some : AllByRecursion (λ o. own o.by ≡ [] → ⊥) marks
-  pub once : AreOnce marks
+  pub once : HaveOneMarkEach marks
   pub all : (u : ℕ) → list_any (λ o. o.by == u) marks ≡ false → own u ≡ []
 
 -- how far all fall, and rise, together

@@ -2,7 +2,7 @@
 use Rattle.std.specs.Prelude.{◌≡◌, ℕ, ◌+◌, ◌-◌, ◌<◌, ◌≤◌, ◌==◌, Bool, true, false, Option, Some, None}
 use Rattle.type_table.specs.Table.{Table, next}
 use Rattle.escrow_laws.specs.declared.bounded.Bounded.{Bounded}
-use Rattle.escrow_laws.specs.Bounds.{moved, IsWithin, bounded_at}
+use Rattle.escrow_laws.specs.Bounds.{moved, IsWithinBounds, bounded_at}
 use Rattle.escrow_laws.specs.Faults.{IsNumericFault}
 
 -- k is illegal from `start` on
@@ -10,7 +10,7 @@ abbrev pub IsIllegalFrom : Table → ℕ → ℕ → Type 0
 IsIllegalFrom T k start = (r : ℕ) → start ≤ r → next T r k ≡ None
 
 -- from `start` on, s is the first state in which k is legal, and k leads from there to t
-pub record IsFirstLegal (T : Table) (k start s t : ℕ) : Type 0 where
+pub record IsFirstLegalState (T : Table) (k start s t : ℕ) : Type 0 where
   pub later : start ≤ s
   pub leads : next T s k ≡ Some t
   pub least : (r : ℕ) → start ≤ r → r < s → next T r k ≡ None
@@ -44,4 +44,4 @@ bounded_until s t stop = record { low = s; high = stop - 1; gives = t - s; takes
 pub record IsBounded (T : Table) (k : ℕ) (b : Bounded) : Type 0 where
   pub is : b ≡ bounded_at T k
   pub steps : (s : ℕ) → next T s k ≡ moved b s
-  pub within : IsWithin (T.states - 1) b
+  pub within : IsWithinBounds (T.states - 1) b

@@ -4,7 +4,7 @@ ghost use Rattle.std.specs.Prelude.{◌≡◌, ◌<◌, ◌-◌, length, IfOk, I
 ghost use Rattle.type_table.specs.Table.{next};
 ghost use Rattle.escrow_laws.specs.Bounds.{AreBounds, bounds_of};
 ghost use Rattle.escrow_laws.specs.Faults.{IsFaultless, IsFirstNumericFault};
-ghost use Rattle.escrow_laws.specs.Search.{IsIllegalFrom, IsFirstLegal, IsStretch, IsFirstOfOperation, IsFaultlessAt, IsBounded, is_alike, bounded_until};
+ghost use Rattle.escrow_laws.specs.Search.{IsIllegalFrom, IsFirstLegalState, IsStretch, IsFirstOfOperation, IsFaultlessAt, IsBounded, is_alike, bounded_until};
 
 use crate::bounded::Bounded;
 use crate::numeric_fault::NumericFault;
@@ -120,7 +120,7 @@ fn first_step(table: &TypeTable, k: u8, start: u16) -> Option<Step>
     requires { k < length table.now.ops }
     ensures { MatchOption result
         (IsIllegalFrom table.now k start)
-        (λ step. IsFirstLegal table.now k start step.from step.to) }
+        (λ step. IsFirstLegalState table.now k start step.from step.to) }
 {
     steps_within();
     for from in start..table.states() {

@@ -1,7 +1,7 @@
 //! What is kept of an open transaction's operations at a number, and what is asked of it at a call.
 
 ghost use Rattle.std.specs.Prelude.{◌≡◌, ◌<◌, ◌^◌};
-ghost use Rattle.escrow_laws.specs.Marks.{unmarked, marked, is_legal_from, is_low, is_high, mark_keeps};
+ghost use Rattle.escrow_laws.specs.Marks.{unmarked, mark_after, is_legal_from, is_low, is_high, mark_keeps};
 
 use crate::bounded::Bounded;
 
@@ -46,7 +46,7 @@ impl Mark {
     pub fn marked(self, op: Bounded) -> Mark
         requires fall { self.fall < 2 ^ 63 }
         requires above { self.above < 2 ^ 63 }
-        ensures { result ≡ marked self op }
+        ensures { result ≡ mark_after self op }
     {
         let given = self.above + u64::from(op.gives);
         let fall = self.fall + u64::from(op.takes).saturating_sub(given);

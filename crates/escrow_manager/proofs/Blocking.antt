@@ -8,7 +8,7 @@ use Rattle.std.proofs.lemmas.List.Elements.{recursion_from_All}
 use Rattle.type_table.proofs.Elements.{differ_turned, each-weaker, find_none, find_same}
 use Rattle.escrow_laws.specs.Bounds.{amounts_of}
 use Rattle.escrow_laws.specs.Firm.{with_op, IsIdleFrom, IsFirm, keeps}
-use Rattle.escrow_laws.specs.Marks.{marked, mark_of, AreMarks, fallen_of, risen_of, mark_keeps}
+use Rattle.escrow_laws.specs.Marks.{mark_after, mark_of, AreMarks, fallen_of, risen_of, mark_keeps}
 use Rattle.escrow_laws.specs.Laws.{ExtremesTellFirm, FirmKeepsNobody, MarksTell}
 use Rattle.escrow_laws.specs.declared.bounded.Bounded.{Bounded}
 use Rattle.escrow_laws.specs.declared.mark.Mark.{Mark}
@@ -72,7 +72,7 @@ first_of log marks base totals mark top t =
 
 -- t's mark with an operation of these bounds, and the totals with it
 abbrev pub mark_with : Meaning → ℕ → Bounded → Mark
-mark_with m t b = marked (mark_at m t) b
+mark_with m t b = mark_after (mark_at m t) b
 
 abbrev pub totals_after : Meaning → Totals → ℕ → Bounded → Totals
 totals_after m totals t b = totals_with totals (mark_at m t) (mark_with m t b)

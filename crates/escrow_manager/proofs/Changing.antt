@@ -16,7 +16,7 @@ use Rattle.escrow_laws.specs.declared.bounded.Bounded.{Bounded}
 use Rattle.escrow_laws.specs.declared.mark.Mark.{Mark}
 use Rattle.escrow_laws.specs.declared.mark.OpenMark.{OpenMark}
 use Rattle.object_trait.specs.Strike.{keep_first}
-use Rattle.object_trait.specs.Meaning.{Meaning, object, ops_of, is_open_of, open_of, own_of, view_of}
+use Rattle.object_trait.specs.Meaning.{Meaning, object, log_ops, is_open_of, open_of, own_of, view_of}
 use Rattle.object_trait.specs.Sound.{IsSound}
 use Rattle.object_trait.specs.Steps.{MayApply, applied, IsCommitBy, IsCommit, IsStrikeBy, Keeps}
 use Rattle.object_trait.specs.Laws.{KeepsFirst, KeepsOthers, SoundAfterApply, SoundAfterCommit, SoundAfterStrike}
@@ -28,7 +28,7 @@ use Rattle.object_trait.proofs.Escrow.{own-more}
 use Rattle.object_trait.proofs.Intentions.{filter-without, filter-itself}
 use Rattle.escrow_manager.specs.Numeric.{bounds_in, greatest, IsInEscrow}
 use Rattle.escrow_manager.specs.Marks.{mark_in, with_mark, without_mark}
-use Rattle.escrow_manager.specs.Totals.{need_of, limit_of, totals_of, totals_with}
+use Rattle.escrow_manager.specs.Totals.{need_of, mark_limit, totals_of, totals_with}
 use Rattle.escrow_manager.specs.Kept.{AreMarksOf, IsKeptInEscrow}
 use Rattle.escrow_manager.specs.declared.totals.Totals.{Totals}
 use Rattle.escrow_manager.proofs.Marking.{marks-put, marks-dropped, marks-same}
@@ -93,8 +93,8 @@ committed-kept sound_after exact fit legal {m} {marks} {totals} h t s log seen r
       room = omega (arith, long, room);
       sound = sound_after m (committed m s rest_of) t h.covered h.sound (commits-told m h.numeric t s rest_of seen refl);
       listed =
-          marks-dropped (greatest m.checked) (bounds_in m.checked) (own_of m.log) (own_of rest_of) marks t h.listed (ap ops_of (filter-itself (is_open_of t) m.log))
-          (λ u other. ap ops_of (filter-without (is_open_of t) (is_open_of u) (open-apart t u (differ_turned u t other)) m.log));
+          marks-dropped (greatest m.checked) (bounds_in m.checked) (own_of m.log) (own_of rest_of) marks t h.listed (ap log_ops (filter-itself (is_open_of t) m.log))
+          (λ u other. ap log_ops (filter-without (is_open_of t) (is_open_of u) (open-apart t u (differ_turned u t other)) m.log));
       summed = refl;
     })
 
@@ -141,8 +141,8 @@ pub dropped-kept : SoundAfterStrike → KeepsFirst LogEntry → KeepsOthers LogE
 dropped-kept sound_after first others {m} {marks} {totals} h t n log nothing left =
     struck-kept sound_after h t n log (without_mark t marks) left
     (marks-dropped (greatest m.checked) (bounds_in m.checked) (own_of m.log) (own_of log) marks t h.listed
-    (ap ops_of (own-left first t n m.log log left) ∙ ap (λ j. ops_of (take j (open_of t m.log))) nothing)
-    (λ u other. ap ops_of (others-stay others t u n m.log log left other)))
+    (ap log_ops (own-left first t n m.log log left) ∙ ap (λ j. log_ops (take j (open_of t m.log))) nothing)
+    (λ u other. ap log_ops (others-stay others t u n m.log log left other)))
 
 -- some of t's entries are left, where at least one stays
 some-left : KeepsFirst LogEntry → (t n : ℕ) (old new : List LogEntry) → n ≤ length (open_of t old) → 0 < n → new ≡ keep_first (is_open_of t) n old → own_of new t ≡ [] → ⊥
@@ -159,7 +159,7 @@ rewound-kept sound_after first others {m} {marks} {totals} h t n log mark many s
     struck-kept sound_after h t n log (with_mark (record { by = t; mark = mark }) marks) left
     (marks-put (greatest m.checked) (bounds_in m.checked) (own_of m.log) (own_of log) marks (record { by = t; mark = mark }) h.listed made
     (λ none. some-left first t n m.log log many some left none)
-    (λ u other. ap ops_of (others-stay others t u n m.log log left other)))
+    (λ u other. ap log_ops (others-stay others t u n m.log log left other)))
 
 -- t has a mark there
 pub listed-some : {m : Meaning} {marks : List OpenMark} {totals : Totals} → IsKeptInEscrow m marks totals → (t : ℕ) → 0 < length (open_of t m.log) → list_any (λ (o : OpenMark). eqb o.by t) marks ≡ false → ⊥
@@ -177,9 +177,9 @@ kept-told {m} {marks} {totals} made h same told =
 
 -- where the extremes of the old mark follow from the new one, the totals with it are those of the marks with it
 pub told-with : {m : Meaning} {marks : List OpenMark} {totals : Totals} → IsKeptInEscrow m marks totals → (t top : ℕ) (old new : Mark) (made : List OpenMark) → top ≡ greatest m.checked → old ≡ mark_in (greatest m.checked) t marks →
-    made ≡ with_mark (record { by = t; mark = new }) marks → need_of old ≤ need_of new → limit_of new ≤ limit_of old → totals_with totals old new ≡ totals_of top made
+    made ≡ with_mark (record { by = t; mark = new }) marks → need_of old ≤ need_of new → mark_limit new ≤ mark_limit old → totals_with totals old new ≡ totals_of top made
 told-with {m} {marks} {totals} h t top old new made is_top is_old is_made more less =
     let g = greatest m.checked in
     ap (λ x. totals_with x old new) h.summed ∙ ap (λ (x : Mark). totals_with (totals_of g marks) x new) is_old
-    ∙ totals-told g (record { by = t; mark = new }) marks h.listed.ordered (subst (λ (x : Mark). need_of x ≤ need_of new) is_old more) (subst (λ (x : Mark). limit_of new ≤ limit_of x) is_old less)
+    ∙ totals-told g (record { by = t; mark = new }) marks h.listed.ordered (subst (λ (x : Mark). need_of x ≤ need_of new) is_old more) (subst (λ (x : Mark). mark_limit new ≤ mark_limit x) is_old less)
     ∙ ap (totals_of g) (sym is_made) ∙ ap (λ n. totals_of n made) (sym is_top)

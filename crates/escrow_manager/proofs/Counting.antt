@@ -10,11 +10,11 @@ use Rattle.object_trait.specs.Meaning.{open_of, own_of}
 use Rattle.object_trait.specs.Steps.{open_transactions}
 use Rattle.object_trait.specs.declared.log_entry.LogEntry.{LogEntry}
 use Rattle.object_trait.proofs.Rows.{ordered-differ}
-use Rattle.escrow_manager.specs.Marks.{owners}
+use Rattle.escrow_manager.specs.Marks.{mark_owners}
 use Rattle.escrow_manager.specs.Kept.{AreMarksOf}
 
 -- whose marks they are
-owner-any : (u : ℕ) (marks : List OpenMark) → list_any (λ t. eqb t u) (owners marks) ≡ list_any (λ (o : OpenMark). eqb o.by u) marks
+owner-any : (u : ℕ) (marks : List OpenMark) → list_any (λ t. eqb t u) (mark_owners marks) ≡ list_any (λ (o : OpenMark). eqb o.by u) marks
 owner-any u [] = refl
 owner-any u (o ∷ marks) = elim (cases_Bool (eqb o.by u)) [
   | inl is ↦ rw is refl
@@ -35,7 +35,7 @@ some-long [] some = absurd (some refl)
 some-long (k ∷ ks) some = omega arith
 
 -- who did something has a mark, and nobody else
-owner-did : (top : ℕ) (ops : List Bounded) (log : List LogEntry) (marks : List OpenMark) → AreMarksOf top ops (own_of log) marks → (u : ℕ) → list_any (λ t. eqb t u) (owners marks) ≡ ltb 0 (length (open_of u log))
+owner-did : (top : ℕ) (ops : List Bounded) (log : List LogEntry) (marks : List OpenMark) → AreMarksOf top ops (own_of log) marks → (u : ℕ) → list_any (λ t. eqb t u) (mark_owners marks) ≡ ltb 0 (length (open_of u log))
 owner-did top ops log marks h u =
     owner-any u marks
     ∙ elim (cases_Bool (list_any (λ (o : OpenMark). eqb o.by u) marks)) [
@@ -54,4 +54,4 @@ owner-did top ops log marks h u =
 pub count-marks : OpensAreCounted → (top : ℕ) (ops : List Bounded) (log : List LogEntry) (marks : List OpenMark) → AreMarksOf top ops (own_of log) marks →
     (length marks ≡ length (open_transactions log)) × (length marks ≤ length log)
 count-marks count top ops log marks h =
-    rw (length-map marks (λ (o : OpenMark). o.by)) at (count log (owners marks) (ordered-differ (owners marks) h.ordered) (owner-did top ops log marks h))
+    rw (length-map marks (λ (o : OpenMark). o.by)) at (count log (mark_owners marks) (ordered-differ (mark_owners marks) h.ordered) (owner-did top ops log marks h))

@@ -13,7 +13,7 @@ use Rattle.escrow_laws.specs.declared.bounded.Bounded.{Bounded}
 use Rattle.escrow_laws.specs.declared.mark.Mark.{Mark}
 use Rattle.escrow_laws.specs.declared.mark.OpenMark.{OpenMark}
 use Rattle.table_checker.specs.Checked.{Checked, IsChecked, IsCheckedBy}
-use Rattle.object_trait.specs.Meaning.{Meaning, object, ops_of, open_of, own_of, run_log, view_by, view_of, AreOpen}
+use Rattle.object_trait.specs.Meaning.{Meaning, object, log_ops, open_of, own_of, run_log, view_by, view_of, AreOpen}
 use Rattle.object_trait.specs.Sound.{IsSound, IsSoundBy, IsSoundEscrow}
 use Rattle.object_trait.specs.Steps.{above, IsLegalFor}
 use Rattle.object_trait.specs.Laws.{CheckedIsCovered, FreshIsSound}
@@ -21,7 +21,7 @@ use Rattle.object_trait.specs.declared.log_entry.LogEntry.{LogEntry}
 use Rattle.object_trait.proofs.Escrow.{above-none}
 use Rattle.escrow_manager.specs.Numeric.{bounds_in, greatest, IsInEscrow}
 use Rattle.escrow_manager.specs.Marks.{IsSmall}
-use Rattle.escrow_manager.specs.Totals.{totals_of, IsShort}
+use Rattle.escrow_manager.specs.Totals.{totals_of, HasShortSums}
 use Rattle.escrow_manager.specs.Kept.{IsKeptInEscrow}
 use Rattle.escrow_manager.specs.declared.totals.Totals.{Totals}
 use Rattle.escrow_manager.specs.declared.manager.EscrowManager.TheInside.{Inside}
@@ -42,7 +42,7 @@ number_at m t = m.base + (mark_at m t).above - (mark_at m t).fall
 
 -- above t and each transaction of a log nobody did anything
 pub idle-above : (t : ℕ) (log : List LogEntry) → IsIdleFrom (above t log) (own_of log)
-idle-above t log u far = ap ops_of (above-none t u log far)
+idle-above t log u far = ap log_ops (above-none t u log far)
 
 -- ---- escrow
 
@@ -109,10 +109,10 @@ module _ {m : Meaning} {marks : List OpenMark} {totals : Totals} (h : IsKeptInEs
       sums-small tell m.checked.file.table (greatest m.checked) m.base (above 0 m.log) (bounds_in m.checked) (own_of m.log) marks h.numeric.bounds inside-of h.listed (idle-above 0 m.log) firm-of
 
   -- each mark is short
-  pub short-of : MarksFit → FirmIsLegal → All (λ (o : OpenMark). IsShort o.mark) marks
+  pub short-of : MarksFit → FirmIsLegal → All (λ (o : OpenMark). HasShortSums o.mark) marks
   short-of fit legal =
-      All-from_recursion (λ (o : OpenMark). IsShort o.mark) marks
-      (each-weaker (λ (o : OpenMark) is. subst IsShort (sym is) (fits-short (greatest m.checked) m.base (mark_at m o.by) top-small inside-of (fits-of fit legal o.by))) marks
+      All-from_recursion (λ (o : OpenMark). HasShortSums o.mark) marks
+      (each-weaker (λ (o : OpenMark) is. subst HasShortSums (sym is) (fits-short (greatest m.checked) m.base (mark_at m o.by) top-small inside-of (fits-of fit legal o.by))) marks
       (marks-all (greatest m.checked) (bounds_in m.checked) (own_of m.log) (above 0 m.log) marks h.listed (idle-above 0 m.log)).exact)
 
 -- ---- an operation

@@ -8,14 +8,14 @@ use Rattle.escrow_laws.specs.Marks.{FitsIn}
 use Rattle.escrow_laws.specs.Laws.{MarksAreExact, MarksFit, MarksTell, ExtremesTellFirm, FirmIsLegal}
 use Rattle.escrow_laws.specs.declared.mark.Mark.{Mark}
 use Rattle.escrow_laws.specs.declared.mark.OpenMark.{OpenMark}
-use Rattle.number_text.specs.declared.number_call.NumberCall.TheVariants as calls
-use Rattle.number_text.specs.declared.number_op.NumberOp.{NumberOp}
-use Rattle.number_text.specs.declared.number_op.NumberOp.TheVariants as ops
-use Rattle.number_text.specs.NumberFile.{Number, IsNumber}
-use Rattle.number_text.specs.Operations.{op_bounds, op_done, NumberHasTable, NumberTellsBounds}
-use Rattle.table_checker.specs.Declarations.{number_file}
+use Rattle.number_types.specs.declared.number_call.NumberCall.TheVariants as calls
+use Rattle.number_types.specs.declared.number_op.NumberOp.{NumberOp}
+use Rattle.number_types.specs.declared.number_op.NumberOp.TheVariants as ops
+use Rattle.number_types.specs.Number.{Number, IsNumber}
+use Rattle.number_types.specs.Operations.{op_bounds, op_done, NumberHasTable, NumberTellsBounds}
+use Rattle.declared_types.specs.Declarations.{number_file}
 use Rattle.object_trait.specs.Meaning.{Meaning, view_of}
-use Rattle.object_trait.specs.Steps.{IsLegalFor, stopper, IsKeptAt, TellsKept}
+use Rattle.object_trait.specs.Steps.{IsLegalFor, stopper, IsKeptByAmount, TellsKept}
 use Rattle.object_trait.proofs.Amounts.{told-some, told-none}
 use Rattle.escrow_manager.specs.Kept.{IsKeptInEscrow}
 use Rattle.escrow_manager.specs.KeptAmount.{IsKeptFrom, any_call, moving, refusing, lists, HasAmount, IsLeastAmount, IsFreeFrom, first_kept, first_beyond, first_refused}
@@ -160,12 +160,12 @@ module _ {m : Meaning} {marks : List OpenMark} {totals : Totals} (h : IsKeptInEs
         (λ c less from. refusing-legal v.max s way c n less from between.0 between.1) has alike is
 
     pub never-kept : IsFreeFrom v way m t place u (first_kept way m.base totals (mark_at m t) (mark_at m u)) → IsFreeFrom v way m t place u (first_beyond way v.max m.base totals (mark_at m t)) →
-        IsFreeFrom v way m t (place + 1) u (first_refused way v.max (number_at m t)) → (n : ℕ) → IsKeptAt m t place u n → ⊥
+        IsFreeFrom v way m t (place + 1) u (first_refused way v.max (number_at m t)) → (n : ℕ) → IsKeptByAmount m t place u n → ⊥
     never-kept kept beyond refused n (k, inl same, here, is) = free-moving kept beyond n (subst (λ j. IsKeptFrom m t j u) same (here, is))
     never-kept kept beyond refused n (k, inr same, here, is) = free-refusing refused n (subst (λ j. IsKeptFrom m t j u) same (here, is))
 
 -- what is told where the last place is free, or an amount is found there
-pub by-last : (m : Meaning) (v : Number) (way : Way) (t place u start : ℕ) → (IsFreeFrom v way m t (place + 1) u start → (n : ℕ) → IsKeptAt m t place u n → ⊥) → (found : Option ℕ) →
+pub by-last : (m : Meaning) (v : Number) (way : Way) (t place u start : ℕ) → (IsFreeFrom v way m t (place + 1) u start → (n : ℕ) → IsKeptByAmount m t place u n → ⊥) → (found : Option ℕ) →
     MatchOption found (IsFreeFrom v way m t (place + 1) u start) (λ n. IsKeptFrom m t (operation_at (place + 1) (Some n)) u) → TellsKept m t place u found
 by-last m v way t place u start never None free = told-none m t place u (never free)
 by-last m v way t place u start never (Some n) is = told-some m t place u n (operation_at (place + 1) (Some n), inr refl, is.0, is.1)
@@ -185,7 +185,7 @@ number-inside {m} h exact fit legal v known file tells t s is =
 
 -- of the operations of a read of the value one is legal
 pub value-alone : {m : Meaning} {marks : List OpenMark} {totals : Totals} → IsKeptInEscrow m marks totals → NumberHasTable → (v : Number) → IsNumber v → m.checked.file ≡ number_file v → NumberTellsBounds → (t u place s : ℕ) →
-    place < 256 → place % 2 ≡ 0 → slice_get v.calls (place / 2) ≡ Some calls.Value → view_of m t ≡ Some s → (IsKeptFrom m t (operation_at place (Some s)) u → ⊥) → (n : ℕ) → IsKeptAt m t place u n → ⊥
+    place < 256 → place % 2 ≡ 0 → slice_get v.calls (place / 2) ≡ Some calls.Value → view_of m t ≡ Some s → (IsKeptFrom m t (operation_at place (Some s)) u → ⊥) → (n : ℕ) → IsKeptByAmount m t place u n → ⊥
 value-alone {m} h tables v known file tells t u place s low even at is free n (k, inl same, here, stops) =
     let found = legal-op h v known file tells t (operation_at place (Some n)) s is (subst (IsLegalFor m t) same here) in
     let done = found.done in

@@ -2,11 +2,11 @@
 use Rattle.std.proofs.Common.{◌≡◌, ℕ, ◌+◌, ◌-◌, ◌<◌, ◌≤◌, Bool, true, false, ltb, ◌||◌, refl, inl, inr, arith}
 use Rattle.std.specs.Prelude.{nat_le, nat_lt}
 use Rattle.std.proofs.lemmas.Bool.{cases_lt, and_from, and_left, and_right, le-leb, lt-leb, lt-ltb, le-ltb}
-use Rattle.escrow_laws.specs.Marks.{marked, FitsIn, is_legal_from, is_low, is_high, mark_keeps}
+use Rattle.escrow_laws.specs.Marks.{mark_after, FitsIn, is_legal_from, is_low, is_high, mark_keeps}
 use Rattle.escrow_laws.specs.declared.bounded.Bounded.{Bounded}
 use Rattle.escrow_laws.specs.declared.mark.Mark.{Mark}
-use Rattle.number_text.specs.Operations.{taking, giving, reading}
-use Rattle.escrow_manager.specs.Totals.{need_of, limit_of}
+use Rattle.number_types.specs.Operations.{taking, giving, reading}
+use Rattle.escrow_manager.specs.Totals.{need_of, mark_limit}
 
 -- ---- what is legal from a number
 
@@ -54,19 +54,19 @@ module _ (base fallen risen : ℕ) (t u : Mark) where
 -- what is known of a mark where all is firm, and all together fall and rise so far
 pub record IsFirmAt (base fallen risen : ℕ) (x : Mark) : Type 0 where
   pub needed : fallen + need_of x ≤ base
-  pub limit : base + risen < limit_of x
+  pub limit : base + risen < mark_limit x
   pub fall : x.fall ≤ fallen
   pub rise : x.rise ≤ risen
 
 -- who has the mark u keeps who has the mark t from an operation of these bounds
 abbrev pub keeps_from : ℕ → ℕ → ℕ → Mark → Bounded → Mark → Bool
-keeps_from base fallen risen t b u = mark_keeps base ((fallen - t.fall) + (marked t b).fall) ((risen - t.rise) + (marked t b).rise) (marked t b) u
+keeps_from base fallen risen t b u = mark_keeps base ((fallen - t.fall) + (mark_after t b).fall) ((risen - t.rise) + (mark_after t b).rise) (mark_after t b) u
 
 module _ (base top fallen risen : ℕ) (t u : Mark) (fits : FitsIn top base t) (firm : IsFirmAt base fallen risen t) (other : IsFirmAt base fallen risen u) (room : base + risen ≤ top) where
   -- from a take, up to where t's operations are no longer legal where all have fallen: who falls too far for himself
   pub takes-within : (n : ℕ) → n + fallen ≤ base + t.above → keeps_from base fallen risen t (taking n top n) u ≡ ltb (base + t.above + u.fall) (n + fallen + u.floor)
   takes-within n few =
-      let x : Mark = marked t (taking n top n) in
+      let x : Mark = mark_after t (taking n top n) in
       by-low base ((fallen - t.fall) + x.fall) ((risen - t.rise) + x.rise) x u (base + t.above + u.fall) (n + fallen + u.floor)
       (legal-is x (base - (((fallen - t.fall) + x.fall) - x.fall)) (omega arith) (omega arith))
       (legal-is x (base + (((risen - t.rise) + x.rise) - x.rise)) (omega arith) (omega arith))
@@ -77,7 +77,7 @@ module _ (base top fallen risen : ℕ) (t u : Mark) (fits : FitsIn top base t) (
   -- beyond that: who falls
   pub takes-beyond : (n : ℕ) → base + t.above < n + fallen → n + t.fall ≤ base + t.above → keeps_from base fallen risen t (taking n top n) u ≡ ltb 0 u.fall
   takes-beyond n many legal =
-      let x : Mark = marked t (taking n top n) in
+      let x : Mark = mark_after t (taking n top n) in
       by-falling base ((fallen - t.fall) + x.fall) ((risen - t.rise) + x.rise) x u
       (legal-under x (base - (((fallen - t.fall) + x.fall) - x.fall)) (omega arith))
       (legal-is x (base + (((risen - t.rise) + x.rise) - x.rise)) (omega arith) (omega arith))
@@ -85,7 +85,7 @@ module _ (base top fallen risen : ℕ) (t u : Mark) (fits : FitsIn top base t) (
   -- from the reply that there is less than n
   pub short-within : (n : ℕ) → base + t.above < n + t.fall → base + (risen - t.rise) + t.above < n + t.fall → keeps_from base fallen risen t (reading 0 (n - 1)) u ≡ false
   short-within n refused far =
-      let x : Mark = marked t (reading 0 (n - 1)) in
+      let x : Mark = mark_after t (reading 0 (n - 1)) in
       by-nobody base ((fallen - t.fall) + x.fall) ((risen - t.rise) + x.rise) x u
       (legal-is x (base - (((fallen - t.fall) + x.fall) - x.fall)) (omega arith) (omega arith))
       (legal-is x (base + (((risen - t.rise) + x.rise) - x.rise)) (omega arith) (omega arith))
@@ -94,7 +94,7 @@ module _ (base top fallen risen : ℕ) (t u : Mark) (fits : FitsIn top base t) (
 
   pub short-beyond : (n : ℕ) → base + t.above < n + t.fall → n + t.fall ≤ base + (risen - t.rise) + t.above → keeps_from base fallen risen t (reading 0 (n - 1)) u ≡ ltb 0 u.rise
   short-beyond n refused near =
-      let x : Mark = marked t (reading 0 (n - 1)) in
+      let x : Mark = mark_after t (reading 0 (n - 1)) in
       by-rising base ((fallen - t.fall) + x.fall) ((risen - t.rise) + x.rise) x u
       (legal-is x (base - (((fallen - t.fall) + x.fall) - x.fall)) (omega arith) (omega arith))
       (legal-over x (base + (((risen - t.rise) + x.rise) - x.rise)) (omega arith))
@@ -103,7 +103,7 @@ module _ (base top fallen risen : ℕ) (t u : Mark) (fits : FitsIn top base t) (
   pub gives-within : (n : ℕ) → n ≤ top → n + base + (risen - t.rise) + t.above ≤ top + t.fall →
       keeps_from base fallen risen t (giving 0 (top - n) n) u ≡ ltb (u.ceiling + u.rise + t.fall) (n + base + (risen - t.rise) + t.above + 1)
   gives-within n most few =
-      let x : Mark = marked t (giving 0 (top - n) n) in
+      let x : Mark = mark_after t (giving 0 (top - n) n) in
       by-high base ((fallen - t.fall) + x.fall) ((risen - t.rise) + x.rise) x u (u.ceiling + u.rise + t.fall) (n + base + (risen - t.rise) + t.above + 1)
       (legal-is x (base - (((fallen - t.fall) + x.fall) - x.fall)) (omega arith) (omega arith))
       (legal-is x (base + (((risen - t.rise) + x.rise) - x.rise)) (omega arith) (omega arith))
@@ -114,7 +114,7 @@ module _ (base top fallen risen : ℕ) (t u : Mark) (fits : FitsIn top base t) (
   -- beyond that: who rises
   pub gives-beyond : (n : ℕ) → n ≤ top → top + t.fall < n + base + (risen - t.rise) + t.above → n + base + t.above ≤ top + t.fall → keeps_from base fallen risen t (giving 0 (top - n) n) u ≡ ltb 0 u.rise
   gives-beyond n most many legal =
-      let x : Mark = marked t (giving 0 (top - n) n) in
+      let x : Mark = mark_after t (giving 0 (top - n) n) in
       by-rising base ((fallen - t.fall) + x.fall) ((risen - t.rise) + x.rise) x u
       (legal-is x (base - (((fallen - t.fall) + x.fall) - x.fall)) (omega arith) (omega arith))
       (legal-over x (base + (((risen - t.rise) + x.rise) - x.rise)) (omega arith))
@@ -122,7 +122,7 @@ module _ (base top fallen risen : ℕ) (t u : Mark) (fits : FitsIn top base t) (
   -- from the reply that there is no room for n
   pub full-within : (n : ℕ) → n ≤ top → top + t.fall < n + base + t.above → top + t.fall < (base - (fallen - t.fall)) + n + t.above → keeps_from base fallen risen t (reading (top - n + 1) top) u ≡ false
   full-within n most refused far =
-      let x : Mark = marked t (reading (top - n + 1) top) in
+      let x : Mark = mark_after t (reading (top - n + 1) top) in
       by-nobody base ((fallen - t.fall) + x.fall) ((risen - t.rise) + x.rise) x u
       (legal-is x (base - (((fallen - t.fall) + x.fall) - x.fall)) (omega arith) (omega arith))
       (legal-is x (base + (((risen - t.rise) + x.rise) - x.rise)) (omega arith) (omega arith))
@@ -131,7 +131,7 @@ module _ (base top fallen risen : ℕ) (t u : Mark) (fits : FitsIn top base t) (
 
   pub full-beyond : (n : ℕ) → n ≤ top → top + t.fall < n + base + t.above → (base - (fallen - t.fall)) + n + t.above ≤ top + t.fall → keeps_from base fallen risen t (reading (top - n + 1) top) u ≡ ltb 0 u.fall
   full-beyond n most refused near =
-      let x : Mark = marked t (reading (top - n + 1) top) in
+      let x : Mark = mark_after t (reading (top - n + 1) top) in
       by-falling base ((fallen - t.fall) + x.fall) ((risen - t.rise) + x.rise) x u
       (legal-under x (base - (((fallen - t.fall) + x.fall) - x.fall)) (omega arith))
       (legal-is x (base + (((risen - t.rise) + x.rise) - x.rise)) (omega arith) (omega arith))

@@ -13,17 +13,17 @@ use Rattle.escrow_laws.specs.declared.bounded.Bounded.{Bounded}
 use Rattle.escrow_laws.specs.declared.mark.OpenMark.{OpenMark}
 use Rattle.escrow_laws.proofs.Numbers.{within}
 use Rattle.escrow_laws.proofs.Runs.{legal-step}
-use Rattle.number_text.specs.declared.number_call.NumberCall.{NumberCall}
-use Rattle.number_text.specs.declared.number_call.NumberCall.TheVariants as calls
-use Rattle.number_text.specs.declared.number_op.NumberOp.{NumberOp}
-use Rattle.number_text.specs.declared.number_op.NumberOp.TheVariants as ops
-use Rattle.number_text.specs.NumberLines.{is_amount}
-use Rattle.number_text.specs.NumberFile.{Number, IsNumber}
-use Rattle.number_text.specs.Operations.{where_so, is_elsewhere, op_in, op_at, op_bounds, op_done, op_count, names_or_none, bounds_or_none, number_bounds, number_table, NumberHasTable, NumberTellsBounds}
-use Rattle.number_text.proofs.Tables.{found_by, bounds_at_number, next_of_none}
-use Rattle.table_checker.specs.Declarations.{number_file}
+use Rattle.number_types.specs.declared.number_call.NumberCall.{NumberCall}
+use Rattle.number_types.specs.declared.number_call.NumberCall.TheVariants as calls
+use Rattle.number_types.specs.declared.number_op.NumberOp.{NumberOp}
+use Rattle.number_types.specs.declared.number_op.NumberOp.TheVariants as ops
+use Rattle.number_types.specs.Calls.{is_amount}
+use Rattle.number_types.specs.Number.{Number, IsNumber}
+use Rattle.number_types.specs.Operations.{where_so, is_elsewhere, op_in, op_at, op_bounds, op_done, op_count, names_or_none, bounds_or_none, number_bounds, number_table, NumberHasTable, NumberTellsBounds}
+use Rattle.number_types.proofs.Tables.{found_by, bounds_at_number, next_of_none}
+use Rattle.declared_types.specs.Declarations.{number_file}
 use Rattle.object_trait.specs.Meaning.{Meaning, view_of}
-use Rattle.object_trait.specs.Steps.{IsLegalFor, IsKeptAt}
+use Rattle.object_trait.specs.Steps.{IsLegalFor, IsKeptByAmount}
 use Rattle.escrow_manager.specs.Numeric.{bounds_in, greatest}
 use Rattle.escrow_manager.specs.Kept.{IsKeptInEscrow}
 use Rattle.escrow_manager.specs.KeptAmount.{any_call, moving, refusing, lists, HasAmount}
@@ -131,7 +131,7 @@ none-legal tables v known m file t k none legal = by (view_of m t) legal
 
 -- so nobody is kept from any amount at such a line
 pub none-kept : NumberHasTable → (v : Number) → IsNumber v → (m : Meaning) → m.checked.file ≡ number_file v → (t place u : ℕ) → place < 256 → place % 2 ≡ 0 →
-    ((p n : ℕ) → p < 256 → slice_get v.calls (p / 2) ≡ slice_get v.calls (place / 2) → op_done v (operation_at p (Some n)) ≡ None) → (n : ℕ) → IsKeptAt m t place u n → ⊥
+    ((p n : ℕ) → p < 256 → slice_get v.calls (p / 2) ≡ slice_get v.calls (place / 2) → op_done v (operation_at p (Some n)) ≡ None) → (n : ℕ) → IsKeptByAmount m t place u n → ⊥
 none-kept tables v known m file t place u low even none n (k, inl same, here, stops) = none-legal tables v known m file t (operation_at place (Some n)) (none place n low refl) (subst (IsLegalFor m t) same here)
 none-kept tables v known m file t place u low even none n (k, inr same, here, stops) =
     let next = next-place place even in

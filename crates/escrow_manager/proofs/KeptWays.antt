@@ -4,8 +4,8 @@ use Rattle.std.proofs.lemmas.Bool.{cases_lt, false≢true, ltb-true, lt-ltb}
 use Rattle.escrow_laws.specs.Marks.{FitsIn}
 use Rattle.escrow_laws.specs.declared.bounded.Bounded.{Bounded}
 use Rattle.escrow_laws.specs.declared.mark.Mark.{Mark}
-use Rattle.number_text.specs.declared.number_op.NumberOp.{NumberOp}
-use Rattle.number_text.specs.Operations.{op_bounds, taking, giving, reading}
+use Rattle.number_types.specs.declared.number_op.NumberOp.{NumberOp}
+use Rattle.number_types.specs.Operations.{op_bounds, taking, giving, reading}
 use Rattle.escrow_manager.specs.KeptAmount.{moving, refusing, first_kept, first_beyond, first_refused}
 use Rattle.escrow_manager.specs.declared.totals.Totals.{Totals}
 use Rattle.escrow_manager.specs.declared.way.Way.{Way}

@@ -5,11 +5,11 @@ use Rattle.std.specs.List.{list_any, AllByRecursion}
 use Rattle.std.proofs.lemmas.Bool.{cases_Bool, cases_lt, false≢true, eqb-true, eq-eqb, ne_eqb}
 use Rattle.type_table.proofs.Elements.{differ_turned, each-weaker}
 use Rattle.escrow_laws.specs.Firm.{IsIdleFrom}
-use Rattle.escrow_laws.specs.Marks.{unmarked, marked, marked_by, marked_on, mark_of, AreOnce, AreMarks}
+use Rattle.escrow_laws.specs.Marks.{unmarked, mark_after, marked_by, marked_on, mark_of, HaveOneMarkEach, AreMarks}
 use Rattle.escrow_laws.specs.declared.bounded.Bounded.{Bounded}
 use Rattle.escrow_laws.specs.declared.mark.Mark.{Mark}
 use Rattle.escrow_laws.specs.declared.mark.OpenMark.{OpenMark}
-use Rattle.escrow_manager.specs.Marks.{owner, owners, AreOrdered, mark_in, with_mark, without_mark}
+use Rattle.escrow_manager.specs.Marks.{mark_owner, mark_owners, MarksAscend, mark_in, with_mark, without_mark}
 use Rattle.escrow_manager.specs.Kept.{AreMarksOf}
 use Rattle.object_trait.proofs.Rows.{ordered-put, ordered-dropped}
 use Rattle.escrow_manager.proofs.Seeing.{seen-put, seen-put_other, seen-dropped, seen-dropped_other}
@@ -17,12 +17,12 @@ use Rattle.escrow_manager.proofs.Seeing.{seen-put, seen-put_other, seen-dropped,
 -- ---- marks in their order
 
 -- each differs from a smaller one
-differ-later : (x : ℕ) (marks : List OpenMark) → AllByRecursion (λ y. x < y) (owners marks) → AllByRecursion (λ (q : OpenMark). eqb q.by x ≡ false) marks
+differ-later : (x : ℕ) (marks : List OpenMark) → AllByRecursion (λ y. x < y) (mark_owners marks) → AllByRecursion (λ (q : OpenMark). eqb q.by x ≡ false) marks
 differ-later x [] later = tt
 differ-later x (o ∷ marks) later = ((let below = later.0 in ne_eqb o.by x (λ e. omega (arith, below, e))), differ-later x marks later.1)
 
 -- so no two are of one transaction
-ordered-once : (marks : List OpenMark) → AreOrdered marks → AreOnce marks
+ordered-once : (marks : List OpenMark) → MarksAscend marks → HaveOneMarkEach marks
 ordered-once [] ordered = tt
 ordered-once (o ∷ marks) ordered = (differ-later o.by marks ordered.0, ordered-once marks ordered.1)
 
@@ -34,7 +34,7 @@ found-later top o marks differ found [] differs founds = tt
 found-later top o marks differ found (q ∷ qs) differs founds =
     (rw (differ_turned o.by q.by differs.0) founds.0, found-later top o marks differ found qs differs.1 founds.1)
 
-pub each-found : (top : ℕ) (marks : List OpenMark) → AreOrdered marks → AllByRecursion (λ (q : OpenMark). mark_in top q.by marks ≡ q.mark) marks
+pub each-found : (top : ℕ) (marks : List OpenMark) → MarksAscend marks → AllByRecursion (λ (q : OpenMark). mark_in top q.by marks ≡ q.mark) marks
 each-found top [] ordered = tt
 each-found top (o ∷ marks) ordered =
     let differ = differ-later o.by marks ordered.0 in
@@ -55,10 +55,10 @@ in-any top (o ∷ marks) u some =
 
 -- ---- what a transaction did, and one more
 
-pub mark-more : (top : ℕ) (ops : List Bounded) (ks : List ℕ) (k : ℕ) (b : Bounded) → slice_get ops k ≡ Some b → mark_of top ops (ks ++ k ∷ []) ≡ marked (mark_of top ops ks) b
+pub mark-more : (top : ℕ) (ops : List Bounded) (ks : List ℕ) (k : ℕ) (b : Bounded) → slice_get ops k ≡ Some b → mark_of top ops (ks ++ k ∷ []) ≡ mark_after (mark_of top ops ks) b
 mark-more top ops ks k b found = marked-more (unmarked top) ks
   where
-    marked-more : (m : Mark) (ks : List ℕ) → marked_on ops m (ks ++ k ∷ []) ≡ marked (marked_on ops m ks) b
+    marked-more : (m : Mark) (ks : List ℕ) → marked_on ops m (ks ++ k ∷ []) ≡ mark_after (marked_on ops m ks) b
     marked-more m [] = rw found refl
     marked-more m (j ∷ ks) = marked-more (marked_by m (slice_get ops j)) ks
 
@@ -140,7 +140,7 @@ marks-put top ops old new marks w h mark did same = record {
         | inr isnt ↦ same u isnt ∙ h.all u (any-put w marks u isnt none)
       ];
   some = each-did marks h.some;
-  ordered = ordered-put owner w marks h.ordered;
+  ordered = ordered-put mark_owner w marks h.ordered;
 }
   where
     did-same : (o : OpenMark) → (old o.by ≡ [] → ⊥) → new o.by ≡ [] → ⊥
@@ -197,7 +197,7 @@ marks-dropped top ops old new marks t h none same = record {
         | inr isnt ↦ same u isnt ∙ h.all u (any-dropped t marks u isnt unlisted)
       ];
   some = each-did marks h.some;
-  ordered = ordered-dropped owner (λ (o : OpenMark). not (eqb o.by t)) marks h.ordered;
+  ordered = ordered-dropped mark_owner (λ (o : OpenMark). not (eqb o.by t)) marks h.ordered;
 }
   where
     each-did : (qs : List OpenMark) → AllByRecursion (λ (o : OpenMark). old o.by ≡ [] → ⊥) qs → AllByRecursion (λ (o : OpenMark). new o.by ≡ [] → ⊥) (without_mark t qs)

@@ -9,11 +9,11 @@ use Rattle.type_table.specs.Run.{run, IsLegal}
 use Rattle.type_table.specs.Laws.{RunsAlong}
 use Rattle.type_table.proofs.Legal.{some_state, legal-front, legal-behind}
 use Rattle.escrow_laws.specs.Bounds.{AreBounds}
-use Rattle.escrow_laws.specs.Marks.{marked, mark_of}
+use Rattle.escrow_laws.specs.Marks.{mark_after, mark_of}
 use Rattle.escrow_laws.specs.Laws.{MarksFit}
 use Rattle.escrow_laws.specs.declared.bounded.Bounded.{Bounded}
 use Rattle.escrow_laws.specs.declared.mark.Mark.{Mark}
-use Rattle.object_trait.specs.Meaning.{ops_of, is_open_of, open_of, own_of}
+use Rattle.object_trait.specs.Meaning.{log_ops, is_open_of, open_of, own_of}
 use Rattle.object_trait.specs.declared.log_entry.LogEntry.{LogEntry}
 use Rattle.object_trait.proofs.Runs.{ops-append}
 use Rattle.escrow_manager.specs.Marks.{IsSmall}
@@ -22,7 +22,7 @@ use Rattle.escrow_manager.proofs.Telling.{step-told, more-small}
 
 -- what t did along two parts of a log
 own-append : (t : ℕ) (V W : List LogEntry) → own_of (V ++ W) t ≡ own_of V t ++ own_of W t
-own-append t V W = ap ops_of (filter-append (is_open_of t) V W) ∙ ops-append (open_of t V) (open_of t W)
+own-append t V W = ap log_ops (filter-append (is_open_of t) V W) ∙ ops-append (open_of t V) (open_of t W)
 
 -- and along one more entry
 own-mine : (t : ℕ) (e : LogEntry) → is_open_of t e ≡ true → own_of (e ∷ []) t ≡ e.op ∷ []
@@ -33,17 +33,17 @@ own-theirs t e theirs = rw theirs refl
 
 -- the mark, with one more entry
 pub mark-next : (top : ℕ) (ops : List Bounded) (log : List LogEntry) (t i : ℕ) (e : LogEntry) (b : Bounded) (mark : Mark) (mine : Bool) → i < length log → e ≡ get_or log i e → slice_get ops e.op ≡ Some b →
-    mine ≡ is_open_of t e → mark ≡ mark_of top ops (own_of (take i log) t) → cond mine (marked mark b) mark ≡ mark_of top ops (own_of (take (i + 1) log) t)
+    mine ≡ is_open_of t e → mark ≡ mark_of top ops (own_of (take i log) t) → cond mine (mark_after mark b) mark ≡ mark_of top ops (own_of (take (i + 1) log) t)
 mark-next top ops log t i e b mark mine within read found told so_far =
     let V = take i log in
     let more : take (i + 1) log ≡ V ++ e ∷ [] = take_more log i e within ∙ ap (λ x. V ++ x ∷ []) (sym read) in
     let own : own_of (take (i + 1) log) t ≡ own_of V t ++ own_of (e ∷ []) t = ap (λ W. own_of W t) more ∙ own-append t V (e ∷ []) in
     elim (cases_Bool (is_open_of t e)) [
       | inl is ↦
-          ap (λ m. cond m (marked mark b) mark) (told ∙ is) ∙ ap (λ x. marked x b) so_far ∙ sym (mark-more top ops (own_of V t) e.op b found)
+          ap (λ m. cond m (mark_after mark b) mark) (told ∙ is) ∙ ap (λ x. mark_after x b) so_far ∙ sym (mark-more top ops (own_of V t) e.op b found)
           ∙ ap (mark_of top ops) (sym (own ∙ ap (λ W. own_of V t ++ W) (own-mine t e is)))
       | inr isnt ↦
-          ap (λ m. cond m (marked mark b) mark) (told ∙ isnt) ∙ so_far
+          ap (λ m. cond m (mark_after mark b) mark) (told ∙ isnt) ∙ so_far
           ∙ ap (mark_of top ops) (sym (own ∙ ap (λ W. own_of V t ++ W) (own-theirs t e isnt) ∙ append-nil (own_of V t)))
     ]
 

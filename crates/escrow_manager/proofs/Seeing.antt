@@ -4,31 +4,31 @@ use Rattle.object_trait.proofs.Rows.{shown_there, shown_nowhere, shown-put, show
 use Rattle.escrow_laws.specs.Marks.{unmarked}
 use Rattle.escrow_laws.specs.declared.mark.Mark.{Mark}
 use Rattle.escrow_laws.specs.declared.mark.OpenMark.{OpenMark}
-use Rattle.escrow_manager.specs.Marks.{owner, AreOrdered, place_of, IsAt, mark_in, with_mark, without_mark}
+use Rattle.escrow_manager.specs.Marks.{mark_owner, MarksAscend, mark_index, IsMarkAt, mark_in, with_mark, without_mark}
 
 abbrev its : OpenMark → Mark
 its o = o.mark
 
 -- in its place is its transaction's mark, if it has one
-pub seen_there : (t top : ℕ) (marks : List OpenMark) (d : OpenMark) → IsAt t (place_of t marks) marks → (get_or marks (place_of t marks) d).mark ≡ mark_in top t marks
-seen_there t top = shown_there owner its (unmarked top) t
+pub seen_there : (t top : ℕ) (marks : List OpenMark) (d : OpenMark) → IsMarkAt t (mark_index t marks) marks → (get_or marks (mark_index t marks) d).mark ≡ mark_in top t marks
+seen_there t top = shown_there mark_owner its (unmarked top) t
 
 -- else it has that of no operations
-pub seen_nowhere : (t top : ℕ) (marks : List OpenMark) → AreOrdered marks → (IsAt t (place_of t marks) marks → ⊥) → mark_in top t marks ≡ unmarked top
-seen_nowhere t top = shown_nowhere owner its (unmarked top) t
+pub seen_nowhere : (t top : ℕ) (marks : List OpenMark) → MarksAscend marks → (IsMarkAt t (mark_index t marks) marks → ⊥) → mark_in top t marks ≡ unmarked top
+seen_nowhere t top = shown_nowhere mark_owner its (unmarked top) t
 
 -- with a mark put: its transaction's
 pub seen-put : (w : OpenMark) (top : ℕ) (marks : List OpenMark) → mark_in top w.by (with_mark w marks) ≡ w.mark
-seen-put w top = shown-put owner its (unmarked top) w
+seen-put w top = shown-put mark_owner its (unmarked top) w
 
 -- and another's
 pub seen-put_other : (w : OpenMark) (u top : ℕ) (marks : List OpenMark) → eqb w.by u ≡ false → mark_in top u (with_mark w marks) ≡ mark_in top u marks
-seen-put_other w u top = shown-put_other owner its (unmarked top) w u
+seen-put_other w u top = shown-put_other mark_owner its (unmarked top) w u
 
 -- with a mark taken out: its transaction's
 pub seen-dropped : (t top : ℕ) (marks : List OpenMark) → mark_in top t (without_mark t marks) ≡ unmarked top
-seen-dropped t top = shown-dropped owner its (unmarked top) t
+seen-dropped t top = shown-dropped mark_owner its (unmarked top) t
 
 -- and another's
 pub seen-dropped_other : (t u top : ℕ) (marks : List OpenMark) → eqb t u ≡ false → mark_in top u (without_mark t marks) ≡ mark_in top u marks
-seen-dropped_other t u top = shown-dropped_other owner its (unmarked top) t u
+seen-dropped_other t u top = shown-dropped_other mark_owner its (unmarked top) t u

@@ -7,11 +7,11 @@ use Rattle.std.proofs.lemmas.List.Sums.{sum_by-cons}
 use Rattle.escrow_laws.specs.Marks.{unmarked, most_needed, least_limit}
 use Rattle.escrow_laws.specs.declared.mark.Mark.{Mark}
 use Rattle.escrow_laws.specs.declared.mark.OpenMark.{OpenMark}
-use Rattle.escrow_manager.specs.Marks.{owners, AreOrdered, mark_in, with_mark}
-use Rattle.escrow_manager.specs.Totals.{need_of, limit_of, totals_of, totals_with}
+use Rattle.escrow_manager.specs.Marks.{mark_owners, MarksAscend, mark_in, with_mark}
+use Rattle.escrow_manager.specs.Totals.{need_of, mark_limit, totals_of, totals_with}
 
 -- where all are of later transactions, t has none
-none-later : (t top : ℕ) (x : ℕ) (marks : List OpenMark) → t < x → AllByRecursion (λ y. x < y) (owners marks) → mark_in top t marks ≡ unmarked top
+none-later : (t top : ℕ) (x : ℕ) (marks : List OpenMark) → t < x → AllByRecursion (λ y. x < y) (mark_owners marks) → mark_in top t marks ≡ unmarked top
 none-later t top x [] below later = refl
 none-later t top x (o ∷ marks) below later =
     let next = later.0 in
@@ -33,7 +33,7 @@ module _ (top : ℕ) (amount : Mark → ℕ) (nothing : amount (unmarked top) �
       ]
 
   -- and with another in its place
-  exchanged : (w : OpenMark) (marks : List OpenMark) → AreOrdered marks →
+  exchanged : (w : OpenMark) (marks : List OpenMark) → MarksAscend marks →
       sum_by (λ (o : OpenMark). amount o.mark) (with_mark w marks) + amount (mark_in top w.by marks) ≡ sum_by (λ (o : OpenMark). amount o.mark) marks + amount w.mark
   exchanged w [] ordered = let one = sum_by-cons (λ (q : OpenMark). amount q.mark) w [] in omega (arith, one, nothing)
   exchanged w (o ∷ marks) ordered =
@@ -53,7 +53,7 @@ module _ (top : ℕ) (amount : Mark → ℕ) (nothing : amount (unmarked top) �
         ]
       ]
 
-  pub sum-put : (w : OpenMark) (marks : List OpenMark) → AreOrdered marks →
+  pub sum-put : (w : OpenMark) (marks : List OpenMark) → MarksAscend marks →
       sum_by (λ (o : OpenMark). amount o.mark) (with_mark w marks) ≡ (sum_by (λ (o : OpenMark). amount o.mark) marks - amount (mark_in top w.by marks)) + amount w.mark
   sum-put w marks ordered = let less = counted w.by marks in let both = exchanged w marks ordered in omega (arith, less, both)
 
@@ -73,7 +73,7 @@ needed-put w (o ∷ marks) =
     ]
 
 -- nor is the limit lower
-pub limit-put : (top : ℕ) (w : OpenMark) (marks : List OpenMark) → min (least_limit top marks) (limit_of w.mark) ≤ least_limit top (with_mark w marks)
+pub limit-put : (top : ℕ) (w : OpenMark) (marks : List OpenMark) → min (least_limit top marks) (mark_limit w.mark) ≤ least_limit top (with_mark w marks)
 limit-put top w [] = omega arith
 limit-put top w (o ∷ marks) =
     let rest = limit-put top w marks in
@@ -96,7 +96,7 @@ needed-counted top u (o ∷ marks) =
     ]
 
 -- nor has it a lower limit than the least
-pub limit-counted : (top u : ℕ) (marks : List OpenMark) → least_limit top marks ≤ limit_of (mark_in top u marks)
+pub limit-counted : (top u : ℕ) (marks : List OpenMark) → least_limit top marks ≤ mark_limit (mark_in top u marks)
 limit-counted top u [] = omega arith
 limit-counted top u (o ∷ marks) =
     let rest = limit-counted top u marks in
@@ -118,7 +118,7 @@ needed-told top w (o ∷ marks) more =
     ]
 
 -- and the limit
-pub limit-told : (top : ℕ) (w : OpenMark) (marks : List OpenMark) → limit_of w.mark ≤ limit_of (mark_in top w.by marks) → least_limit top (with_mark w marks) ≡ min (least_limit top marks) (limit_of w.mark)
+pub limit-told : (top : ℕ) (w : OpenMark) (marks : List OpenMark) → mark_limit w.mark ≤ mark_limit (mark_in top w.by marks) → least_limit top (with_mark w marks) ≡ min (least_limit top marks) (mark_limit w.mark)
 limit-told top w [] less = omega arith
 limit-told top w (o ∷ marks) less =
     elim (cases_Bool (eqb o.by w.by)) [
@@ -132,8 +132,8 @@ limit-told top w (o ∷ marks) less =
 -- ---- the totals
 
 -- the totals of the marks with another one, where the extremes of the one before follow from it
-pub totals-told : (top : ℕ) (w : OpenMark) (marks : List OpenMark) → AreOrdered marks →
-    need_of (mark_in top w.by marks) ≤ need_of w.mark → limit_of w.mark ≤ limit_of (mark_in top w.by marks) →
+pub totals-told : (top : ℕ) (w : OpenMark) (marks : List OpenMark) → MarksAscend marks →
+    need_of (mark_in top w.by marks) ≤ need_of w.mark → mark_limit w.mark ≤ mark_limit (mark_in top w.by marks) →
     totals_with (totals_of top marks) (mark_in top w.by marks) w.mark ≡ totals_of top (with_mark w marks)
 totals-told top w marks ordered more less =
     rw (sum-put top (λ x. x.fall) refl w marks ordered, sum-put top (λ x. x.rise) refl w marks ordered, needed-told top w marks more, limit-told top w marks less) refl

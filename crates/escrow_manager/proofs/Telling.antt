@@ -4,16 +4,16 @@ use Rattle.std.specs.Prelude.{slice_get}
 use Rattle.type_table.specs.Table.{Table, next}
 use Rattle.type_table.specs.Run.{run, IsLegal}
 use Rattle.type_table.proofs.Legal.{some_state, is_there}
-use Rattle.escrow_laws.specs.Bounds.{moved_by, amounts_of, IsWithin, AreBounds}
+use Rattle.escrow_laws.specs.Bounds.{moved_by, amounts_of, IsWithinBounds, AreBounds}
 use Rattle.escrow_laws.specs.Firm.{IsIdleFrom, IsFirm}
-use Rattle.escrow_laws.specs.Marks.{marked, mark_of, FitsIn, fallen_of, risen_of, most_needed, least_limit}
+use Rattle.escrow_laws.specs.Marks.{mark_after, mark_of, FitsIn, fallen_of, risen_of, most_needed, least_limit}
 use Rattle.escrow_laws.specs.Laws.{MarksAreExact, ExtremesTellFirm}
 use Rattle.escrow_laws.specs.declared.bounded.Bounded.{Bounded}
 use Rattle.escrow_laws.specs.declared.mark.Mark.{Mark}
 use Rattle.escrow_laws.specs.declared.mark.OpenMark.{OpenMark}
 use Rattle.escrow_laws.proofs.Numbers.{within, inside_is}
 use Rattle.escrow_manager.specs.Marks.{IsSmall}
-use Rattle.escrow_manager.specs.Totals.{totals_of, totals_with, IsShort}
+use Rattle.escrow_manager.specs.Totals.{totals_of, totals_with, HasShortSums}
 use Rattle.escrow_manager.specs.Kept.{AreMarksOf}
 use Rattle.escrow_manager.specs.declared.totals.Totals.{Totals}
 use Rattle.escrow_manager.proofs.Marking.{marks-all}
@@ -40,7 +40,7 @@ module _ (T : Table) (top base : ℕ) (ops : List Bounded) (bounds : AreBounds T
 
 -- ---- one more operation
 
-pub more-small : (top base s : ℕ) (mark : Mark) (b : Bounded) → base ≤ top → FitsIn top base mark → IsWithin top b → b.low ≤ s → s ≤ b.high → IsSmall top mark b
+pub more-small : (top base s : ℕ) (mark : Mark) (b : Bounded) → base ≤ top → FitsIn top base mark → IsWithinBounds top b → b.low ≤ s → s ≤ b.high → IsSmall top mark b
 more-small top base s mark b inside fits within low high =
     let down = fits.down in
     let up = fits.up in
@@ -89,7 +89,7 @@ sums-small tell T top base m ops own marks bounds inside known idle firm =
     record { fallen = omega (arith, low, inside); risen = omega (arith, high, limit); needed = omega (arith, low, inside); limit = limit }
 
 -- a mark that fits is short
-pub fits-short : (top base : ℕ) (mark : Mark) → top ≤ 4294967295 → base ≤ top → FitsIn top base mark → IsShort mark
+pub fits-short : (top base : ℕ) (mark : Mark) → top ≤ 4294967295 → base ≤ top → FitsIn top base mark → HasShortSums mark
 fits-short top base mark most inside fits =
     let down = fits.down in
     let up = fits.up in
@@ -97,7 +97,7 @@ fits-short top base mark most inside fits =
     record { fall = omega (arith, down, inside, most); rise = omega (arith, up, most); ceiling = omega (arith, last, most) }
 
 -- so is a small one
-pub small-short : (top : ℕ) (mark : Mark) (b : Bounded) → top ≤ 4294967295 → IsSmall top mark b → IsShort mark
+pub small-short : (top : ℕ) (mark : Mark) (b : Bounded) → top ≤ 4294967295 → IsSmall top mark b → HasShortSums mark
 small-short top mark b most one =
     let fall = one.fall in
     let rise = one.rise in
@@ -105,7 +105,7 @@ small-short top mark b most one =
     record { fall = omega (arith, fall, most); rise = omega (arith, rise, most); ceiling = omega (arith, ceiling, most) }
 
 -- also with one more operation
-pub more-short : (top : ℕ) (old new : Mark) (b : Bounded) → top ≤ 4294967295 → IsSmall top old b → new ≡ marked old b → IsShort new
+pub more-short : (top : ℕ) (old new : Mark) (b : Bounded) → top ≤ 4294967295 → IsSmall top old b → new ≡ mark_after old b → HasShortSums new
 more-short top old new b most one is =
     let low = one.low in
     let enough = one.enough in
@@ -126,7 +126,7 @@ more-short top old new b most one is =
 -- ---- the totals with another mark
 
 -- they stay small
-pub with-small : (top : ℕ) (marks : List OpenMark) (totals after : Totals) (old new : Mark) (b : Bounded) → top ≤ 4294967295 → totals ≡ totals_of top marks → AreSmall top marks → IsSmall top old b → new ≡ marked old b →
+pub with-small : (top : ℕ) (marks : List OpenMark) (totals after : Totals) (old new : Mark) (b : Bounded) → top ≤ 4294967295 → totals ≡ totals_of top marks → AreSmall top marks → IsSmall top old b → new ≡ mark_after old b →
     after ≡ totals_with totals old new → (after.fallen < 17179869184) × (after.risen < 17179869184) × (after.needed < 17179869184)
 with-small top marks totals after old new b most summed all one is made =
     let low = one.low in

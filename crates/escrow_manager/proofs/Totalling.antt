@@ -6,14 +6,14 @@ use Rattle.std.proofs.lemmas.List.Sums.{sum_by_more}
 use Rattle.escrow_laws.specs.Marks.{unmarked, fallen_of, risen_of, most_needed, least_limit}
 use Rattle.escrow_laws.specs.declared.mark.Mark.{Mark}
 use Rattle.escrow_laws.specs.declared.mark.OpenMark.{OpenMark}
-use Rattle.escrow_manager.specs.Totals.{need_of, limit_of, totals_of, totals_with}
+use Rattle.escrow_manager.specs.Totals.{need_of, mark_limit, totals_of, totals_with}
 use Rattle.escrow_manager.specs.declared.totals.Totals.{Totals}
 
 needed-more : (marks : List OpenMark) (o : OpenMark) → max (most_needed marks) (need_of o.mark) ≡ most_needed (marks ++ o ∷ [])
 needed-more [] o = omega arith
 needed-more (q ∷ marks) o = let rest = needed-more marks o in omega (arith, rest)
 
-limit-more : (top : ℕ) (marks : List OpenMark) (o : OpenMark) → min (least_limit top marks) (limit_of o.mark) ≡ least_limit top (marks ++ o ∷ [])
+limit-more : (top : ℕ) (marks : List OpenMark) (o : OpenMark) → min (least_limit top marks) (mark_limit o.mark) ≡ least_limit top (marks ++ o ∷ [])
 limit-more top [] o = omega arith
 limit-more top (q ∷ marks) o = let rest = limit-more top marks o in omega (arith, rest)
 

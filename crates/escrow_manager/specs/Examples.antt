@@ -3,8 +3,8 @@ use Rattle.std.specs.Prelude.{ℕ, List, [], ◌∷◌, codes}
 use Rattle.escrow_laws.specs.Marks.{mark_of}
 use Rattle.escrow_laws.specs.Examples.{five_ops}
 use Rattle.escrow_laws.specs.declared.mark.OpenMark.{OpenMark}
-use Rattle.number_text.specs.declared.number_call.NumberCall.TheVariants.{Take, TakeAny, GiveAny}
-use Rattle.number_text.specs.NumberFile.{Number}
+use Rattle.number_types.specs.declared.number_call.NumberCall.TheVariants.{Take, TakeAny, GiveAny}
+use Rattle.number_types.specs.Number.{Number}
 
 -- the mark of t, who did this
 abbrev pub mark_by : ℕ → List ℕ → OpenMark

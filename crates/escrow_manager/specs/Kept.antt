@@ -9,7 +9,7 @@ use Rattle.object_trait.specs.Meaning.{Meaning, object, own_of}
 use Rattle.object_trait.specs.Sound.{IsSound}
 use Rattle.object_trait.specs.declared.log_entry.LogEntry.{LogEntry}
 use Rattle.escrow_manager.specs.Numeric.{bounds_in, greatest, IsInEscrow}
-use Rattle.escrow_manager.specs.Marks.{AreOrdered, mark_in}
+use Rattle.escrow_manager.specs.Marks.{MarksAscend, mark_in}
 use Rattle.escrow_manager.specs.Totals.{totals_of}
 use Rattle.escrow_manager.specs.declared.totals.Totals.{Totals}
 
@@ -18,7 +18,7 @@ pub record AreMarksOf (top : ℕ) (ops : List Bounded) (own : ℕ → List ℕ) 
   pub exact : (t : ℕ) → mark_in top t marks ≡ mark_of top ops (own t)
   pub all : (t : ℕ) → list_any (λ (o : OpenMark). o.by == t) marks ≡ false → own t ≡ []
   pub some : AllByRecursion (λ (o : OpenMark). own o.by ≡ [] → ⊥) marks
-  pub ordered : AreOrdered marks
+  pub ordered : MarksAscend marks
 
 -- the type is numeric, the meaning is sound, and the marks and their totals are those of what the open transactions did
 pub record IsKeptInEscrow (m : Meaning) (marks : List OpenMark) (totals : Totals) : Type 0 where

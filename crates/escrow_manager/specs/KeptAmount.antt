@@ -3,12 +3,12 @@ use Rattle.std.specs.Prelude.{◌≡◌, ℕ, ◌+◌, ◌-◌, ◌≤◌, Bool,
 use Rattle.std.specs.List.{list_any}
 use Rattle.type_table.specs.Operation.{operation_at}
 use Rattle.escrow_laws.specs.declared.mark.Mark.{Mark}
-use Rattle.number_text.specs.declared.number_call.NumberCall.{NumberCall}
-use Rattle.number_text.specs.declared.number_call.NumberCall.TheVariants as calls
-use Rattle.number_text.specs.declared.number_op.NumberOp.{NumberOp}
-use Rattle.number_text.specs.declared.number_op.NumberOp.TheVariants as ops
-use Rattle.number_text.specs.NumberFile.{Number}
-use Rattle.number_text.specs.Operations.{takes, gives}
+use Rattle.number_types.specs.declared.number_call.NumberCall.{NumberCall}
+use Rattle.number_types.specs.declared.number_call.NumberCall.TheVariants as calls
+use Rattle.number_types.specs.declared.number_op.NumberOp.{NumberOp}
+use Rattle.number_types.specs.declared.number_op.NumberOp.TheVariants as ops
+use Rattle.number_types.specs.Number.{Number}
+use Rattle.number_types.specs.Operations.{takes, gives}
 use Rattle.object_trait.specs.Meaning.{Meaning}
 use Rattle.object_trait.specs.Steps.{IsLegalFor, stopper}
 use Rattle.escrow_manager.specs.declared.totals.Totals.{Totals}

@@ -7,36 +7,36 @@ use Rattle.escrow_laws.specs.declared.mark.Mark.{Mark}
 use Rattle.escrow_laws.specs.declared.mark.OpenMark.{OpenMark}
 
 -- whose mark it is
-abbrev pub owner : OpenMark → ℕ
-owner o = o.by
+abbrev pub mark_owner : OpenMark → ℕ
+mark_owner o = o.by
 
 -- whose marks they are
-abbrev pub owners : List OpenMark → List ℕ
-owners marks = rows.owners owner marks
+abbrev pub mark_owners : List OpenMark → List ℕ
+mark_owners marks = rows.row_owners mark_owner marks
 
 -- each is of an earlier transaction than those after it
-abbrev pub AreOrdered : List OpenMark → Type 0
-AreOrdered marks = rows.AreOrdered owner marks
+abbrev pub MarksAscend : List OpenMark → Type 0
+MarksAscend marks = rows.RowsAscend mark_owner marks
 
--- t's place among the marks: after those of earlier transactions
-abbrev pub place_of : ℕ → List OpenMark → ℕ
-place_of t marks = rows.place_of owner t marks
+-- t's index among the marks: after those of earlier transactions
+abbrev pub mark_index : ℕ → List OpenMark → ℕ
+mark_index t marks = rows.row_index mark_owner t marks
 
--- t's mark is at this place
-abbrev pub IsAt : ℕ → ℕ → List OpenMark → Type 0
-IsAt t at marks = rows.IsAt owner t at marks
+-- t's mark is at this index
+abbrev pub IsMarkAt : ℕ → ℕ → List OpenMark → Type 0
+IsMarkAt t at marks = rows.IsRowAt mark_owner t at marks
 
 -- t's mark, or that of no operations where it has none, on numbers from 0 to top
 abbrev pub mark_in : ℕ → ℕ → List OpenMark → Mark
-mark_in top t marks = rows.shown_of owner (λ o. o.mark) (unmarked top) t marks
+mark_in top t marks = rows.shown_of mark_owner (λ o. o.mark) (unmarked top) t marks
 
 -- with this mark in the place of its transaction's, or before those of later ones
 abbrev pub with_mark : OpenMark → List OpenMark → List OpenMark
-with_mark w marks = rows.with_row owner w marks
+with_mark w marks = rows.with_row mark_owner w marks
 
 -- without that of t
 abbrev pub without_mark : ℕ → List OpenMark → List OpenMark
-without_mark t marks = rows.without_row owner t marks
+without_mark t marks = rows.without_row mark_owner t marks
 
 -- the numbers of a mark stay small with one more operation, on numbers from 0 to top
 pub record IsSmall (top : ℕ) (mark : Mark) (b : Bounded) : Type 0 where

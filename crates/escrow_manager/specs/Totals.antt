@@ -9,11 +9,11 @@ use Rattle.escrow_manager.specs.declared.totals.Totals.{Totals}
 abbrev pub need_of : Mark → ℕ
 need_of m = m.floor - m.fall
 
-abbrev pub limit_of : Mark → ℕ
-limit_of m = m.ceiling + m.rise
+abbrev pub mark_limit : Mark → ℕ
+mark_limit m = m.ceiling + m.rise
 
 -- its sums are far below what a word of 64 bits holds
-pub record IsShort (m : Mark) : Type 0 where
+pub record HasShortSums (m : Mark) : Type 0 where
   pub fall : m.fall < 2 ^ 62
   pub rise : m.rise < 2 ^ 62
   pub ceiling : m.ceiling < 2 ^ 62
@@ -28,7 +28,7 @@ totals_with totals old new = record {
   fallen = (totals.fallen - old.fall) + new.fall;
   risen = (totals.risen - old.rise) + new.rise;
   needed = max totals.needed (need_of new);
-  limit = min totals.limit (limit_of new);
+  limit = min totals.limit (mark_limit new);
 }
 
 -- by these all is firm

@@ -4,11 +4,11 @@ ghost use Rattle.std.specs.Prelude.{◌≡◌, false, ◌^◌, ◌<◌, ◌≤�
 ghost use Rattle.std.specs.List.{find};
 ghost use Rattle.std.specs.Option.{option_map};
 ghost use Rattle.type_table.specs.Run.{IsLegal};
-ghost use Rattle.escrow_laws.specs.Marks.{marked, mark_of, mark_keeps};
+ghost use Rattle.escrow_laws.specs.Marks.{mark_after, mark_of, mark_keeps};
 ghost use Rattle.escrow_manager.specs.Numeric.{bounds_in, greatest, IsInEscrow};
 ghost use Rattle.object_trait.specs.Strike.{keep_first};
 ghost use Rattle.object_trait.specs.Meaning.{is_open_of, open_of, AreOpen, own_of};
-ghost use Rattle.escrow_manager.specs.Marks.{AreOrdered, mark_in, IsSmall};
+ghost use Rattle.escrow_manager.specs.Marks.{MarksAscend, mark_in, IsSmall};
 
 use crate::marks::mark_in;
 use crate::numeric::{bounded, greatest};
@@ -68,7 +68,7 @@ pub fn keep_first(log: &mut Vec<LogEntry>, t: u32, n: usize)
 /// The mark with one more operation, where it is mine.
 fn marked_if(mark: Mark, mine: bool, op: Bounded) -> Mark
     requires { mine ≡ true → IsSmall 4294967295 mark op }
-    ensures { result ≡ cond mine (marked mark op) mark }
+    ensures { result ≡ cond mine (mark_after mark op) mark }
 {
     if mine { mark.marked(op) } else { mark }
 }
@@ -101,7 +101,7 @@ fn is_keeper(
     totals: Totals,
     top: u32,
 ) -> bool
-    requires ordered { AreOrdered marks.now.items }
+    requires ordered { MarksAscend marks.now.items }
     requires risen { totals.risen < 2 ^ 63 }
     ensures { result ≡ (not (entry.by == t.by) && mark_keeps base totals.fallen totals.risen t.mark (mark_in top entry.by marks.now.items)) }
 {
@@ -122,7 +122,7 @@ pub fn first_keeper(
     totals: Totals,
     top: u32,
 ) -> Option<u32>
-    requires ordered { AreOrdered marks.now.items }
+    requires ordered { MarksAscend marks.now.items }
     requires risen { totals.risen < 2 ^ 63 }
     ensures { result ≡ option_map (λ e. e.by) (find (λ e. not (e.by == t.by) && mark_keeps base totals.fallen totals.risen t.mark (mark_in top e.by marks.now.items)) log.now.items) }
 {

@@ -2,22 +2,22 @@
 
 ghost use Rattle.std.specs.Prelude.{◌≡◌, ◌↔◌, ◌%◌, ◌/◌, ◌<◌, true, Some, length, slice_get, MatchOption};
 ghost use Rattle.type_table.specs.Operation.{operation_at};
-ghost use Rattle.number_text.specs.declared.number_call.NumberCall.TheVariants as calls;
-ghost use Rattle.number_text.specs.NumberFile.{IsNumber};
-ghost use Rattle.table_checker.specs.Declarations.{number_file};
+ghost use Rattle.number_types.specs.declared.number_call.NumberCall.TheVariants as calls;
+ghost use Rattle.number_types.specs.Number.{IsNumber};
+ghost use Rattle.declared_types.specs.Declarations.{number_file};
 ghost use Rattle.object_trait.specs.Steps.{TellsKept};
 ghost use Rattle.escrow_manager.specs.KeptAmount.{IsKeptFrom, IsFreeFrom, any_call};
 
 use crate::manager::EscrowManager;
 use crate::way::{Way, least_amount};
 use escrow_laws::{extremes_tell_firm, firm_is_legal, marks_are_exact, marks_fit, marks_tell};
-use number_text::{NumberCall, NumberFile, number_has_table, number_tells_bounds};
+use number_types::{NumberCall, NumberFile, number_has_table, number_tells_bounds};
 use object_trait::Recovery;
 use type_table::Operation;
 
 impl EscrowManager {
-    /// Of a number: an amount from whose operation at this place, or at the next one, u keeps t, where that
-    /// operation is legal for t; None where there is none. The place is the first one of a line.
+    /// Whether u keeps t from an operation of a number's line, whose first place this is. The answer is an
+    /// amount: at this place or the next the operation with this amount is legal for t, and u keeps t from it.
     pub(crate) fn number_kept(&self, number: &NumberFile, t: u32, place: u8, u: u32) -> Option<u32>
         requires number { self.now.checked.file ≡ number_file number.now }
         requires place { place % 2 ≡ 0 }

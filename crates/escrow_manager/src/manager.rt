@@ -11,6 +11,7 @@ use crate::entries::{count_of, first_keeper, keep_first, mark_of, take_out};
 use crate::marks::{drop_mark, mark_at, mark_in, place_of, put_mark};
 use crate::numeric::{bounded, greatest, initial};
 use crate::totals::Totals;
+use declared_types::{Declaration, DeclaredType};
 use escrow_laws::{
     Bounded, Mark, OpenMark, extremes_tell_firm, firm_is_legal, firm_keeps_nobody, marks_are_exact,
     marks_fit, marks_tell,
@@ -23,7 +24,7 @@ use object_trait::{
 use std::alloc::{AllocError, Global};
 use std::marker::Model;
 use std::sync::Arc;
-use table_checker::{CheckedType, Declaration, DeclaredType};
+use table_checker::CheckedType;
 use type_table::{Kind, Operation};
 
 /// An object in escrow. Its state is the number that is committed, and each open transaction sees this

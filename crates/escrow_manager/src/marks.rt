@@ -2,22 +2,22 @@
 
 ghost use Rattle.std.specs.Prelude.{◌≡◌, ◌<◌, true, false, ◌==◌, vec_len, vec_capacity};
 ghost use Rattle.std.specs.List.{list_any};
-ghost use Rattle.escrow_manager.specs.Marks.{AreOrdered, place_of, IsAt, mark_in, with_mark, without_mark};
+ghost use Rattle.escrow_manager.specs.Marks.{MarksAscend, mark_index, IsMarkAt, mark_in, with_mark, without_mark};
 
 use escrow_laws::{Mark, OpenMark};
 
 /// The place of t's mark, or where it would be.
 pub fn place_of(marks: &Vec<OpenMark>, t: u32) -> usize
-    requires { AreOrdered marks.now.items }
-    ensures { result ≡ place_of t marks.now.items }
+    requires { MarksAscend marks.now.items }
+    ensures { result ≡ mark_index t marks.now.items }
 {
     marks.partition_point(|open| open.by < t)
 }
 
 /// Whether t's mark is at this place.
 fn is_at(marks: &Vec<OpenMark>, at: usize, t: u32) -> bool
-    ensures there { result ≡ true → IsAt t at marks.now.items }
-    ensures elsewhere { result ≡ false → IsAt t at marks.now.items → ⊥ }
+    ensures there { result ≡ true → IsMarkAt t at marks.now.items }
+    ensures elsewhere { result ≡ false → IsMarkAt t at marks.now.items → ⊥ }
 {
     if at < marks.len() {
         marks[at].by == t
@@ -29,8 +29,8 @@ fn is_at(marks: &Vec<OpenMark>, at: usize, t: u32) -> bool
 /// The mark of t, whose place this is: that of no operations where it has none, on numbers from 0 to
 /// `top`.
 pub fn mark_at(marks: &Vec<OpenMark>, at: usize, t: u32, top: u32) -> Mark
-    requires ordered { AreOrdered marks.now.items }
-    requires place { at ≡ place_of t marks.now.items }
+    requires ordered { MarksAscend marks.now.items }
+    requires place { at ≡ mark_index t marks.now.items }
     ensures { result ≡ mark_in top t marks.now.items }
 {
     if is_at(marks, at, t) {
@@ -42,7 +42,7 @@ pub fn mark_at(marks: &Vec<OpenMark>, at: usize, t: u32, top: u32) -> Mark
 
 /// The same, where the place isn't asked for.
 pub fn mark_in(marks: &Vec<OpenMark>, t: u32, top: u32) -> Mark
-    requires ordered { AreOrdered marks.now.items }
+    requires ordered { MarksAscend marks.now.items }
     ensures { result ≡ mark_in top t marks.now.items }
 {
     let at = place_of(marks, t);
@@ -51,8 +51,8 @@ pub fn mark_in(marks: &Vec<OpenMark>, t: u32, top: u32) -> Mark
 
 /// Puts a mark in the place of its transaction's. Where that has none, there is room.
 pub fn put_mark(marks: &mut Vec<OpenMark>, at: usize, own: OpenMark)
-    requires ordered { AreOrdered marks.old.items }
-    requires place { at ≡ place_of own.by marks.old.items }
+    requires ordered { MarksAscend marks.old.items }
+    requires place { at ≡ mark_index own.by marks.old.items }
     requires room { list_any (λ o. o.by == own.by) marks.old.items ≡ false → vec_len marks.old < vec_capacity marks.old }
     ensures { marks.new.items ≡ with_mark own marks.old.items }
 {
@@ -65,7 +65,7 @@ pub fn put_mark(marks: &mut Vec<OpenMark>, at: usize, own: OpenMark)
 
 /// Takes out t's mark, if it has one.
 pub fn drop_mark(marks: &mut Vec<OpenMark>, t: u32)
-    requires { AreOrdered marks.old.items }
+    requires { MarksAscend marks.old.items }
     ensures { marks.new.items ≡ without_mark t marks.old.items }
 {
     let at = place_of(marks, t);

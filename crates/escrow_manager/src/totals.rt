@@ -2,7 +2,7 @@
 
 ghost use Rattle.std.specs.Prelude.{◌≡◌, ◌↔◌, ◌≤◌, ◌<◌, ◌^◌, true, [], All};
 ghost use Rattle.escrow_laws.specs.Marks.{fallen_of, risen_of};
-ghost use Rattle.escrow_manager.specs.Totals.{need_of, limit_of, totals_of, totals_with, IsShort, AreFirm};
+ghost use Rattle.escrow_manager.specs.Totals.{need_of, mark_limit, totals_of, totals_with, HasShortSums, AreFirm};
 
 use escrow_laws::{Mark, OpenMark};
 
@@ -28,8 +28,8 @@ fn need_of(mark: Mark) -> u64
 
 /// Its limit and what it rises itself.
 fn limit_of(mark: Mark) -> u64
-    requires { IsShort mark }
-    ensures { result ≡ limit_of mark }
+    requires { HasShortSums mark }
+    ensures { result ≡ mark_limit mark }
 {
     mark.ceiling + mark.rise
 }
@@ -49,7 +49,7 @@ impl Totals {
 
     /// Those of these marks, on numbers from 0 to `top`.
     pub fn of(marks: &Vec<OpenMark>, top: u32) -> Totals
-        requires short { All (λ o. IsShort o.mark) marks.now.items }
+        requires short { All (λ o. HasShortSums o.mark) marks.now.items }
         requires fallen { fallen_of marks.now.items < 2 ^ 62 }
         requires risen { risen_of marks.now.items < 2 ^ 62 }
         ensures { result ≡ totals_of top marks.now.items }
@@ -63,7 +63,7 @@ impl Totals {
 
     /// With a new mark in the place of an old one. The old one's need and limit still count.
     pub fn with(self, old: Mark, new: Mark) -> Totals
-        requires short { IsShort new }
+        requires short { HasShortSums new }
         requires fallen { self.fallen < 2 ^ 62 }
         requires risen { self.risen < 2 ^ 62 }
         ensures { result ≡ totals_with self old new }
@@ -79,9 +79,9 @@ impl Totals {
     /// Whether a new mark needs as much as the old one did, and stays as far below its limit: then the
     /// extremes of all follow from it and from those before.
     pub fn stand(old: Mark, new: Mark) -> bool
-        requires old { IsShort old }
-        requires new { IsShort new }
-        ensures { (result ≡ true) ↔ ((need_of old ≤ need_of new) × (limit_of new ≤ limit_of old)) }
+        requires old { HasShortSums old }
+        requires new { HasShortSums new }
+        ensures { (result ≡ true) ↔ ((need_of old ≤ need_of new) × (mark_limit new ≤ mark_limit old)) }
     {
         need_of(old) <= need_of(new) && limit_of(new) <= limit_of(old)
     }
@@ -90,12 +90,12 @@ impl Totals {
     /// the extremes may have been the old one's.
     pub fn after(self, old: Mark, new: Mark, marks: &Vec<OpenMark>, top: u32) -> Totals
         requires before { (self.fallen < 2 ^ 62) × (self.risen < 2 ^ 62) }
-        requires old { IsShort old }
-        requires new { IsShort new }
-        requires short { All (λ o. IsShort o.mark) marks.now.items }
+        requires old { HasShortSums old }
+        requires new { HasShortSums new }
+        requires short { All (λ o. HasShortSums o.mark) marks.now.items }
         requires fallen { fallen_of marks.now.items < 2 ^ 62 }
         requires risen { risen_of marks.now.items < 2 ^ 62 }
-        requires told { need_of old ≤ need_of new → limit_of new ≤ limit_of old → totals_with self old new ≡ totals_of top marks.now.items }
+        requires told { need_of old ≤ need_of new → mark_limit new ≤ mark_limit old → totals_with self old new ≡ totals_of top marks.now.items }
         ensures { result ≡ totals_of top marks.now.items }
     {
         if Totals::stand(old, new) {

@@ -7,7 +7,7 @@ ghost use Rattle.escrow_manager.specs.KeptAmount.{lists, HasAmount, IsLeastAmoun
 
 use crate::totals::Totals;
 use escrow_laws::Mark;
-use number_text::{NumberCall, NumberFile};
+use number_types::{NumberCall, NumberFile};
 
 /// Whether a call of any amount takes it or gives it.
 #[derive(Clone, Copy)]
@@ -27,8 +27,8 @@ impl Way {
         }
     }
 
-    /// The least amount with which all together fall, or rise, too far for who has the mark u. So far t and u have
-    /// these marks, and all have these totals.
+    /// The least amount with which all together fall, or rise, too far for the transaction with the mark u. So far
+    /// t and u have these marks, and all have these totals.
     pub fn first_kept(self, base: u32, totals: Totals, t: Mark, u: Mark) -> u64
         requires fallen { totals.fallen ≤ base }
         requires risen { base + totals.risen ≤ 4294967295 }

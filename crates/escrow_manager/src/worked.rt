@@ -4,20 +4,20 @@
 ghost use Rattle.std.specs.Prelude.{◌≡◌, ◌≤◌, ℕ, [], ◌∷◌};
 ghost use Rattle.escrow_laws.specs.Marks.{unmarked, mark_of};
 ghost use Rattle.escrow_laws.specs.Examples.{five_ops};
-ghost use Rattle.escrow_manager.specs.Marks.{AreOrdered, place_of, mark_in, with_mark, without_mark};
-ghost use Rattle.escrow_manager.specs.Totals.{need_of, limit_of, totals_of, totals_with, AreFirm};
+ghost use Rattle.escrow_manager.specs.Marks.{MarksAscend, mark_index, mark_in, with_mark, without_mark};
+ghost use Rattle.escrow_manager.specs.Totals.{need_of, mark_limit, totals_of, totals_with, AreFirm};
 ghost use Rattle.escrow_manager.specs.Examples.{mark_by, taker, giver, both_marks, listing_both};
 ghost use Rattle.escrow_manager.specs.KeptAmount.{first_kept, first_beyond, first_refused, HasAmount, IsLeastAmount};
 ghost use Rattle.escrow_manager.specs.declared.way.Way.TheVariants as Way;
 
 /// A transaction has its mark, or that of no operations.
 pub fn each_has_its_mark()
-    ensures place { place_of 3 both_marks ≡ 1 }
-    ensures between { place_of 2 both_marks ≡ 1 }
-    ensures behind { place_of 4 both_marks ≡ 2 }
+    ensures place { mark_index 3 both_marks ≡ 1 }
+    ensures between { mark_index 2 both_marks ≡ 1 }
+    ensures behind { mark_index 4 both_marks ≡ 2 }
     ensures own { mark_in 5 3 both_marks ≡ mark_of 5 five_ops (0 ∷ 1 ∷ []) }
     ensures other { mark_in 5 2 both_marks ≡ unmarked 5 }
-    ensures ordered { AreOrdered both_marks }
+    ensures ordered { MarksAscend both_marks }
 {}
 
 /// A mark takes the place of the one before it, and a first one goes before those of later
@@ -51,7 +51,7 @@ pub fn two_are_firm()
 /// no longer be so.
 pub fn a_reply_has_a_limit()
     ensures need { need_of (mark_of 5 five_ops (2 ∷ [])) ≡ 0 }
-    ensures limit { limit_of (mark_of 5 five_ops (2 ∷ [])) ≡ 2 }
+    ensures limit { mark_limit (mark_of 5 five_ops (2 ∷ [])) ≡ 2 }
     ensures alone { AreFirm 1 (totals_of 5 (mark_by 1 (2 ∷ []) ∷ [])) }
     ensures beside { AreFirm 1 (totals_of 5 (mark_by 1 (2 ∷ []) ∷ mark_by 2 (0 ∷ []) ∷ [])) → ⊥ }
 {}

@@ -4,7 +4,7 @@ use Rattle.std.proofs.lemmas.Bool.{false≢true, cases_lt, eqb-true}
 use Rattle.std.proofs.lemmas.List.{get_or_past}
 use Rattle.type_table.specs.Table.{Table}
 use Rattle.type_table.specs.Run.{Looks}
-use Rattle.type_table.specs.ConflictTable.{row, IsSquare}
+use Rattle.type_table.specs.ConflictTable.{conflict_row, IsSquare}
 use Rattle.equi_cert.specs.Relation.{relates}
 use Rattle.exact_tables.specs.Tell.{IsDistance}
 use Rattle.exact_tables.specs.Distances.{Cells, distance, AreDistances, AddsAlike}
@@ -88,10 +88,10 @@ pair-inside states a b rows square h =
     elim (cases_lt a states) [
       | inl a_in ↦ elim (cases_lt b states) [
         | inl b_in ↦ (a_in, b_in)
-        | inr past ↦ absurd (false≢true (sym (get_or_past (row rows a) b false (omega (arith, square.width a a_in, past))) ∙ h))
+        | inr past ↦ absurd (false≢true (sym (get_or_past (conflict_row rows a) b false (omega (arith, square.width a a_in, past))) ∙ h))
       ]
       | inr past ↦
-          let none : row rows a ≡ [] = get_or_past rows a [] (omega (arith, square.height, past)) in
+          let none : conflict_row rows a ≡ [] = get_or_past rows a [] (omega (arith, square.height, past)) in
           absurd (false≢true (sym (ap (λ (cells : List Bool). get_or cells b false) none) ∙ h))
     ]
 

@@ -6,7 +6,7 @@ use Rattle.type_table.specs.Run.{Looks}
 use Rattle.type_table.specs.Laws.{StepsWithin}
 use Rattle.type_table.specs.Commute.{CommuteForward, CommutesBackward, CommutesBackwardBothWays}
 use Rattle.type_table.proofs.Legal.{from_state}
-use Rattle.table_checker.specs.Condition.{ends_relate, end_of, passes_forward, passes_backward, passes_both_ways}
+use Rattle.table_checker.specs.Condition.{ends_relate, end_of_two, passes_forward, passes_backward, passes_both_ways}
 use Rattle.exact_tables.specs.Exact.{IsExact}
 
 -- the rest of a test whose premise holds
@@ -46,20 +46,20 @@ like_related T related exact (Some a) None x_in y_in like = absurd (false≢true
 like_related T related exact None y x_in y_in like = absurd (false≢true like.first)
 
 -- the end of two operations is a state of the table
-end-within : StepsWithin → (T : Table) (s p q : ℕ) → IsTable T → IsWithin T (end_of T s p q)
+end-within : StepsWithin → (T : Table) (s p q : ℕ) → IsTable T → IsWithin T (end_of_two T s p q)
 end-within within T s p q table = λ e ended.
     let middle = from_state T (next T s p) (q ∷ []) (rw ended refl) in
     (within T middle.0 q e table (rw middle.1 at ended)).2
 
 -- two orders of p and q from s
 pub record Orders (T : Table) (related : ℕ → ℕ → Bool) (s p q : ℕ) : Type 0 where
-  pub like : ends_relate related (end_of T s p q) (end_of T s q p) ≡ true → AreEndsLike T (end_of T s p q) (end_of T s q p)
-  pub back : AreEndsLike T (end_of T s p q) (end_of T s q p) → ends_relate related (end_of T s p q) (end_of T s q p) ≡ true
+  pub like : ends_relate related (end_of_two T s p q) (end_of_two T s q p) ≡ true → AreEndsLike T (end_of_two T s p q) (end_of_two T s q p)
+  pub back : AreEndsLike T (end_of_two T s p q) (end_of_two T s q p) → ends_relate related (end_of_two T s p q) (end_of_two T s q p) ≡ true
 
 orders : StepsWithin → (T : Table) (related : ℕ → ℕ → Bool) → IsTable T → IsExact T related → (s p q : ℕ) → Orders T related s p q
 orders within T related table exact s p q = record {
-  like = related_like T related exact (end_of T s p q) (end_of T s q p);
-  back = like_related T related exact (end_of T s p q) (end_of T s q p) (end-within within T s p q table) (end-within within T s q p table);
+  like = related_like T related exact (end_of_two T s p q) (end_of_two T s q p);
+  back = like_related T related exact (end_of_two T s p q) (end_of_two T s q p) (end-within within T s p q table) (end-within within T s q p table);
 }
 
 -- ---- conditions
@@ -88,9 +88,9 @@ pub backward-exactly : StepsWithin → (T : Table) (related : ℕ → ℕ → Bo
 unfolding passes_backward
 backward-exactly within T related table exact set p q = (
   λ all s member legal.
-      let like = (orders within T related table exact s q p).like (forced (is_some (end_of T s q p)) _ legal (all s member)) in
+      let like = (orders within T related table exact s q p).like (forced (is_some (end_of_two T s q p)) _ legal (all s member)) in
       (like.second, like.looks),
-  λ commute s member. guarded (is_some (end_of T s q p)) _ (λ legal.
+  λ commute s member. guarded (is_some (end_of_two T s q p)) _ (λ legal.
       let ends = commute s member legal in
       (orders within T related table exact s q p).back (record { first = legal; second = ends.0; looks = ends.1 })),
 )
@@ -101,11 +101,11 @@ pub both_ways-exactly : StepsWithin → (T : Table) (related : ℕ → ℕ → B
 unfolding passes_both_ways
 both_ways-exactly within T related table exact set p q = (
   λ all s member legal.
-      let ways = and_parts _ _ (forced (is_some (end_of T s q p)) _ legal (all s member)) in
+      let ways = and_parts _ _ (forced (is_some (end_of_two T s q p)) _ legal (all s member)) in
       let like = (orders within T related table exact s q p).like ways.0 in
       let turned = (orders within T related table exact s p q).like ways.1 in
       (like.second, (like.looks, turned.looks)),
-  λ commute s member. guarded (is_some (end_of T s q p)) _ (λ legal.
+  λ commute s member. guarded (is_some (end_of_two T s q p)) _ (λ legal.
       let ends = commute s member legal in
       and_from _ _
       ((orders within T related table exact s q p).back (record { first = legal; second = ends.0; looks = (ends.1).0 }))

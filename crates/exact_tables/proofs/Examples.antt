@@ -2,7 +2,7 @@
 use Rattle.std.proofs.Common.{◌≡◌, ℕ, zero, suc, ◌<◌, ◌≤◌, ◌==◌, ltb, false, List, [], ◌∷◌, length, Option, Some, None, refl, arith}
 use Rattle.std.proofs.lemmas.Bool.{false≢true, le-ltb, ne_eqb, and_left, or_from}
 use Rattle.type_table.specs.Table.{Table, next}
-use Rattle.type_table.specs.Examples.{one_way, counter}
+use Rattle.type_table.specs.Examples.{one_way, counter_table}
 use Rattle.equi_cert.specs.Relation.{relates}
 use Rattle.table_checker.specs.Examples.{counter_file}
 use Rattle.exact_tables.specs.Exact.{IsExact}
@@ -99,7 +99,7 @@ one_dequeue = record { tells = (refl, λ legal. absurd (false≢true legal)); sh
 -- ---- the counter
 
 -- each of its states looks like itself alone, as its file's relation says
-pub counter-exact : IsExact counter (relates counter_file.relation)
+pub counter-exact : IsExact counter_table (relates counter_file.relation)
 unfolding next
 counter-exact zero zero = (λ h. (omega arith, omega arith, λ w legal. legal), λ h. refl)
 counter-exact zero (suc zero) = (λ h. absurd (false≢true h), λ h. absurd (false≢true (h.2 (0 ∷ 0 ∷ []) refl)))

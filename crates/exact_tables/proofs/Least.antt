@@ -10,8 +10,8 @@ use Rattle.type_table.specs.declared.table_kind.TableKind.{TableKind}
 use Rattle.type_table.specs.declared.table_kind.TableKind.TheVariants.{Undo, Intentions}
 use Rattle.type_table.proofs.Legal.{some_state, from_state}
 use Rattle.equi_cert.specs.Relation.{relates}
-use Rattle.type_text.specs.declared.type_file.TypeFile.{TypeFile}
-use Rattle.table_checker.specs.Condition.{end_of, passes, passes_forward, passes_backward, passes_both_ways, fails_in_set, AreInside}
+use Rattle.declared_types.specs.declared.type_file.TypeFile.{TypeFile}
+use Rattle.table_checker.specs.Condition.{end_of_two, passes, passes_forward, passes_backward, passes_both_ways, fails_in_set, AreInside}
 use Rattle.table_checker.specs.Checked.{condition_of, strong_condition_of}
 use Rattle.table_checker.specs.declared.condition.Condition.{Condition}
 use Rattle.table_checker.specs.declared.condition.Condition.TheVariants.{Forward, Backward, BackwardBothWays}
@@ -26,7 +26,7 @@ premise-holds : (premise rest : Bool) → (not premise || rest) ≡ false → pr
 premise-holds premise rest h = not-false premise (or_parts (not premise) rest h).0
 
 -- two operations that are legal one after the other are operations, at a state of the table
-end_inside : StepsWithin → (T : Table) (s q p : ℕ) → IsTable T → IsSome (end_of T s q p) → AreInside T p q s
+end_inside : StepsWithin → (T : Table) (s q p : ℕ) → IsTable T → IsSome (end_of_two T s q p) → AreInside T p q s
 end_inside within T s q p table legal =
     let held = from_state T (next T s q) (p ∷ []) legal in
     let requested = some_state (next T held.0 p) (rw held.1 at legal) in
@@ -45,8 +45,8 @@ both_inside within T s p q table both =
 fails-inside : StepsWithin → (condition : Condition) (T : Table) (related : ℕ → ℕ → Bool) (p q s : ℕ) → IsTable T → passes condition T related p q s ≡ false → AreInside T p q s
 unfolding passes_forward passes_backward passes_both_ways
 fails-inside within Forward T related p q s table h = both_inside within T s p q table (premise-holds (is_some (next T s p) && is_some (next T s q)) _ h)
-fails-inside within Backward T related p q s table h = end_inside within T s q p table (premise-holds (is_some (end_of T s q p)) _ h)
-fails-inside within BackwardBothWays T related p q s table h = end_inside within T s q p table (premise-holds (is_some (end_of T s q p)) _ h)
+fails-inside within Backward T related p q s table h = end_inside within T s q p table (premise-holds (is_some (end_of_two T s q p)) _ h)
+fails-inside within BackwardBothWays T related p q s table h = end_inside within T s q p table (premise-holds (is_some (end_of_two T s q p)) _ h)
 
 -- ---- having each pair that fails
 

@@ -10,7 +10,7 @@ use Rattle.std.proofs.lemmas.Option.{none-some, same_Some, slice_get-get_or}
 use Rattle.type_table.specs.Table.{Table, IsTable, next}
 use Rattle.type_table.specs.Laws.{StepsWithin}
 use Rattle.type_table.proofs.Elements.{found-front, found-last, cases-more}
-use Rattle.exact_tables.specs.Predecessors.{IsAmong, items_of, HaveSteps}
+use Rattle.exact_tables.specs.Predecessors.{IsAmong, lists_of, HaveSteps}
 use Rattle.exact_tables.proofs.Strikes.{same_pair}
 
 -- the same steps, said otherwise
@@ -112,7 +112,7 @@ steps-put T s k t lists t_in k_in leads h = record {
 -- ---- reading a list
 
 -- the list at a place
-pub read-list : (lists : List (Vec ℕ Global)) (i : ℕ) (list : Vec ℕ Global) → i < length lists → list ≡ get_or lists i list → get_or (items_of lists) i [] ≡ list.items
+pub read-list : (lists : List (Vec ℕ Global)) (i : ℕ) (list : Vec ℕ Global) → i < length lists → list ≡ get_or lists i list → get_or (lists_of lists) i [] ≡ list.items
 read-list lists i list inside read = get_or-map (λ (l : Vec ℕ Global). l.items) lists i list [] inside ∙ ap (λ (l : Vec ℕ Global). l.items) (sym read)
 
 -- it has the states from which the operation leads to the state

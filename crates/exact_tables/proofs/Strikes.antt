@@ -5,12 +5,12 @@ use Rattle.std.proofs.lemmas.List.{get_or-set_same, get_or-set_other, length_pus
 use Rattle.std.proofs.lemmas.List.Sums.{sum_by-set}
 use Rattle.std.proofs.lemmas.Nat.{mul-add-lt, same_from_place}
 use Rattle.type_table.proofs.Elements.{found-front, found-last, cases-more}
-use Rattle.exact_tables.specs.Search.{Marked, number_of, IsKnown, Strikes}
+use Rattle.exact_tables.specs.Search.{Marked, pair_number, HasPairNumber, Strikes}
 
 -- ---- none
 
 -- nothing changes where no pair is meant that has no number
-pub strikes-none : (n : ℕ) (P : ℕ → ℕ → Type 0) (m : Marked) → ((s t : ℕ) → s < m.states → t < m.states → P s t → 0 < number_of m s t) → Strikes n P m m
+pub strikes-none : (n : ℕ) (P : ℕ → ℕ → Type 0) (m : Marked) → ((s t : ℕ) → s < m.states → t < m.states → P s t → 0 < pair_number m s t) → Strikes n P m m
 strikes-none n P m known = record {
   states = refl;
   all = known;
@@ -24,9 +24,9 @@ strikes-none n P m known = record {
 -- ---- one set of pairs after another
 
 -- what is found or has a number stays so
-known-after : (n : ℕ) (P : ℕ → ℕ → Type 0) (old new : Marked) (s t : ℕ) → Strikes n P old new → IsKnown old s t → IsKnown new s t
+known-after : (n : ℕ) (P : ℕ → ℕ → Type 0) (old new : Marked) (s t : ℕ) → Strikes n P old new → HasPairNumber old s t → HasPairNumber new s t
 known-after n P old new s t strikes was =
-    let same : number_of new s t ≡ number_of old s t = strikes.kept s t was.first was.second was.known in
+    let same : pair_number new s t ≡ pair_number old s t = strikes.kept s t was.first was.second was.known in
     record { first = omega (arith, was.first, strikes.states); second = omega (arith, was.second, strikes.states); known = omega (arith, same, was.known) }
 
 pub strikes-more : (n : ℕ) (P Q R : ℕ → ℕ → Type 0) (a b c : Marked) → Strikes n P a b → Strikes n Q b c →
@@ -35,14 +35,14 @@ strikes-more n P Q R a b c one two parts first second = record {
   states = two.states ∙ one.states;
   all = λ s t s_in t_in is. elim (parts s t is) [
     | inl p ↦
-        let known : 0 < number_of b s t = one.all s t s_in t_in p in
-        let same : number_of c s t ≡ number_of b s t = two.kept s t (inside s s_in) (inside t t_in) known in
+        let known : 0 < pair_number b s t = one.all s t s_in t_in p in
+        let same : pair_number c s t ≡ pair_number b s t = two.kept s t (inside s s_in) (inside t t_in) known in
         omega (arith, known, same)
     | inr q ↦ two.all s t (inside s s_in) (inside t t_in) q
   ];
   kept = λ s t s_in t_in known.
-      let same : number_of b s t ≡ number_of a s t = one.kept s t s_in t_in known in
-      let still : 0 < number_of b s t = omega (arith, same, known) in
+      let same : pair_number b s t ≡ pair_number a s t = one.kept s t s_in t_in known in
+      let still : 0 < pair_number b s t = omega (arith, same, known) in
       two.kept s t (inside s s_in) (inside t t_in) still ∙ same;
   only = λ s t s_in t_in known. elim (two.only s t (inside s s_in) (inside t t_in) known) [
     | inl before ↦ elim (one.only s t s_in t_in before) [
@@ -82,14 +82,14 @@ same_pair a b s t =
       | inr other ↦ inr (λ both. other both.0)
     ]
 
-pub strikes-one : (n s t : ℕ) (m : Marked) → 0 < n → s < m.states → t < m.states → length m.cells ≡ m.states * m.states → number_of m s t ≡ 0 → Strikes n (λ a b. (a ≡ s) × (b ≡ t)) m (struck n s t m)
+pub strikes-one : (n s t : ℕ) (m : Marked) → 0 < n → s < m.states → t < m.states → length m.cells ≡ m.states * m.states → pair_number m s t ≡ 0 → Strikes n (λ a b. (a ≡ s) × (b ≡ t)) m (struck n s t m)
 strikes-one n s t m some s_in t_in whole none = record {
   states = refl;
-  all = λ a b a_in b_in both. let at : number_of (struck n s t m) a b ≡ n = here a b both.0 both.1 in omega (arith, at, some);
-  kept = λ a b a_in b_in known. elsewhere a b b_in (λ both. let same : number_of m a b ≡ 0 = rw (both.0, both.1) none in omega (arith, same, known));
+  all = λ a b a_in b_in both. let at : pair_number (struck n s t m) a b ≡ n = here a b both.0 both.1 in omega (arith, at, some);
+  kept = λ a b a_in b_in known. elsewhere a b b_in (λ both. let same : pair_number m a b ≡ 0 = rw (both.0, both.1) none in omega (arith, same, known));
   only = λ a b a_in b_in known. elim (same_pair a b s t) [
     | inl both ↦ inr (record { because = both; at = here a b both.0 both.1; listed = (length m.found, rw (both.0, both.1) (found-last m.found (s, t))) })
-    | inr other ↦ let same : number_of (struck n s t m) a b ≡ number_of m a b = elsewhere a b b_in other in inl (omega (arith, same, known))
+    | inr other ↦ let same : pair_number (struck n s t m) a b ≡ pair_number m a b = elsewhere a b b_in other in inl (omega (arith, same, known))
   ];
   still = λ a b there. (there.0, found-front m.found ((s, t) ∷ []) there.0 (a, b) there.1);
   found = λ a b there. elim (cases-more m.found (s, t) there.0 (a, b) there.1) [
@@ -97,7 +97,7 @@ strikes-one n s t m some s_in t_in whole none = record {
     | inr new ↦
         let first : a ≡ s = ap (λ (p : ℕ × ℕ). p.0) (sym new.1) in
         let second : b ≡ t = ap (λ (p : ℕ × ℕ). p.1) (sym new.1) in
-        let at : number_of (struck n s t m) a b ≡ n = here a b first second in
+        let at : pair_number (struck n s t m) a b ≡ n = here a b first second in
         inr (record { first = omega (arith, first, s_in); second = omega (arith, second, t_in); known = omega (arith, at, some) })
   ];
   counted =
@@ -110,10 +110,10 @@ strikes-one n s t m some s_in t_in whole none = record {
     fits : s * m.states + t < length m.cells
     fits = omega (arith, whole, mul-add-lt s m.states t m.states s_in t_in)
 
-    here : (a b : ℕ) → a ≡ s → b ≡ t → number_of (struck n s t m) a b ≡ n
+    here : (a b : ℕ) → a ≡ s → b ≡ t → pair_number (struck n s t m) a b ≡ n
     here a b first second = rw (first, second) (get_or-set_same m.cells (s * m.states + t) n 0 fits)
 
-    elsewhere : (a b : ℕ) → b < m.states → ((a ≡ s) × (b ≡ t) → ⊥) → number_of (struck n s t m) a b ≡ number_of m a b
+    elsewhere : (a b : ℕ) → b < m.states → ((a ≡ s) × (b ≡ t) → ⊥) → pair_number (struck n s t m) a b ≡ pair_number m a b
     elsewhere a b b_in other = get_or-set_other m.cells (s * m.states + t) (a * m.states + b) n 0 (λ e. other (same_from_place a b s t m.states b_in t_in e))
 
 -- the same of what is shown

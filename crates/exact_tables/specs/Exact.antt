@@ -5,7 +5,7 @@ use Rattle.type_table.specs.ConflictTable.{conflicts}
 use Rattle.type_table.specs.Run.{Looks}
 use Rattle.type_table.specs.StateSet.{has, IsClosed}
 use Rattle.type_table.specs.Table.{Table, IsTable}
-use Rattle.type_text.specs.declared.type_file.TypeFile.{TypeFile}
+use Rattle.declared_types.specs.declared.type_file.TypeFile.{TypeFile}
 use Rattle.table_checker.specs.Condition.{fails_in_set, AreInside}
 use Rattle.table_checker.specs.declared.condition.Condition.{Condition}
 

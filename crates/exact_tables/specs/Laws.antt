@@ -6,7 +6,7 @@ use Rattle.type_table.specs.ConflictTable.{conflicts}
 use Rattle.type_table.specs.StateSet.{has}
 use Rattle.type_table.specs.Table.{Table, IsTable}
 use Rattle.type_table.specs.declared.table_kind.TableKind.{TableKind}
-use Rattle.type_text.specs.declared.type_file.TypeFile.{TypeFile}
+use Rattle.declared_types.specs.declared.type_file.TypeFile.{TypeFile}
 use Rattle.table_checker.specs.Checked.{condition_of, strong_condition_of}
 use Rattle.exact_tables.specs.Exact.{IsExact, IsExactFile, HasFailing, AreFailing, HasPairsOf}
 

@@ -13,8 +13,8 @@ abbrev pub IsAmongFirst : List ℕ → ℕ → ℕ → Type 0
 IsAmongFirst xs n x = (place : ℕ) × (place < n) × (slice_get xs place ≡ Some x)
 
 -- what lists of numbers hold
-abbrev pub items_of : List (Vec ℕ Global) → List (List ℕ)
-items_of lists = map (λ (list : Vec ℕ Global). list.items) lists
+abbrev pub lists_of : List (Vec ℕ Global) → List (List ℕ)
+lists_of lists = map (λ (list : Vec ℕ Global). list.items) lists
 
 -- there is a list for each state and operation, with the states from which the operation leads to the state; so far of these steps alone
 pub record HaveSteps (T : Table) (P : ℕ → ℕ → Type 0) (lists : List (List ℕ)) : Type 0 where
@@ -25,4 +25,4 @@ pub record HaveSteps (T : Table) (P : ℕ → ℕ → Type 0) (lists : List (Lis
 pub record ArePredecessors (T : Table) (p : Predecessors) : Type 0 where
   pub table : IsTable T
   pub ops : p.ops ≡ length T.ops
-  pub steps : HaveSteps T (λ s k. s < T.states) (items_of p.lists.items)
+  pub steps : HaveSteps T (λ s k. s < T.states) (lists_of p.lists.items)

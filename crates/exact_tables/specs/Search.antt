@@ -10,16 +10,16 @@ pub record Marked : Type 0 where
   pub found : List (ℕ × ℕ)
 
 -- the number of s and t
-abbrev pub number_of : Marked → ℕ → ℕ → ℕ
-number_of m s t = slice_index_or m.cells (s * m.states + t) 0
+abbrev pub pair_number : Marked → ℕ → ℕ → ℕ
+pair_number m s t = slice_index_or m.cells (s * m.states + t) 0
 
 -- the pair was given a number in this round
 abbrev pub IsFound : Marked → ℕ → ℕ → Type 0
 IsFound m s t = (place : ℕ) × (slice_get m.found place ≡ Some (s, t))
 
 -- no number is known
-abbrev pub unmarked : ℕ → Marked
-unmarked states = record { states = states; cells = replicate (states * states) 0; found = [] }
+abbrev pub none_marked : ℕ → Marked
+none_marked states = record { states = states; cells = replicate (states * states) 0; found = [] }
 
 -- the pairs that were found are taken out
 abbrev pub taken : Marked → Marked
@@ -32,25 +32,25 @@ unknown m = count_by (λ n. n == 0) m.cells
 -- ---- giving numbers
 
 -- the pair has a number
-pub record IsKnown (m : Marked) (s t : ℕ) : Type 0 where
+pub record HasPairNumber (m : Marked) (s t : ℕ) : Type 0 where
   pub first : s < m.states
   pub second : t < m.states
-  pub known : 0 < number_of m s t
+  pub known : 0 < pair_number m s t
 
 -- the pair is one of these, its number is n, and it was found in this round
 pub record IsStruck (n : ℕ) (P : ℕ → ℕ → Type 0) (m : Marked) (s t : ℕ) : Type 0 where
   pub because : P s t
-  pub at : number_of m s t ≡ n
+  pub at : pair_number m s t ≡ n
   pub listed : IsFound m s t
 
 -- each of these pairs that had no number is given n, and nothing else changes
 pub record Strikes (n : ℕ) (P : ℕ → ℕ → Type 0) (old new : Marked) : Type 0 where
   pub states : new.states ≡ old.states
-  pub all : (s t : ℕ) → s < old.states → t < old.states → P s t → 0 < number_of new s t
-  pub kept : (s t : ℕ) → s < old.states → t < old.states → 0 < number_of old s t → number_of new s t ≡ number_of old s t
-  pub only : (s t : ℕ) → s < old.states → t < old.states → 0 < number_of new s t → (0 < number_of old s t) ⊎ IsStruck n P new s t
+  pub all : (s t : ℕ) → s < old.states → t < old.states → P s t → 0 < pair_number new s t
+  pub kept : (s t : ℕ) → s < old.states → t < old.states → 0 < pair_number old s t → pair_number new s t ≡ pair_number old s t
+  pub only : (s t : ℕ) → s < old.states → t < old.states → 0 < pair_number new s t → (0 < pair_number old s t) ⊎ IsStruck n P new s t
   pub still : (s t : ℕ) → IsFound old s t → IsFound new s t
-  pub found : (s t : ℕ) → IsFound new s t → IsFound old s t ⊎ IsKnown new s t
+  pub found : (s t : ℕ) → IsFound new s t → IsFound old s t ⊎ HasPairNumber new s t
   pub counted : length new.found + unknown new ≡ length old.found + unknown old
 
 -- ---- rounds
@@ -79,11 +79,11 @@ pub record LeadsAmong (T : Table) (pairs : List (ℕ × ℕ)) (n s t : ℕ) : Ty
 -- those of n were found in the last round
 pub record AfterRounds (T : Table) (n : ℕ) (m : Marked) : Type 0 where
   pub states : m.states ≡ T.states
-  pub told : (s t : ℕ) → s < T.states → t < T.states → 0 < number_of m s t → IsLeastLength T (Some s) (Some t) (number_of m s t)
-  pub within : (s t : ℕ) → s < T.states → t < T.states → number_of m s t ≤ n
-  pub untold : (s t : ℕ) → s < T.states → t < T.states → number_of m s t ≡ 0 → (v : List ℕ) → Tells T (Some s) (Some t) v → n < length v
-  pub listed : (s t : ℕ) → s < T.states → t < T.states → number_of m s t ≡ n → IsFound m s t
-  pub found : (s t : ℕ) → IsFound m s t → IsKnown m s t
+  pub told : (s t : ℕ) → s < T.states → t < T.states → 0 < pair_number m s t → IsLeastLength T (Some s) (Some t) (pair_number m s t)
+  pub within : (s t : ℕ) → s < T.states → t < T.states → pair_number m s t ≤ n
+  pub untold : (s t : ℕ) → s < T.states → t < T.states → pair_number m s t ≡ 0 → (v : List ℕ) → Tells T (Some s) (Some t) v → n < length v
+  pub listed : (s t : ℕ) → s < T.states → t < T.states → pair_number m s t ≡ n → IsFound m s t
+  pub found : (s t : ℕ) → IsFound m s t → HasPairNumber m s t
 
 -- the rounds are over: none was found in the last one
 pub record IsOver (T : Table) (m : Marked) : Type 0 where

@@ -1,6 +1,6 @@
 ghost use Rattle.std.specs.Prelude.{◌≡◌, ◌↔◌, ◌+◌, ◌<◌, ◌++◌, ◌∷◌, [], ℕ, All, IfOk, OnOk, Some, length, set, slice_index_or};
 ghost use Rattle.type_table.specs.Table.{next};
-ghost use Rattle.exact_tables.specs.Predecessors.{ArePredecessors, HaveSteps, IsAmong, items_of};
+ghost use Rattle.exact_tables.specs.Predecessors.{ArePredecessors, HaveSteps, IsAmong, lists_of};
 
 use std::alloc::{AllocError, Global};
 use type_table::{TypeTable, steps_within};
@@ -42,7 +42,7 @@ impl Predecessors {
 
 /// An empty list for each state and operation.
 fn empty_lists(alloc: Global, table: &TypeTable) -> Result<Vec<Vec<u16>>, AllocError>
-    ensures { IfOk result (λ lists. HaveSteps table.now (λ _ _. ⊥) (items_of lists.items)) }
+    ensures { IfOk result (λ lists. HaveSteps table.now (λ _ _. ⊥) (lists_of lists.items)) }
 {
     let mut lists = Vec::new(alloc);
     for _ in 0..table.states() as usize * table.op_count() as usize {
@@ -53,9 +53,9 @@ fn empty_lists(alloc: Global, table: &TypeTable) -> Result<Vec<Vec<u16>>, AllocE
 
 /// Puts a state into the list of each operation that is legal in it.
 fn put_state(table: &TypeTable, lists: &mut [Vec<u16>], s: u16) -> Result<(), AllocError>
-    requires lists { HaveSteps table.now (λ a _. a < s) (items_of lists.old) }
+    requires lists { HaveSteps table.now (λ a _. a < s) (lists_of lists.old) }
     requires state { s < table.now.states }
-    ensures { OnOk result (HaveSteps table.now (λ a _. a < s + 1) (items_of lists.new)) }
+    ensures { OnOk result (HaveSteps table.now (λ a _. a < s + 1) (lists_of lists.new)) }
 {
     let ops = table.op_count();
     for k in 0..ops {
@@ -66,11 +66,11 @@ fn put_state(table: &TypeTable, lists: &mut [Vec<u16>], s: u16) -> Result<(), Al
     Ok(())
 }
 
-/// Puts a state into the list at a place.
-fn put(lists: &mut [Vec<u16>], place: usize, s: u16) -> Result<(), AllocError>
-    requires { place < length lists.old }
-    ensures { OnOk result (items_of lists.new ≡ set (items_of lists.old) place (slice_index_or (items_of lists.old) place [] ++ s ∷ [])) }
+/// Puts a state into the list at a position.
+fn put(lists: &mut [Vec<u16>], position: usize, s: u16) -> Result<(), AllocError>
+    requires { position < length lists.old }
+    ensures { OnOk result (lists_of lists.new ≡ set (lists_of lists.old) position (slice_index_or (lists_of lists.old) position [] ++ s ∷ [])) }
 {
-    lists[place].push(s)?;
+    lists[position].push(s)?;
     Ok(())
 }

@@ -86,8 +86,8 @@ fn next_round(
     ensures { OnOk result (Strikes n (LeadsAmong table.now search.old.found (length search.old.found)) (taken search.old) search.new) }
 {
     let before = search.take_found(alloc);
-    for place in 0..before.len() {
-        let pair = before[place];
+    for position in 0..before.len() {
+        let pair = before[position];
         strike_before(table, predecessors, search, pair.0, pair.1, n)?;
     }
     Ok(())

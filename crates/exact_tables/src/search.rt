@@ -26,11 +26,11 @@ impl Model for Search {
 }
 
 impl Search {
-    ghost use Rattle.exact_tables.specs.Search.{Strikes, unmarked, taken};
+    ghost use Rattle.exact_tables.specs.Search.{Strikes, none_marked, taken};
 
     /// No number is known.
     pub fn new(alloc: Global, states: u16) -> Result<Search, AllocError>
-        ensures { IfOk result (λ m. m ≡ unmarked states) }
+        ensures { IfOk result (λ m. m ≡ none_marked states) }
     {
         let cells = vec![in alloc; 0u32; states as usize * states as usize]?;
         let found = Vec::new(alloc);

@@ -5,7 +5,7 @@ use Rattle.type_table.specs.Table.{Table}
 use Rattle.type_table.specs.Laws.{RunsAlong}
 use Rattle.object_trait.specs.declared.event.Event.{Event}
 use Rattle.serial_order.specs.History.{commits, summary, ContinuesHistory, AllContinue}
-use Rattle.history_audit.specs.Audit.{LeadsTo, IsFirstBad, ComesBefore, IsFirstIllegal}
+use Rattle.history_audit.specs.Audit.{LeadToStates, IsFirstBad, ComesBefore, IsFirstIllegal}
 use Rattle.history_audit.specs.Laws.{AuditsAgree, AlikeIsWritten}
 use Rattle.history_audit.specs.Text.{audit_text}
 use Rattle.history_audit.specs.declared.outcome.AuditFault.{AuditFault}
@@ -29,7 +29,7 @@ same-list (t ∷ ts) (x ∷ xs) (y ∷ ys) first second same =
 
 -- ---- a yes
 
-finals-agree : (tables : List Table) (H : List Event) (ts finals other : List ℕ) → LeadsTo tables H ts finals → LeadsTo tables H ts other → finals ≡ other
+finals-agree : (tables : List Table) (H : List Event) (ts finals other : List ℕ) → LeadToStates tables H ts finals → LeadToStates tables H ts other → finals ≡ other
 finals-agree tables H ts finals other one two =
     same-list tables finals other one.as_many two.as_many (λ x T s u at here there. same_Some s u (sym (one.states x T s at here) ∙ two.states x T u at there))
 

@@ -14,11 +14,11 @@ use Rattle.serial_order.specs.History.{Summary, summary, commits, committed_by, 
 use Rattle.serial_order.specs.After.{summary_next, SummaryAfter}
 use Rattle.serial_order.specs.Held.{OwnAfter}
 use Rattle.history_audit.specs.Judged.{IsHanded, StopsJudge, committed_as}
-use Rattle.history_audit.specs.Rows.{plain, operations_of}
+use Rattle.history_audit.specs.Rows.{executed_of, operations_of}
 use Rattle.history_audit.specs.declared.committed.Committed.{Committed}
 use Rattle.history_audit.specs.Audit.{Audits}
 use Rattle.history_audit.specs.Replay.{AreStates}
-use Rattle.history_audit.specs.SerialRun.{AreInitial, IsRunOf, RunsTo, ReplaysFrom}
+use Rattle.history_audit.specs.SerialRun.{AreInitial, IsSerialRunOf, RunsTo, ReplaysFrom}
 use Rattle.history_audit.specs.Auditor.{IsAuditing}
 use Rattle.history_audit.specs.declared.auditor.Auditor.{Auditor}
 use Rattle.history_audit.specs.declared.serial_run.Illegal.{Illegal}
@@ -31,7 +31,7 @@ use Rattle.history_audit.proofs.Kept.{KeepsCommitted, keeps-committed, run-kept}
 
 -- ---- before the first event
 
-pub nothing-run : (tables : List Table) (H : List Event) (r : SerialRun) → AreInitial tables r.states.items → r.order.items ≡ [] → r.illegal ≡ None → IsRunOf tables H [] r
+pub nothing-run : (tables : List Table) (H : List Event) (r : SerialRun) → AreInitial tables r.states.items → r.order.items ≡ [] → r.illegal ≡ None → IsSerialRunOf tables H [] r
 nothing-run tables H r initial order illegal = record {
   ready = initial.ready;
   order = λ none. order;
@@ -70,12 +70,12 @@ module _ (summary_after : SummaryAfter) (own_after : OwnAfter) (tables : List Ta
       subst P (sym (take-found events at handed.event handed.here)) (keeps-committed summary_after own_after tables (take at events) handed.event handed.may)
 
   -- it commits none
-  pub other-run : (r : SerialRun) → IsRunOf tables (take at events) (commits (take at events)) r → IsHanded tables events at None
-      → IsRunOf tables (take (at + 1) events) (commits (take (at + 1) events)) r
+  pub other-run : (r : SerialRun) → IsSerialRunOf tables (take at events) (commits (take at events)) r → IsHanded tables events at None
+      → IsSerialRunOf tables (take (at + 1) events) (commits (take (at + 1) events)) r
   other-run r known handed =
       let kept = kept-at None handed in
       let none = none-of handed.event.kind (summary (take at events)) handed.is in
-      let P : List ℕ → Type 0 = λ ts. IsRunOf tables (take (at + 1) events) ts r in
+      let P : List ℕ → Type 0 = λ ts. IsSerialRunOf tables (take (at + 1) events) ts r in
       subst P (sym (kept.commits_are ∙ ap (λ more. commits (take at events) ++ more) none ∙ append-nil (commits (take at events))))
       (run-kept (take at events) (take (at + 1) events) (committed_by handed.event.kind) kept tables r known)
 
@@ -85,16 +85,16 @@ module _ (summary_after : SummaryAfter) (own_after : OwnAfter) (tables : List Ta
       let (is, are) = commit-of handed.event.kind (summary (take at events)) done handed.is in
       let same : surviving (take at events ++ handed.event ∷ []) ≡ surviving (take at events) =
       ap (λ (s : Summary). s.survives) (summary_after (take at events) handed.event) ∙ ap (λ happened. (summary_next (summary (take at events)) happened).survives) is in
-      are ∙ ap (λ V. map plain (of done.number V)) (sym same ∙ ap surviving (sym (take-found events at handed.event handed.here)))
+      are ∙ ap (λ V. map executed_of (of done.number V)) (sym same ∙ ap surviving (sym (take-found events at handed.event handed.here)))
 
   -- which is run behind the others
-  pub commit-run : RunsAlong → (done : Committed) (old new : SerialRun) → IsRunOf tables (take at events) (commits (take at events)) old → IsHanded tables events at (Some done)
+  pub commit-run : RunsAlong → (done : Committed) (old new : SerialRun) → IsSerialRunOf tables (take at events) (commits (take at events)) old → IsHanded tables events at (Some done)
       → AreStates tables new.states.items → ReplaysFrom old.illegal tables done.number done.operations old new
-      → IsRunOf tables (take (at + 1) events) (commits (take (at + 1) events)) new
+      → IsSerialRunOf tables (take (at + 1) events) (commits (take (at + 1) events)) new
   commit-run along done old new known handed ready replays =
       let kept = kept-at (Some done) handed in
       let (is, are) = commit-of handed.event.kind (summary (take at events)) done handed.is in
-      let P : List ℕ → Type 0 = λ ts. IsRunOf tables (take (at + 1) events) ts new in
+      let P : List ℕ → Type 0 = λ ts. IsSerialRunOf tables (take (at + 1) events) ts new in
       subst P (sym (kept.commits_are ∙ ap (λ happened. commits (take at events) ++ committed_by happened) is))
       (run-taken along tables (take (at + 1) events) (commits (take at events)) done.number done.operations (lives-on done handed) old new
       (run-kept (take at events) (take (at + 1) events) (committed_by handed.event.kind) kept tables old known) ready replays)

@@ -6,7 +6,7 @@ use Rattle.std.proofs.lemmas.Option.{none-some, same_Some}
 use Rattle.type_table.specs.Table.{Table}
 use Rattle.object_trait.specs.declared.event.Event.{Event}
 use Rattle.history_audit.specs.Audit.{Audits}
-use Rattle.history_audit.specs.Epochs.{tables_at, tables_after, AreAudits, HasFault, AuditsEpochs}
+use Rattle.history_audit.specs.Epochs.{tables_at, tables_after, AreAudits, HasEpochFault, AuditsEpochs}
 use Rattle.history_audit.specs.declared.outcome.Audit.{Audit}
 use Rattle.history_audit.specs.declared.outcome.AuditFault.{AuditFault}
 use Rattle.history_audit.specs.declared.outcome.AuditFault.TheVariants.{BadEvent, IllegalOp, NoMemory}
@@ -32,7 +32,7 @@ tables-more tables (b ∷ audits) a = tables-more (tables_at tables b.finals.ite
 
 -- or it is the first that has none
 pub first-fault : (tables : List Table) (Hs : List (List Event)) (n : ℕ) (audits : List Audit) (H : List Event) (fault : AuditFault) → AreAudits tables (take n Hs) audits
-    → slice_get Hs n ≡ Some H → Audits (tables_after tables audits) H (Err fault) → HasFault tables Hs n fault
+    → slice_get Hs n ≡ Some H → Audits (tables_after tables audits) H (Err fault) → HasEpochFault tables Hs n fault
 first-fault tables Hs n audits H NoMemory before at its = tt
 first-fault tables Hs n audits H (BadEvent place) before at its = record { audits = audits; history = H; before = before; there = at; faulty = its }
 first-fault tables Hs n audits H (IllegalOp i x j) before at its = record { audits = audits; history = H; before = before; there = at; faulty = its }
@@ -42,5 +42,5 @@ pub faults-at : (tables begun : List Table) (Hs : List (List Event)) (n : ℕ) (
     → AuditsEpochs tables Hs result
 faults-at tables begun Hs n audits H f (Ok them) is place before are its at = absurd is
 faults-at tables begun Hs n audits H f (Err g) is place before are its at =
-    subst (λ h. HasFault tables Hs h.epoch h.fault) (sym is)
-    (subst (λ m. HasFault tables Hs m f.fault) (sym place) (first-fault tables Hs n audits H f.fault before at (subst (λ them. Audits them H (Err f.fault)) are its)))
+    subst (λ h. HasEpochFault tables Hs h.epoch h.fault) (sym is)
+    (subst (λ m. HasEpochFault tables Hs m f.fault) (sym place) (first-fault tables Hs n audits H f.fault before at (subst (λ them. Audits them H (Err f.fault)) are its)))

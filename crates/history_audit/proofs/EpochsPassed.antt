@@ -14,14 +14,14 @@ use Rattle.object_trait.specs.declared.event.EventKind.{EventKind}
 use Rattle.object_trait.specs.declared.event.EventKind.TheVariants as kind
 use Rattle.object_trait.specs.declared.event.EventKind.TheVariants.{Begin, Op, Busy, Commit, Abort, Rollback}
 use Rattle.serial_order.specs.Operations.{ops}
-use Rattle.serial_order.specs.History.{Summary, summary, IsOperation, IsPlace, ContinuesHistory, AllContinue, IsHistory}
+use Rattle.serial_order.specs.History.{Summary, summary, IsOperation, IsOperationPlace, ContinuesHistory, AllContinue, IsHistory}
 use Rattle.serial_order.specs.Laws.{AreChecked, RunIsHistory}
 use Rattle.serial_order.specs.Serial.{serial_at}
 use Rattle.serial_order.specs.Epochs.{AreEpochs, Epoch, EpochsAreSerial, types_after, types_at}
 use Rattle.serial_order.specs.Epochs as epochs
 use Rattle.serial_order.proofs.EpochTypes.{length-types_at}
 use Rattle.history_audit.specs.Laws.{tables_of}
-use Rattle.history_audit.specs.Epochs.{AreHistories, AreSerialOver, EpochsDecide, EpochsPass, PassEpochs, serial_over}
+use Rattle.history_audit.specs.Epochs.{AreHistories, AreSerialOver, EpochsDecide, EpochsPass, PassEpochs, serial_over_histories}
 use Rattle.history_audit.specs.declared.outcome.Audit.{Audit}
 use Rattle.history_audit.specs.declared.outcome.AuditFault.{AuditFault}
 use Rattle.history_audit.specs.declared.outcome.AuditFault.TheVariants.{BadEvent, IllegalOp, NoMemory}
@@ -54,8 +54,8 @@ there-before P none same (c ∷ types) (s ∷ kept) (suc x) there = there-before
 operation-before : (types : List Checked) (kept : List ℕ) (x k : ℕ) → IsOperation (slice_get (tables (types_at types kept)) x) k → IsOperation (slice_get (tables types) x) k
 operation-before types kept x k there = there-before (λ table. IsOperation table k) (λ none. none) (λ T s here. here) types kept x there
 
-place-before : (types : List Checked) (kept : List ℕ) (x place : ℕ) → IsPlace (slice_get (tables (types_at types kept)) x) place → IsPlace (slice_get (tables types) x) place
-place-before types kept x place there = there-before (λ table. IsPlace table place) (λ none. none) (λ T s here. here) types kept x there
+place-before : (types : List Checked) (kept : List ℕ) (x place : ℕ) → IsOperationPlace (slice_get (tables (types_at types kept)) x) place → IsOperationPlace (slice_get (tables types) x) place
+place-before types kept x place there = there-before (λ table. IsOperationPlace table place) (λ none. none) (λ T s here. here) types kept x there
 
 -- so what may come next at these may come next at those
 event-before : (types : List Checked) (kept : List ℕ) (s : Summary) (e : EventKind) → ContinuesHistory (tables (types_at types kept)) s e → ContinuesHistory (tables types) s e
@@ -85,7 +85,7 @@ epoch-histories runs types (e ∷ es) are = (
 -- ---- the serial order
 
 -- it is that of the epochs
-same-serial : (x : ℕ) (es : List Epoch) → epochs.serial_over x es ≡ serial_over x (histories es)
+same-serial : (x : ℕ) (es : List Epoch) → epochs.serial_over x es ≡ serial_over_histories x (histories es)
 same-serial x [] = refl
 same-serial x (e ∷ es) = ap (λ them. ops (serial_at x e.history) ++ them) (same-serial x es)
 
@@ -103,7 +103,7 @@ epoch-serial : EpochsAreSerial → (types : List Checked) (es : List Epoch) → 
 epoch-serial serial types es checked are whole x T at =
     let (c, there, is) = found-map (λ (c : Checked). c.file.table) types x T at in
     let (last, behind) = there-at_last types es (length types) x c refl whole there in
-    let P : Table → Type 0 = λ U. IsLegal U (Some U.initial) (serial_over x (histories es)) in
+    let P : Table → Type 0 = λ U. IsLegal U (Some U.initial) (serial_over_histories x (histories es)) in
     subst P is (subst (IsLegal c.file.table (Some c.file.table.initial)) (same-serial x es) (serial types es checked are x c last there behind).0.legal)
 
 -- ---- the audit

@@ -10,9 +10,9 @@ use Rattle.serial_order.specs.Operations.{is_among}
 use Rattle.serial_order.specs.History.{commits, committed_by, is_begin, summary}
 use Rattle.serial_order.specs.After.{SummaryAfter}
 use Rattle.serial_order.specs.Held.{OwnAfter}
-use Rattle.history_audit.specs.Commits.{AreCommits, IsCommit, numbers}
+use Rattle.history_audit.specs.Commits.{AreCommits, IsCommittedOf, numbers}
 use Rattle.history_audit.specs.Judged.{IsJudged, IsHanded}
-use Rattle.history_audit.specs.Rows.{plain, operations_of}
+use Rattle.history_audit.specs.Rows.{executed_of, operations_of}
 use Rattle.history_audit.specs.Replay.{AreOperations}
 use Rattle.history_audit.specs.declared.committed.Committed.{Committed}
 use Rattle.history_audit.specs.declared.executed.Executed.{Executed}
@@ -32,9 +32,9 @@ module _ (summary_after : SummaryAfter) (own_after : OwnAfter) (tables : List Ta
   own-on what handed u is =
       ap (λ H. operations_of u (summary H)) (take-found events at handed.event handed.here)
       ∙ ap (operations_of u) (summary_after (take at events) handed.event)
-      ∙ ap (map plain) (same-own own_after tables (summary (take at events)) handed.event.kind u handed.may is)
+      ∙ ap (map executed_of) (same-own own_after tables (summary (take at events)) handed.event.kind u handed.may is)
 
-  each-on : (what : Option Committed) → IsHanded tables events at what → (n : ℕ) (c : Committed) → slice_get them n ≡ Some c → IsCommit tables (take (at + 1) events) c
+  each-on : (what : Option Committed) → IsHanded tables events at what → (n : ℕ) (c : Committed) → slice_get them n ≡ Some c → IsCommittedOf tables (take (at + 1) events) c
   each-on what handed n c there = record {
     are = (known.each n c there).are ∙ sym (own-on what handed c.number (number-among tables (take at events) them n c known there));
     there = (known.each n c there).there;
@@ -61,7 +61,7 @@ module _ (summary_after : SummaryAfter) (own_after : OwnAfter) (tables : List Ta
             ∙ sym (kept.commits_are ∙ ap (λ happened. commits (take at events) ++ committed_by happened) is);
         each = λ n c there. elim (cases-more them done n c there) [
           | inl before ↦ each-on (Some done) handed n c before
-          | inr (here, same) ↦ subst (IsCommit tables (take (at + 1) events)) same (record { are = lives-on summary_after own_after tables events at done handed; there = handed.there })
+          | inr (here, same) ↦ subst (IsCommittedOf tables (take (at + 1) events)) same (record { are = lives-on summary_after own_after tables events at done handed; there = handed.there })
         ];
       }
 

@@ -11,17 +11,17 @@ use Rattle.open_transactions.specs.Transactions as table
 use Rattle.open_transactions.specs.Transactions.{row}
 use Rattle.open_transactions.proofs.InSlots.{open-began}
 use Rattle.serial_order.specs.Operations.{of}
-use Rattle.serial_order.specs.History.{Summary, summary, is_open, IsOperation, IsPlace, ContinuesHistory}
+use Rattle.serial_order.specs.History.{Summary, summary, is_open, IsOperation, IsOperationPlace, ContinuesHistory}
 use Rattle.history_audit.specs.declared.event_fault.EventFault.{EventFault}
 use Rattle.history_audit.specs.declared.event_fault.EventFault.TheVariants.{Bad}
 use Rattle.history_audit.specs.declared.executed.Executed.{Executed}
-use Rattle.history_audit.specs.Rows.{plain, operations_of, AreRows, committed_in}
+use Rattle.history_audit.specs.Rows.{executed_of, operations_of, AreRowsOf, committed_in}
 use Rattle.history_audit.specs.Moves.{RowsMove, MovedRowsAgree}
 use Rattle.history_audit.specs.Slots.{its_of}
 use Rattle.history_audit.specs.Judges.{Judges, Takes, handed}
 
 -- the row of an open transaction is that of its operations
-pub there : (rows shown : List (Option (List Executed))) (t : ℕ) → rows ≡ shown → table.is_open rows t ≡ true → slice_get shown t ≡ Some (Some (its_of (row rows t)))
+pub there : (rows shown : List (Option (List Executed))) (t : ℕ) → rows ≡ shown → table.has_row rows t ≡ true → slice_get shown t ≡ Some (Some (its_of (row rows t)))
 there rows shown t shown_is opened =
     ap (λ rs. slice_get rs t) (sym shown_is) ∙ slice_get-get_or rows t None (open-began rows t opened) ∙ ap Some (some_row (row rows t) opened)
   where
@@ -31,7 +31,7 @@ there rows shown t shown_is opened =
 
 -- ---- one row that agrees with what is seen
 
-module _ (rows : List (Option (List Executed))) (s : Summary) (t : ℕ) (known : AreRows rows s) where
+module _ (rows : List (Option (List Executed))) (s : Summary) (t : ℕ) (known : AreRowsOf rows s) where
   -- a transaction with a row is open
   opened : (its : List Executed) → slice_get rows t ≡ Some (Some its) → is_open s t ≡ true
   opened its there = sym (known.each t (Some its) there).going
@@ -42,7 +42,7 @@ module _ (rows : List (Option (List Executed))) (s : Summary) (t : ℕ) (known :
 
   -- as many as there are
   counted : (its : List Executed) → slice_get rows t ≡ Some (Some its) → length its ≡ length (of t s.survives)
-  counted its there = ap length (operations its there) ∙ length-map (of t s.survives) plain
+  counted its there = ap length (operations its there) ∙ length-map (of t s.survives) executed_of
 
   -- one without isn't
   closed : slice_get rows t ≡ Some None → is_open s t ≡ true → ⊥
@@ -52,7 +52,7 @@ module _ (rows : List (Option (List Executed))) (s : Summary) (t : ℕ) (known :
 
 module _ (law : MovedRowsAgree) (tables : List Table) (old new : List (Option (List Executed))) where
   -- what continues the history wherever the rows agree, and moves them as it should
-  taken : (event : EventKind) (its : Option (List Executed)) → ((s : Summary) → AreRows old s → ContinuesHistory tables s event × (its ≡ committed_in event s))
+  taken : (event : EventKind) (its : Option (List Executed)) → ((s : Summary) → AreRowsOf old s → ContinuesHistory tables s event × (its ≡ committed_in event s))
       → RowsMove event old new → Judges tables old event (Ok its) new
   taken event its fits move =
       λ H w known.
@@ -71,10 +71,10 @@ module _ (law : MovedRowsAgree) (tables : List Table) (old new : List (Option (L
     op_taken x k operation becomes =
         (None, taken (Op k t x) None (λ s known. ((opened old s t known its there, operation), refl)) record { its = its; was = there; becomes = becomes })
 
-    pub busy_taken : (c x u : ℕ) → IsPlace (slice_get tables x) c → new ≡ old → Takes tables old (Busy c t x u) (Ok tt) new
+    pub busy_taken : (c x u : ℕ) → IsOperationPlace (slice_get tables x) c → new ≡ old → Takes tables old (Busy c t x u) (Ok tt) new
     busy_taken c x u place same = (None, taken (Busy c t x u) None (λ s known. ((opened old s t known its there, place), refl)) same)
 
-    pub none_taken : (x c : ℕ) → IsPlace (slice_get tables x) c → new ≡ old → Takes tables old (kind.None t x c) (Ok tt) new
+    pub none_taken : (x c : ℕ) → IsOperationPlace (slice_get tables x) c → new ≡ old → Takes tables old (kind.None t x c) (Ok tt) new
     none_taken x c place same = (None, taken (kind.None t x c) None (λ s known. ((opened old s t known its there, place), refl)) same)
 
     pub commit_taken : new ≡ set old t None → Judges tables old (Commit t) (Ok (Some its)) new

@@ -19,7 +19,7 @@ use Rattle.serial_order.specs.After.{summary_next, SummaryAfter}
 use Rattle.serial_order.specs.Held.{OwnAfter}
 use Rattle.serial_order.specs.declared.entry.Entry.{Entry}
 use Rattle.history_audit.specs.Audit.{IsIllegalAt, IsFirstIllegal, serial_up_to}
-use Rattle.history_audit.specs.SerialRun.{IsRunOf, RunsTo}
+use Rattle.history_audit.specs.SerialRun.{IsSerialRunOf, RunsTo}
 use Rattle.history_audit.specs.declared.serial_run.Illegal.{Illegal}
 use Rattle.history_audit.specs.declared.serial_run.SerialRun.{SerialRun}
 use Rattle.history_audit.proofs.Lists.{among-at, among-take, serial-same}
@@ -185,5 +185,5 @@ module _ (H K : List Event) (more : List ℕ) (kept : KeepsCommitted H K more) w
   }
 
   -- they are run as they were
-  pub run-kept : (tables : List Table) (r : SerialRun) → IsRunOf tables H (commits H) r → IsRunOf tables K (commits H) r
+  pub run-kept : (tables : List Table) (r : SerialRun) → IsSerialRunOf tables H (commits H) r → IsSerialRunOf tables K (commits H) r
   run-kept tables r known = record { ready = known.ready; order = known.order; leads = runs-kept tables r.states.items r.illegal known.leads }

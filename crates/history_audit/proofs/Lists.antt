@@ -7,7 +7,7 @@ use Rattle.std.proofs.lemmas.Option.{none-some, same_Some}
 use Rattle.type_table.proofs.Elements.{filter-turned}
 use Rattle.serial_order.specs.Operations.{is_among, ops, at_object, is_by, of, serial}
 use Rattle.serial_order.specs.declared.entry.Entry.{Entry}
-use Rattle.history_audit.specs.Rows.{plain}
+use Rattle.history_audit.specs.Rows.{executed_of}
 use Rattle.history_audit.specs.declared.executed.Executed.{Executed}
 use Rattle.history_audit.specs.Replay.{ops_at}
 
@@ -54,7 +54,7 @@ serial-same (t ∷ C) V W same =
     ∙ ap (λ rest. of t W ++ rest) (serial-same C V W (λ u is. same u (among-rest (t == u) (is_among C u) is)))
 
 -- the operations at an object, without their transactions
-plain-ops : (x : ℕ) (W : List Entry) → ops (at_object x W) ≡ ops_at x (map plain W)
+plain-ops : (x : ℕ) (W : List Entry) → ops (at_object x W) ≡ ops_at x (map executed_of W)
 plain-ops x [] = refl
 plain-ops x (e ∷ W) =
     elim (cases_Bool (e.at == x)) [
@@ -62,7 +62,7 @@ plain-ops x (e ∷ W) =
       | inr isnt ↦ rw isnt (plain-ops x W)
     ]
 
-pub own-ops : (x t : ℕ) (V : List Entry) → ops (of t (at_object x V)) ≡ ops_at x (map plain (of t V))
+pub own-ops : (x t : ℕ) (V : List Entry) → ops (of t (at_object x V)) ≡ ops_at x (map executed_of (of t V))
 own-ops x t V = ap ops (filter-turned (is_by t) (λ e. e.at == x) V) ∙ plain-ops x (of t V)
 
 -- one more operation at the object

@@ -12,7 +12,7 @@ use Rattle.object_trait.specs.declared.event.Event.{Event}
 use Rattle.serial_order.specs.Operations.{is_among}
 use Rattle.serial_order.specs.History.{commits, IsHistory}
 use Rattle.serial_order.proofs.Lists.{is_among-none_more, is_among-one_more, is_among-snoc}
-use Rattle.history_audit.specs.Commits.{ArePlaces, IsPlace, numbers, place_in}
+use Rattle.history_audit.specs.Commits.{AreIndexes, IsIndexOf, numbers, index_in}
 use Rattle.history_audit.specs.InOrder.{AreCommitted, AuditsInOrder, HasAll, IsLeastAbsent, IsMissing, IsNotCommitted, IsTwice, KeepsPrecedes, KeepsPrecedesAt}
 use Rattle.history_audit.specs.OrderTests.{AllMarked, AreDates, AreMarked, IsLeastUnmarked, KeepsDatesAt, RunsInOrder, StopsOrder}
 use Rattle.history_audit.specs.declared.committed.Committed.{Committed}
@@ -46,17 +46,17 @@ number-below them above t below is =
     omega (arith, low, same)
 
 -- a place that is one is of a committed transaction
-pub place-committed : (ts : List ℕ) (t place : ℕ) → IsPlace ts t (Some place) → is_among ts t ≡ true
+pub place-committed : (ts : List ℕ) (t place : ℕ) → IsIndexOf ts t (Some place) → is_among ts t ≡ true
 place-committed ts t place at = among-at ts place t at
 
 -- ---- places
 
-place-more : (ts : List ℕ) (t u : ℕ) (place : Option ℕ) → (t == u) ≡ false → IsPlace ts u place → IsPlace (ts ++ t ∷ []) u place
+place-more : (ts : List ℕ) (t u : ℕ) (place : Option ℕ) → (t == u) ≡ false → IsIndexOf ts u place → IsIndexOf (ts ++ t ∷ []) u place
 place-more ts t u None other known = is_among-none_more ts t u known other
 place-more ts t u (Some q) other known = found-front ts (t ∷ []) q u known
 
 -- a transaction that has a place is one of them
-pub has-place : (ts : List ℕ) (t : ℕ) (place : Option ℕ) → IsPlace ts t place → is_some place ≡ true → is_among ts t ≡ true
+pub has-place : (ts : List ℕ) (t : ℕ) (place : Option ℕ) → IsIndexOf ts t place → is_some place ≡ true → is_among ts t ≡ true
 has-place ts t None at some = absurd (false≢true some)
 has-place ts t (Some q) at some = among-at ts q t at
 
@@ -67,14 +67,14 @@ none-outside (x ∷ xs) zero high = absurd (omega (arith, high))
 none-outside (x ∷ xs) (suc t) high = none-outside xs t (omega (arith, high))
 
 -- one whose number has no place isn't one of them
-pub no-place : (ts : List ℕ) (places read : List (Option ℕ)) (t : ℕ) → ArePlaces ts places → read ≡ places → false ≡ nat_lt t (length read) → is_among ts t ≡ false
+pub no-place : (ts : List ℕ) (places read : List (Option ℕ)) (t : ℕ) → AreIndexes ts places → read ≡ places → false ≡ nat_lt t (length read) → is_among ts t ≡ false
 no-place ts places read t known same outside =
     let gone : slice_get places t ≡ None = none-outside places t (subst (λ (them : List (Option ℕ)). length them ≤ t) same (grind (arith, nat_tests, outside))) in
-    let P : Option (Option ℕ) → Type 0 = λ p. IsPlace ts t (place_in p) in
+    let P : Option (Option ℕ) → Type 0 = λ p. IsIndexOf ts t (index_in p) in
     subst P gone (known t)
 
 -- one more
-pub places-more : (ts : List ℕ) (places : List (Option ℕ)) (n t : ℕ) → ArePlaces (take n ts) places → slice_get ts n ≡ Some t → t < length places → ArePlaces (take (n + 1) ts) (set places t (Some n))
+pub places-more : (ts : List ℕ) (places : List (Option ℕ)) (n t : ℕ) → AreIndexes (take n ts) places → slice_get ts n ≡ Some t → t < length places → AreIndexes (take (n + 1) ts) (set places t (Some n))
 places-more ts places n t known at inside u =
     let more = take-found ts n t at in
     elim (cases_Bool (t == u)) [
@@ -84,13 +84,13 @@ places-more ts places n t known at inside u =
           let many : length (take n ts) ≡ n = length-take n ts ∙ omega (arith, low) in
           let found : slice_get (take (n + 1) ts) n ≡ Some u =
           ap (λ us. slice_get us n) more ∙ ap (slice_get (take n ts ++ t ∷ [])) (sym many) ∙ found-last (take n ts) t ∙ ap Some (eqb-true t u same) in
-          let P : Option (Option ℕ) → Type 0 = λ p. IsPlace (take (n + 1) ts) u (place_in p) in
+          let P : Option (Option ℕ) → Type 0 = λ p. IsIndexOf (take (n + 1) ts) u (index_in p) in
           subst P (sym here) found
       | inr other ↦
           let there = found-set_other places t u (Some n) (λ turned. apart t u other (sym turned)) in
-          let P : Option (Option ℕ) → Type 0 = λ p. IsPlace (take (n + 1) ts) u (place_in p) in
-          let Q : List ℕ → Type 0 = λ us. IsPlace us u (place_in (slice_get places u)) in
-          subst P (sym there) (subst Q (sym more) (place-more (take n ts) t u (place_in (slice_get places u)) other (known u)))
+          let P : Option (Option ℕ) → Type 0 = λ p. IsIndexOf (take (n + 1) ts) u (index_in p) in
+          let Q : List ℕ → Type 0 = λ us. IsIndexOf us u (index_in (slice_get places u)) in
+          subst P (sym there) (subst Q (sym more) (place-more (take n ts) t u (index_in (slice_get places u)) other (known u)))
     ]
 
 -- ---- one more word

@@ -4,18 +4,18 @@ use Rattle.std.proofs.lemmas.Bool.{false≢true}
 use Rattle.std.proofs.lemmas.Option.{none-some}
 use Rattle.type_table.specs.Table.{Table, next, has_op}
 use Rattle.type_table.specs.Run.{run}
-use Rattle.number_text.specs.declared.number_op.NumberOp.{NumberOp}
-use Rattle.number_text.specs.declared.number_op.NumberOp.TheVariants.{Take, Give, Value}
-use Rattle.number_text.specs.Operations.{op_at, number_table, NumberHasTable}
-use Rattle.number_text.specs.Examples.{purse}
-use Rattle.number_text.proofs.Tables.{next_of_op, has_what_is_there}
-use Rattle.number_text.proofs.PurseExamples.{purse_is}
+use Rattle.number_types.specs.declared.number_op.NumberOp.{NumberOp}
+use Rattle.number_types.specs.declared.number_op.NumberOp.TheVariants.{Take, Give, Value}
+use Rattle.number_types.specs.Operations.{op_at, number_table, NumberHasTable}
+use Rattle.number_types.specs.Examples.{purse}
+use Rattle.number_types.proofs.Tables.{next_of_op, has_what_is_there}
+use Rattle.number_types.proofs.PurseExamples.{purse_is}
 use Rattle.object_trait.specs.declared.event.EventKind.TheVariants as kind
 use Rattle.serial_order.specs.Operations.{ops}
 use Rattle.serial_order.specs.History.{commits, IsHistory}
 use Rattle.serial_order.specs.Serial.{serial_at}
 use Rattle.history_audit.specs.Audit.{IsAudit, IsIllegalAt, IsFirstIllegal}
-use Rattle.history_audit.specs.Examples.{one_purse, purse_history, early_history, give_any, take_any, value, IsBadFirst}
+use Rattle.history_audit.specs.Examples.{one_purse, purse_history, early_history, give_any, take_any, purse_value, IsBadFirst}
 use Rattle.history_audit.proofs.Examples.{state-at, none-before}
 
 -- what the purse has an operation for
@@ -36,12 +36,12 @@ step : (s k t : ℕ) (ks : List ℕ) → next (number_table purse) s k ≡ Some 
 step s k t ks leads = ap (λ o. run (number_table purse) o ks) leads
 
 -- 0, 1, 8, 6, 6 and 3
-along : NumberHasTable → run (number_table purse) (Some 0) (give_any 1 ∷ give_any 7 ∷ take_any 2 ∷ value 6 ∷ 0 ∷ []) ≡ Some 3
+along : NumberHasTable → run (number_table purse) (Some 0) (give_any 1 ∷ give_any 7 ∷ take_any 2 ∷ purse_value 6 ∷ 0 ∷ []) ≡ Some 3
 along tables =
-    step 0 (give_any 1) 1 (give_any 7 ∷ take_any 2 ∷ value 6 ∷ 0 ∷ []) (next_of_op tables purse 0 (give_any 1) (Give 1) purse_is refl)
-    ∙ (step 1 (give_any 7) 8 (take_any 2 ∷ value 6 ∷ 0 ∷ []) (next_of_op tables purse 1 (give_any 7) (Give 7) purse_is refl)
-    ∙ (step 8 (take_any 2) 6 (value 6 ∷ 0 ∷ []) (next_of_op tables purse 8 (take_any 2) (Take 2) purse_is refl)
-    ∙ (step 6 (value 6) 6 (0 ∷ []) (next_of_op tables purse 6 (value 6) (Value 6) purse_is refl)
+    step 0 (give_any 1) 1 (give_any 7 ∷ take_any 2 ∷ purse_value 6 ∷ 0 ∷ []) (next_of_op tables purse 0 (give_any 1) (Give 1) purse_is refl)
+    ∙ (step 1 (give_any 7) 8 (take_any 2 ∷ purse_value 6 ∷ 0 ∷ []) (next_of_op tables purse 1 (give_any 7) (Give 7) purse_is refl)
+    ∙ (step 8 (take_any 2) 6 (purse_value 6 ∷ 0 ∷ []) (next_of_op tables purse 8 (take_any 2) (Take 2) purse_is refl)
+    ∙ (step 6 (purse_value 6) 6 (0 ∷ []) (next_of_op tables purse 6 (purse_value 6) (Value 6) purse_is refl)
     ∙ step 6 0 3 [] (next_of_op tables purse 6 0 (Take 3) purse_is refl))))
 
 purse-states : NumberHasTable → (x : ℕ) (T : Table) (s : ℕ) → slice_get one_purse x ≡ Some T → slice_get (3 ∷ []) x ≡ Some s
@@ -67,7 +67,7 @@ purse-is_history = (
             refl,
             (
               refl,
-              (refl, ((refl, has (value 6) (Value 6) refl), ((refl, has 0 (Take 3) refl), (refl, tt)))),
+              (refl, ((refl, has (purse_value 6) (Value 6) refl), ((refl, has 0 (Take 3) refl), (refl, tt)))),
             ),
           ),
         ),

@@ -10,10 +10,10 @@ use Rattle.type_table.specs.Table.{Table, next}
 use Rattle.type_table.specs.Run.{run, next_of}
 use Rattle.type_table.specs.Laws.{RunsAlong}
 use Rattle.type_table.proofs.Elements.{each-found, found-set, found-set_other, take-found}
-use Rattle.table_checker.proofs.TableOps.{op_below}
+use Rattle.declared_types.proofs.TableOps.{op_below}
 use Rattle.serial_order.specs.History.{IsOperation}
 use Rattle.history_audit.specs.declared.executed.Executed.{Executed}
-use Rattle.history_audit.specs.Replay.{ops_at, AreOperations, AreStates, next_by, next_at, is_stopped_at, with_state, stop_by, states_after, stop_after, IsStopped, AreReplayed}
+use Rattle.history_audit.specs.Replay.{ops_at, AreOperations, AreStates, next_by, next_at, is_stopped_at, with_state, stop_by, states_after, stop_after, StopsReplayAt, AreReplayed}
 use Rattle.history_audit.specs.SerialRun.{AreInitial}
 use Rattle.history_audit.specs.declared.replay.Stop.{Stop}
 use Rattle.history_audit.proofs.Lists.{apart, ops_at-here, ops_at-apart}
@@ -124,7 +124,7 @@ module _ (along : RunsAlong) (tables : List Table) (old : List ℕ) (its : List 
           ]
 
   -- it isn't legal
-  illegal : is_stopped_at stop o.x ≡ false → next_at tables states o ≡ None → IsStopped tables old its (record { object = o.x; place = n })
+  illegal : is_stopped_at stop o.x ≡ false → next_at tables states o ≡ None → StopsReplayAt tables old its (record { object = o.x; place = n })
   illegal going moves =
       let (T, table) = table-of (slice_get tables o.x) o.k there in
       let (s, from) = found tables old o.x T begun.as_many table in
@@ -145,7 +145,7 @@ module _ (along : RunsAlong) (tables : List Table) (old : List ℕ) (its : List 
   stops going moves = record {
     states_are = λ x T s table from goes.
         ap (run T (Some s)) (ops-apart x (above o.x x goes)) ∙ known.states_are x T s table from (lower stop o.x x going goes);
-    stopped = λ q is. let P : Stop → Type 0 = λ r. IsStopped tables old its r in subst P (same_Some _ q is) (illegal going moves);
+    stopped = λ q is. let P : Stop → Type 0 = λ r. StopsReplayAt tables old its r in subst P (same_Some _ q is) (illegal going moves);
   }
 
   by_next : (next : Option ℕ) → is_stopped_at stop o.x ≡ false → next_at tables states o ≡ next → AreReplayed tables old its (n + 1) (with_state states o.x next) (stop_by stop n o.x next)

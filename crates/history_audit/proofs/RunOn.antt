@@ -17,9 +17,9 @@ use Rattle.serial_order.specs.Serial.{surviving_at}
 use Rattle.serial_order.specs.declared.entry.Entry.{Entry}
 use Rattle.history_audit.specs.Rows.{operations_of}
 use Rattle.history_audit.specs.declared.executed.Executed.{Executed}
-use Rattle.history_audit.specs.Audit.{LeadsTo, IsIllegalAt, IsFirstIllegal, serial_up_to}
-use Rattle.history_audit.specs.Replay.{ops_at, AreStates, is_stopped_at, IsStopped, AreReplayed}
-use Rattle.history_audit.specs.SerialRun.{IsRunOf, RunsTo, ReplaysFrom, illegal_at}
+use Rattle.history_audit.specs.Audit.{LeadToStates, IsIllegalAt, IsFirstIllegal, serial_up_to}
+use Rattle.history_audit.specs.Replay.{ops_at, AreStates, is_stopped_at, StopsReplayAt, AreReplayed}
+use Rattle.history_audit.specs.SerialRun.{IsSerialRunOf, RunsTo, ReplaysFrom, illegal_at}
 use Rattle.history_audit.specs.declared.serial_run.Illegal.{Illegal}
 use Rattle.history_audit.specs.declared.serial_run.SerialRun.{SerialRun}
 use Rattle.history_audit.specs.declared.replay.Stop.{Stop}
@@ -28,7 +28,7 @@ use Rattle.history_audit.proofs.Lists.{take-and_next, own-ops, ops_at-split}
 use Rattle.history_audit.proofs.Serials.{found, stuck-along, leads-legal, serial-each}
 
 module _ (along : RunsAlong) (tables : List Table) (H : List Event) (ts : List ℕ) (t : ℕ) (its : List Executed) (are : its ≡ operations_of t (summary H))
-    (old : List ℕ) (known : LeadsTo tables H ts old) where
+    (old : List ℕ) (known : LeadToStates tables H ts old) where
   -- the transaction's operations at an object
   own : (x : ℕ) → ops (of t (surviving_at x H)) ≡ ops_at x its
   own x = own-ops x t (surviving H) ∙ ap (ops_at x) (sym are)
@@ -55,7 +55,7 @@ module _ (along : RunsAlong) (tables : List Table) (H : List Event) (ts : List �
 
   -- ---- each operation is legal
 
-  leads-on : (new : List ℕ) → AreStates tables new → AreReplayed tables old its (length its) new None → LeadsTo tables H (ts ++ t ∷ []) new
+  leads-on : (new : List ℕ) → AreStates tables new → AreReplayed tables old its (length its) new None → LeadToStates tables H (ts ++ t ∷ []) new
   leads-on new ready replayed = record {
     as_many = ready.as_many;
     states = λ x T s table now.
@@ -69,7 +69,7 @@ module _ (along : RunsAlong) (tables : List Table) (H : List Event) (ts : List �
 
   -- ---- one isn't
 
-  module _ (new : List ℕ) (ready : AreStates tables new) (q : Stop) (replayed : AreReplayed tables old its (length its) new (Some q)) (stopped : IsStopped tables old its q) where
+  module _ (new : List ℕ) (ready : AreStates tables new) (q : Stop) (replayed : AreReplayed tables old its (length its) new (Some q)) (stopped : StopsReplayAt tables old its q) where
     -- those before it at its object, it, and those behind it
     parts : (rest : List ℕ) × (ops_at q.object its ≡ ops_at q.object (take q.place its) ++ stopped.operation.k ∷ rest)
     parts = ops_at-split q.object its q.place stopped.operation stopped.there (eq-eqb stopped.operation.x q.object stopped.at)
@@ -160,8 +160,8 @@ module _ (along : RunsAlong) (tables : List Table) (H : List Event) (ts : List �
   runs-on new (Some q) ready replayed = committed-illegal new ready q replayed (replayed.stopped q refl)
 
 module _ (along : RunsAlong) (tables : List Table) (H : List Event) (ts : List ℕ) (t : ℕ) (its : List Executed) (are : its ≡ operations_of t (summary H))
-    (old new : SerialRun) (known : IsRunOf tables H ts old) (ready : AreStates tables new.states.items) where
-  taken-from : (illegal : Option Illegal) → old.illegal ≡ illegal → RunsTo tables H ts old.states.items illegal → ReplaysFrom illegal tables t its old new → IsRunOf tables H (ts ++ t ∷ []) new
+    (old new : SerialRun) (known : IsSerialRunOf tables H ts old) (ready : AreStates tables new.states.items) where
+  taken-from : (illegal : Option Illegal) → old.illegal ≡ illegal → RunsTo tables H ts old.states.items illegal → ReplaysFrom illegal tables t its old new → IsSerialRunOf tables H (ts ++ t ∷ []) new
   taken-from None is leads replays =
       let order : old.order.items ≡ ts = known.order is in
       record {
@@ -178,5 +178,5 @@ module _ (along : RunsAlong) (tables : List Table) (H : List Event) (ts : List �
       }
 
   -- one more transaction, behind those before it
-  pub run-taken : ReplaysFrom old.illegal tables t its old new → IsRunOf tables H (ts ++ t ∷ []) new
+  pub run-taken : ReplaysFrom old.illegal tables t its old new → IsSerialRunOf tables H (ts ++ t ∷ []) new
   run-taken replays = taken-from old.illegal refl known.leads replays

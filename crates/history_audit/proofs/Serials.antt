@@ -13,7 +13,7 @@ use Rattle.serial_order.specs.Operations.{ops, of, serial}
 use Rattle.serial_order.specs.History.{summary, ContinuesHistory, AllContinue, IsHistory}
 use Rattle.serial_order.specs.Serial.{surviving_at, serial_at, IsSerial}
 use Rattle.serial_order.specs.declared.entry.Entry.{Entry}
-use Rattle.history_audit.specs.Audit.{LeadsTo, IsFirstBad, IsIllegalAt, AreLegal, AreSerial}
+use Rattle.history_audit.specs.Audit.{LeadToStates, IsFirstBad, IsIllegalAt, AreLegal, AreSerial}
 use Rattle.history_audit.specs.Laws.{tables_of}
 
 -- ---- a yes
@@ -26,7 +26,7 @@ found (z ∷ xs) (b ∷ ys) zero a same at = (b, refl)
 found (z ∷ xs) (b ∷ ys) (suc x) a same at = found xs ys x a (omega (arith, same)) at
 
 -- where an order leads to a state at each object, it is legal there
-pub leads-legal : (tables : List Table) (H : List Event) (ts finals : List ℕ) → LeadsTo tables H ts finals → AreLegal tables H ts
+pub leads-legal : (tables : List Table) (H : List Event) (ts finals : List ℕ) → LeadToStates tables H ts finals → AreLegal tables H ts
 leads-legal tables H ts finals known x T at =
     let (s, there) = found tables finals x T known.as_many at in
     rw (known.states x T s at there) refl

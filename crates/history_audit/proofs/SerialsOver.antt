@@ -11,10 +11,10 @@ use Rattle.object_trait.specs.declared.event.EventKind.{EventKind}
 use Rattle.object_trait.specs.declared.event.EventKind.TheVariants as kind
 use Rattle.object_trait.specs.declared.event.EventKind.TheVariants.{Begin, Op, Busy, Commit, Abort, Rollback}
 use Rattle.serial_order.specs.Operations.{ops}
-use Rattle.serial_order.specs.History.{Summary, commits, summary, IsOperation, IsPlace, ContinuesHistory, AllContinue, IsHistory}
+use Rattle.serial_order.specs.History.{Summary, commits, summary, IsOperation, IsOperationPlace, ContinuesHistory, AllContinue, IsHistory}
 use Rattle.serial_order.specs.Serial.{serial_at}
 use Rattle.history_audit.specs.Audit.{AreSerial}
-use Rattle.history_audit.specs.Epochs.{tables_at, tables_after, AreAudits, HasFault, AuditsEpochs, serial_over, AreSerialOver, AreHistories, YesIsSerialOver, EpochsDecide}
+use Rattle.history_audit.specs.Epochs.{tables_at, tables_after, AreAudits, HasEpochFault, AuditsEpochs, serial_over_histories, AreSerialOver, AreHistories, YesIsSerialOver, EpochsDecide}
 use Rattle.history_audit.specs.declared.outcome.Audit.{Audit}
 use Rattle.history_audit.specs.declared.outcome.AuditFault.{AuditFault}
 use Rattle.history_audit.specs.declared.outcome.AuditFault.TheVariants.{BadEvent, IllegalOp, NoMemory}
@@ -44,8 +44,8 @@ same-at P same (T ∷ tables) (s ∷ states) (suc x) = same-at P same tables sta
 same-operations : (tables : List Table) (states : List ℕ) (x k : ℕ) → IsOperation (slice_get (tables_at tables states) x) k ≡ IsOperation (slice_get tables x) k
 same-operations tables states x k = same-at (λ table. IsOperation table k) (λ T s. refl) tables states x
 
-same-places : (tables : List Table) (states : List ℕ) (x place : ℕ) → IsPlace (slice_get (tables_at tables states) x) place ≡ IsPlace (slice_get tables x) place
-same-places tables states x place = same-at (λ table. IsPlace table place) (λ T s. refl) tables states x
+same-places : (tables : List Table) (states : List ℕ) (x place : ℕ) → IsOperationPlace (slice_get (tables_at tables states) x) place ≡ IsOperationPlace (slice_get tables x) place
+same-places tables states x place = same-at (λ table. IsOperationPlace table place) (λ T s. refl) tables states x
 
 -- and the same events may come next
 same-events : (tables : List Table) (states : List ℕ) (s : Summary) (e : EventKind) → ContinuesHistory (tables_at tables states) s e ≡ ContinuesHistory tables s e
@@ -97,16 +97,16 @@ histories-of tables (H ∷ Hs) [] them = absurd them
 module _ (along : RunsAlong) (alike : RunsAlike) where
   -- where the serial order over all leads
   pub leads : (tables : List Table) (Hs : List (List Event)) (audits : List Audit) → AreAudits tables Hs audits → (x : ℕ) (T : Table) → slice_get tables x ≡ Some T
-      → (s : ℕ) × (run T (Some T.initial) (serial_over x Hs) ≡ Some s) × (slice_get (tables_after tables audits) x ≡ Some (table_at T s))
+      → (s : ℕ) × (run T (Some T.initial) (serial_over_histories x Hs) ≡ Some s) × (slice_get (tables_after tables audits) x ≡ Some (table_at T s))
   leads tables [] [] them x T at = (T.initial, refl, at)
   leads tables (H ∷ Hs) (a ∷ more) them x T at =
       let finals = a.finals.items in
       let (s, there) = found tables finals x T them.0.1.leads.as_many at in
       let (e, runs, behind) = leads (tables_at tables finals) Hs more them.1 x (table_at T s) (at-state tables finals x T s at there) in (
         e,
-        along T (Some T.initial) (ops (serial_at x H)) (serial_over x Hs)
-            ∙ ap (λ from. run T from (serial_over x Hs)) (them.0.1.leads.states x T s at there)
-            ∙ sym (alike T s (Some s) (serial_over x Hs))
+        along T (Some T.initial) (ops (serial_at x H)) (serial_over_histories x Hs)
+            ∙ ap (λ from. run T from (serial_over_histories x Hs)) (them.0.1.leads.states x T s at there)
+            ∙ sym (alike T s (Some s) (serial_over_histories x Hs))
             ∙ runs,
         behind,
       )
@@ -131,15 +131,15 @@ module _ (along : RunsAlong) (alike : RunsAlike) where
 
   -- the serial order over all begins with that over the first of them, and one more
   serial-first : (x : ℕ) (Hs : List (List Event)) (n : ℕ) (H : List Event) → slice_get Hs n ≡ Some H
-      → (rest : List ℕ) × (serial_over x Hs ≡ (serial_over x (take n Hs) ++ ops (serial_at x H)) ++ rest)
+      → (rest : List ℕ) × (serial_over_histories x Hs ≡ (serial_over_histories x (take n Hs) ++ ops (serial_at x H)) ++ rest)
   serial-first x [] n H at = absurd (none-some H at)
-  serial-first x (G ∷ Hs) zero H at = (serial_over x Hs, ap (λ F. ops (serial_at x F) ++ serial_over x Hs) (same_Some G H at))
+  serial-first x (G ∷ Hs) zero H at = (serial_over_histories x Hs, ap (λ F. ops (serial_at x F) ++ serial_over_histories x Hs) (same_Some G H at))
   serial-first x (G ∷ Hs) (suc n) H at =
       let (rest, is) = serial-first x Hs n H at in (
         rest,
         ap (λ them. ops (serial_at x G) ++ them) is
-            ∙ sym (append_assoc (ops (serial_at x G)) (serial_over x (take n Hs) ++ ops (serial_at x H)) rest)
-            ∙ ap (λ them. them ++ rest) (sym (append_assoc (ops (serial_at x G)) (serial_over x (take n Hs)) (ops (serial_at x H)))),
+            ∙ sym (append_assoc (ops (serial_at x G)) (serial_over_histories x (take n Hs) ++ ops (serial_at x H)) rest)
+            ∙ ap (λ them. them ++ rest) (sym (append_assoc (ops (serial_at x G)) (serial_over_histories x (take n Hs)) (ops (serial_at x H)))),
       )
 
   -- after the audits of the first histories the next one is serially legal
@@ -149,14 +149,14 @@ module _ (along : RunsAlong) (alike : RunsAlike) where
       let (T, its) = table-before tables audits x U at in
       let (s, runs, behind) = leads tables (take n Hs) audits before x T its in
       let (rest, is) = serial-first x Hs n H there in
-      let front = legal-front T (Some T.initial) (serial_over x (take n Hs) ++ ops (serial_at x H)) rest (subst (IsLegal T (Some T.initial)) is (serial x T its)) in
-      let next : IsLegal T (Some s) (ops (serial_at x H)) = legal-behind along T (Some T.initial) (serial_over x (take n Hs)) (ops (serial_at x H)) s runs front in
+      let front = legal-front T (Some T.initial) (serial_over_histories x (take n Hs) ++ ops (serial_at x H)) rest (subst (IsLegal T (Some T.initial)) is (serial x T its)) in
+      let next : IsLegal T (Some s) (ops (serial_at x H)) = legal-behind along T (Some T.initial) (serial_over_histories x (take n Hs)) (ops (serial_at x H)) s runs front in
       let same : table_at T s ≡ U = same_Some (table_at T s) U (sym behind ∙ at) in
       let P : Table → Type 0 = λ V. IsLegal V (Some V.initial) (ops (serial_at x H)) in
       subst P same (rw (alike T s (Some s) (ops (serial_at x H))) next)
 
   -- so none of its events is bad, and none of its operations isn't legal
-  never-faulty : (tables : List Table) (Hs : List (List Event)) (n : ℕ) (fault : AuditFault) → AreHistories tables Hs → AreSerialOver tables Hs → HasFault tables Hs n fault → fault ≡ NoMemory
+  never-faulty : (tables : List Table) (Hs : List (List Event)) (n : ℕ) (fault : AuditFault) → AreHistories tables Hs → AreSerialOver tables Hs → HasEpochFault tables Hs n fault → fault ≡ NoMemory
   never-faulty tables Hs n (BadEvent at) them serial f =
       absurd (never-bad (tables_after tables f.audits) f.history at (after-alike tables f.audits f.history (history-at tables Hs n f.history them f.there)) f.faulty)
   never-faulty tables Hs n (IllegalOp i x j) them serial f =

@@ -13,7 +13,7 @@ use Rattle.serial_order.specs.After.{SummaryAfter}
 use Rattle.serial_order.specs.declared.entry.Entry.{Entry}
 use Rattle.history_audit.specs.Judges.{Judges}
 use Rattle.history_audit.specs.Judged.{IsJudged, IsHanded, StopsJudge, committed_as, fault_at}
-use Rattle.history_audit.specs.Rows.{plain, operations_of, AreRows}
+use Rattle.history_audit.specs.Rows.{executed_of, operations_of, AreRowsOf}
 use Rattle.history_audit.specs.declared.executed.Executed.{Executed}
 use Rattle.history_audit.specs.declared.event_fault.EventFault.{EventFault}
 use Rattle.history_audit.specs.declared.event_fault.EventFault.TheVariants as judge_fault
@@ -22,13 +22,13 @@ use Rattle.history_audit.specs.Replay.{AreOperations}
 use Rattle.history_audit.proofs.Kept.{goes-more, there-after}
 
 -- before the first event
-pub nothing-judged : (tables : List Table) (rows : List (Option (List Executed))) → AreRows rows (summary []) → IsJudged tables [] rows
+pub nothing-judged : (tables : List Table) (rows : List (Option (List Executed))) → AreRowsOf rows (summary []) → IsJudged tables [] rows
 nothing-judged tables rows agree = record { history = tt; agree = agree; there = tt }
 
 -- the operations of a transaction that live are of objects that are there
 pub operations-there : (tables : List Table) (H : List Event) (rows : List (Option (List Executed))) (t : ℕ) → IsJudged tables H rows → AreOperations tables (operations_of t (summary H))
 operations-there tables H rows t known =
-    each-map (λ (o : Executed). IsOperation (slice_get tables o.x) o.k) plain (of t (surviving H))
+    each-map (λ (o : Executed). IsOperation (slice_get tables o.x) o.k) executed_of (of t (surviving H))
     (each-filter (λ (f : Entry). IsOperation (slice_get tables f.at) f.op) (is_by t) (surviving H) known.there)
 
 -- an event that is no commit hands out nothing

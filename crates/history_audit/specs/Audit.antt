@@ -13,14 +13,14 @@ use Rattle.history_audit.specs.declared.outcome.AuditFault.TheVariants.{BadEvent
 -- ---- a yes
 
 -- for each object the state to which the operations of these transactions, one transaction after another, lead from the initial state
-pub record LeadsTo (tables : List Table) (H : List Event) (ts finals : List ℕ) : Type 0 where
+pub record LeadToStates (tables : List Table) (H : List Event) (ts finals : List ℕ) : Type 0 where
   pub as_many : length finals ≡ length tables
   pub states : (x : ℕ) (T : Table) (s : ℕ) → slice_get tables x ≡ Some T → slice_get finals x ≡ Some s → run T (Some T.initial) (ops (serial ts (surviving_at x H))) ≡ Some s
 
 -- the commit order, and where it leads
 pub record IsAudit (tables : List Table) (H : List Event) (order finals : List ℕ) : Type 0 where
   pub order_is : order ≡ commits H
-  pub leads : LeadsTo tables H (commits H) finals
+  pub leads : LeadToStates tables H (commits H) finals
 
 -- ---- the first event that is bad
 

@@ -4,10 +4,10 @@ use Rattle.type_table.specs.Table.{Table}
 use Rattle.object_trait.specs.declared.event.Event.{Event}
 use Rattle.serial_order.specs.History.{commits}
 use Rattle.history_audit.specs.Judged.{IsJudged}
-use Rattle.history_audit.specs.SerialRun.{IsRunOf}
+use Rattle.history_audit.specs.SerialRun.{IsSerialRunOf}
 use Rattle.history_audit.specs.declared.auditor.Auditor.{Auditor}
 
 -- the events are a history, whose committed transactions were run in commit order
 pub record IsAuditing (tables : List Table) (H : List Event) (a : Auditor) : Type 0 where
   pub judged : IsJudged tables H a.judge
-  pub serial : IsRunOf tables H (commits H) a.serial
+  pub serial : IsSerialRunOf tables H (commits H) a.serial

@@ -1,4 +1,4 @@
--- The committed transactions of a history, each with its operations that survive, and the place of each.
+-- The committed transactions of a history, each with its operations that survive, and the index of each.
 use Rattle.std.specs.Prelude.{◌≡◌, ◌<◌, ℕ, List, length, map, true, false, Option, Some, None, slice_get}
 use Rattle.std.specs.List.{AllByRecursion}
 use Rattle.type_table.specs.Table.{Table}
@@ -13,35 +13,35 @@ abbrev pub numbers : List Committed → List ℕ
 numbers them = map (λ (c : Committed). c.number) them
 
 -- its operations are those of its transaction that survive, and of objects that are there
-pub record IsCommit (tables : List Table) (H : List Event) (c : Committed) : Type 0 where
+pub record IsCommittedOf (tables : List Table) (H : List Event) (c : Committed) : Type 0 where
   pub are : c.operations ≡ operations_of c.number (summary H)
   pub there : AreOperations tables c.operations
 
 -- they are the committed transactions, in commit order
 pub record AreCommits (tables : List Table) (H : List Event) (them : List Committed) : Type 0 where
   pub in_order : numbers them ≡ commits H
-  pub each : (n : ℕ) (c : Committed) → slice_get them n ≡ Some c → IsCommit tables H c
+  pub each : (n : ℕ) (c : Committed) → slice_get them n ≡ Some c → IsCommittedOf tables H c
 
 -- no transaction committed and aborted
 abbrev pub NoneAborts : List Event → Type 0
 NoneAborts H = (t : ℕ) → is_among (commits H) t ≡ true → is_among (aborts H) t ≡ false
 
--- ---- places
+-- ---- indexes
 
--- what is at a number of the places, where there is one
-abbrev pub place_in : Option (Option ℕ) → Option ℕ
-place_in None = None
-place_in (Some place) = place
+-- what is at a number of the indexes, where there is one
+abbrev pub index_in : Option (Option ℕ) → Option ℕ
+index_in None = None
+index_in (Some place) = place
 
--- the transaction is at the place; or it has none and isn't there
-abbrev pub IsPlace : List ℕ → ℕ → Option ℕ → Type 0
-IsPlace ts t (Some place) = slice_get ts place ≡ Some t
-IsPlace ts t None = is_among ts t ≡ false
+-- the transaction is at the index; or it has none and isn't there
+abbrev pub IsIndexOf : List ℕ → ℕ → Option ℕ → Type 0
+IsIndexOf ts t (Some place) = slice_get ts place ≡ Some t
+IsIndexOf ts t None = is_among ts t ≡ false
 
-abbrev pub ArePlaces : List ℕ → List (Option ℕ) → Type 0
-ArePlaces ts places = (t : ℕ) → IsPlace ts t (place_in (slice_get places t))
+abbrev pub AreIndexes : List ℕ → List (Option ℕ) → Type 0
+AreIndexes ts places = (t : ℕ) → IsIndexOf ts t (index_in (slice_get places t))
 
--- the places are those of these transactions, whose numbers are below their number
-pub record ArePlaced (them : List Committed) (places : List (Option ℕ)) : Type 0 where
+-- the indexes are those of these transactions, whose numbers are below their number
+pub record AreIndexed (them : List Committed) (places : List (Option ℕ)) : Type 0 where
   pub below : AllByRecursion (λ (c : Committed). c.number < length places) them
-  pub at : ArePlaces (numbers them) places
+  pub at : AreIndexes (numbers them) places

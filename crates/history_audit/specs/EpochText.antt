@@ -10,12 +10,12 @@ use Rattle.history_audit.specs.declared.outcome.AuditFault.TheVariants.{BadEvent
 use Rattle.history_audit.specs.declared.outcome.EpochFault.{EpochFault}
 
 -- a number of the n-th history
-abbrev pub numbered : ℕ → ℕ → List ℕ
-numbered n m = decimal n ++ (codes "." ++ decimal m)
+abbrev pub numbered_in : ℕ → ℕ → List ℕ
+numbered_in n m = decimal n ++ (codes "." ++ decimal m)
 
 -- the line of a committed transaction of the n-th history
 abbrev pub commit_line_in : ℕ → ℕ → List ℕ
-commit_line_in n t = comment (codes "commit" ∷ numbered n t ∷ [])
+commit_line_in n t = comment (codes "commit" ∷ numbered_in n t ∷ [])
 
 -- the lines of the committed transactions of the n-th history, in commit order
 abbrev pub order_lines : ℕ × Audit → List ℕ
@@ -27,14 +27,14 @@ finals_of None = []
 finals_of (Some a) = a.finals.items
 
 -- the line of the n-th history's fault, and none where memory was refused
-abbrev pub fault_line : ℕ → AuditFault → List ℕ
-fault_line n (BadEvent at) = comment (codes "audit" ∷ codes "no" ∷ codes "BadEvent" ∷ numbered n at ∷ [])
-fault_line n (IllegalOp i x j) = comment (codes "audit" ∷ codes "no" ∷ codes "IllegalOp" ∷ numbered n i ∷ decimal x ∷ decimal j ∷ [])
-fault_line n NoMemory = []
+abbrev pub epoch_fault_line : ℕ → AuditFault → List ℕ
+epoch_fault_line n (BadEvent at) = comment (codes "audit" ∷ codes "no" ∷ codes "BadEvent" ∷ numbered_in n at ∷ [])
+epoch_fault_line n (IllegalOp i x j) = comment (codes "audit" ∷ codes "no" ∷ codes "IllegalOp" ∷ numbered_in n i ∷ decimal x ∷ decimal j ∷ [])
+epoch_fault_line n NoMemory = []
 
 -- after a yes a line for each committed transaction, history after history, then one for each object; else the line of the fault alone
 abbrev pub epochs_text : Result (Vec Audit Global) EpochFault → List ℕ
 epochs_text (Ok audits) =
     comment (codes "audit" ∷ codes "yes" ∷ [])
     ++ (flat_map order_lines (enumerate_from 0 audits.items) ++ flat_map serial_line (enumerate_from 0 (finals_of (slice_get audits.items (length audits.items - 1)))))
-epochs_text (Err f) = fault_line f.epoch f.fault
+epochs_text (Err f) = epoch_fault_line f.epoch f.fault

@@ -35,7 +35,7 @@ tables_after tables [] = tables
 tables_after tables (a ∷ more) = tables_after (tables_at tables a.finals.items) more
 
 -- the n-th history has no yes for this reason, and each before it has one
-pub record IsFirstFault (tables : List Table) (Hs : List (List Event)) (n : ℕ) (fault : AuditFault) : Type 0 where
+pub record IsFirstEpochFault (tables : List Table) (Hs : List (List Event)) (n : ℕ) (fault : AuditFault) : Type 0 where
   pub audits : List Audit
   pub history : List Event
   pub before : AreAudits tables (take n Hs) audits
@@ -43,25 +43,25 @@ pub record IsFirstFault (tables : List Table) (Hs : List (List Event)) (n : ℕ)
   pub faulty : Audits (tables_after tables audits) history (Err fault)
 
 -- what an audit without a yes says of the n-th history. Where memory was refused nothing is said
-abbrev pub HasFault : List Table → List (List Event) → ℕ → AuditFault → Type 0
-HasFault tables Hs n NoMemory = Unit {0}
-HasFault tables Hs n fault = IsFirstFault tables Hs n fault
+abbrev pub HasEpochFault : List Table → List (List Event) → ℕ → AuditFault → Type 0
+HasEpochFault tables Hs n NoMemory = Unit {0}
+HasEpochFault tables Hs n fault = IsFirstEpochFault tables Hs n fault
 
 -- a yes to each history, or the first that has none
 abbrev pub AuditsEpochs : List Table → List (List Event) → Result (Vec Audit Global) EpochFault → Type 0
 AuditsEpochs tables Hs (Ok audits) = AreAudits tables Hs audits.items
-AuditsEpochs tables Hs (Err f) = HasFault tables Hs f.epoch f.fault
+AuditsEpochs tables Hs (Err f) = HasEpochFault tables Hs f.epoch f.fault
 
 -- ---- what it means
 
 -- the operations of the committed transactions at x, history after history, and in each in commit order
-abbrev pub serial_over : ℕ → List (List Event) → List ℕ
-serial_over x [] = []
-serial_over x (H ∷ Hs) = ops (serial_at x H) ++ serial_over x Hs
+abbrev pub serial_over_histories : ℕ → List (List Event) → List ℕ
+serial_over_histories x [] = []
+serial_over_histories x (H ∷ Hs) = ops (serial_at x H) ++ serial_over_histories x Hs
 
 -- at each object the serial order over all histories is legal from the first initial state
 abbrev pub AreSerialOver : List Table → List (List Event) → Type 0
-AreSerialOver tables Hs = (x : ℕ) (T : Table) → slice_get tables x ≡ Some T → IsLegal T (Some T.initial) (serial_over x Hs)
+AreSerialOver tables Hs = (x : ℕ) (T : Table) → slice_get tables x ≡ Some T → IsLegal T (Some T.initial) (serial_over_histories x Hs)
 
 -- each is a history at these tables
 abbrev pub AreHistories : List Table → List (List Event) → Type 0
@@ -72,7 +72,7 @@ abbrev pub YesIsSerialOver : Type 0
 YesIsSerialOver =
     (tables : List Table) (Hs : List (List Event)) (audits : List Audit) → AreAudits tables Hs audits
     → AreHistories tables Hs
-    × ((x : ℕ) (T : Table) → slice_get tables x ≡ Some T → (s : ℕ) × (run T (Some T.initial) (serial_over x Hs) ≡ Some s) × (slice_get (tables_after tables audits) x ≡ Some (table_at T s)))
+    × ((x : ℕ) (T : Table) → slice_get tables x ≡ Some T → (s : ℕ) × (run T (Some T.initial) (serial_over_histories x Hs) ≡ Some s) × (slice_get (tables_after tables audits) x ≡ Some (table_at T s)))
 
 -- where memory wasn't refused, there is a yes exactly where each is a history and the serial order over all is legal
 abbrev pub EpochsDecide : Type 0

@@ -2,9 +2,9 @@
 use Rattle.std.specs.Prelude.{ℕ, List, [], ◌∷◌, Option, None, Some}
 use Rattle.type_table.specs.Operation.{operation_at}
 use Rattle.type_table.specs.Table.{Table}
-use Rattle.type_table.specs.Examples.{counter}
-use Rattle.number_text.specs.Examples.{purse}
-use Rattle.number_text.specs.Operations.{number_table}
+use Rattle.type_table.specs.Examples.{counter_table}
+use Rattle.number_types.specs.Examples.{purse}
+use Rattle.number_types.specs.Operations.{number_table}
 use Rattle.object_trait.specs.declared.event.Event.{Event}
 use Rattle.object_trait.specs.declared.event.EventKind.{EventKind}
 use Rattle.object_trait.specs.declared.event.EventKind.TheVariants.{Begin, Op, Commit, Rollback}
@@ -15,7 +15,7 @@ use Rattle.history_audit.specs.Audit.{IsFirstBad}
 
 -- two objects, both counters: operation 0 counts up and 1 down
 abbrev pub two_counters : List Table
-two_counters = counter ∷ counter ∷ []
+two_counters = counter_table ∷ counter_table ∷ []
 
 -- operation k at object x
 abbrev pub operation : ℕ → ℕ → Executed
@@ -43,8 +43,8 @@ abbrev pub stop_at : ℕ → ℕ → Stop
 stop_at x place = record { object = x; place = place }
 
 -- one counts up at both counters while another begins and commits
-abbrev pub two_ups : List Event
-two_ups = events (Begin 0 ∷ Op 0 0 1 ∷ Begin 1 ∷ Op 0 0 0 ∷ Commit 1 ∷ [])
+abbrev pub two_ups_events : List Event
+two_ups_events = events (Begin 0 ∷ Op 0 0 1 ∷ Begin 1 ∷ Op 0 0 0 ∷ Commit 1 ∷ [])
 
 -- its rows: transaction 0 has two operations, and transaction 1 ended
 abbrev pub two_ups_rows : List (Option (List Executed))
@@ -70,14 +70,14 @@ take_any n = operation_at 2 (Some n)
 abbrev pub give_any : ℕ → ℕ
 give_any n = operation_at 4 (Some n)
 
-abbrev pub value : ℕ → ℕ
-value n = operation_at 6 (Some n)
+abbrev pub purse_value : ℕ → ℕ
+purse_value n = operation_at 6 (Some n)
 
 -- one gives 7 and takes 2, while another gives 1 and commits first; then a third reads 6 and takes 3
 abbrev pub purse_history : List Event
 purse_history =
     events (Begin 0 ∷ Op (give_any 7) 0 0 ∷ Begin 1 ∷ Op (give_any 1) 1 0 ∷ Op (take_any 2) 0 0 ∷ Commit 1 ∷ Commit 0
-    ∷ Begin 2 ∷ Op (value 6) 2 0 ∷ Op 0 2 0 ∷ Commit 2 ∷ [])
+    ∷ Begin 2 ∷ Op (purse_value 6) 2 0 ∷ Op 0 2 0 ∷ Commit 2 ∷ [])
 
 -- one gives 5, another takes 4 and commits first
 abbrev pub early_history : List Event

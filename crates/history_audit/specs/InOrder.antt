@@ -5,7 +5,7 @@ use Rattle.object_trait.specs.declared.event.Event.{Event}
 use Rattle.serial_order.specs.Operations.{is_among}
 use Rattle.serial_order.specs.History.{commits, IsHistory}
 use Rattle.serial_order.specs.Readings.{is_op_of, stays}
-use Rattle.history_audit.specs.Audit.{AreLegal, LeadsTo, IsFirstBad, IsFirstIllegal}
+use Rattle.history_audit.specs.Audit.{AreLegal, LeadToStates, IsFirstBad, IsFirstIllegal}
 use Rattle.history_audit.specs.declared.outcome.Audit.{Audit}
 use Rattle.history_audit.specs.declared.outcome.AuditFault.TheVariants.{BadEvent, IllegalOp, NoMemory}
 use Rattle.history_audit.specs.declared.in_order_fault.InOrderFault.{InOrderFault}
@@ -93,7 +93,7 @@ HasOrderFault H ts (order.Precedes t u) = IsOutOfOrder H ts t u
 -- the first event that is bad; or, where none is, why the order may not be asked for; or, where it may, a yes with it and with the states to
 -- which it leads, or the first operation that isn't legal in it. Where memory was refused nothing is said
 abbrev pub AuditsInOrder : List Table → List Event → List ℕ → Result Audit InOrderFault → Type 0
-AuditsInOrder tables H ts (Ok a) = IsHistory tables H × KeepsPrecedes H ts × (a.order.items ≡ ts) × LeadsTo tables H ts a.finals.items
+AuditsInOrder tables H ts (Ok a) = IsHistory tables H × KeepsPrecedes H ts × (a.order.items ≡ ts) × LeadToStates tables H ts a.finals.items
 AuditsInOrder tables H ts (Err (no.Order fault)) = IsHistory tables H × HasOrderFault H ts fault
 AuditsInOrder tables H ts (Err (no.Audit (BadEvent at))) = IsFirstBad tables H at
 AuditsInOrder tables H ts (Err (no.Audit (IllegalOp i x j))) = IsHistory tables H × KeepsPrecedes H ts × IsFirstIllegal tables H ts i x j

@@ -7,7 +7,7 @@ use Rattle.object_trait.specs.declared.event.EventKind.{EventKind}
 use Rattle.object_trait.specs.declared.event.EventKind.TheVariants.{Commit}
 use Rattle.serial_order.specs.History.{Summary, summary, surviving, IsOperation, ContinuesHistory, IsHistory}
 use Rattle.serial_order.specs.declared.entry.Entry.{Entry}
-use Rattle.history_audit.specs.Rows.{AreRows, operations_of}
+use Rattle.history_audit.specs.Rows.{AreRowsOf, operations_of}
 use Rattle.history_audit.specs.Audit.{IsFirstBad}
 use Rattle.history_audit.specs.Replay.{AreOperations}
 use Rattle.history_audit.specs.declared.committed.Committed.{Committed}
@@ -21,7 +21,7 @@ use Rattle.history_audit.specs.declared.outcome.AuditFault.TheVariants.{BadEvent
 -- the events are a history, with which the rows agree, and each operation that survives is one of an object that is there
 pub record IsJudged (tables : List Table) (H : List Event) (rows : List (Option (List Executed))) : Type 0 where
   pub history : IsHistory tables H
-  pub agree : AreRows rows (summary H)
+  pub agree : AreRowsOf rows (summary H)
   pub there : AllByRecursion (λ (e : Entry). IsOperation (slice_get tables e.at) e.op) (surviving H)
 
 -- the transaction that an event commits, with its operations that survive

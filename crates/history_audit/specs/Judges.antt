@@ -8,23 +8,23 @@ use Rattle.serial_order.specs.History.{summary, ContinuesHistory}
 use Rattle.history_audit.specs.declared.executed.Executed.{Executed}
 use Rattle.history_audit.specs.declared.event_fault.EventFault.{EventFault}
 use Rattle.history_audit.specs.declared.event_fault.EventFault.TheVariants.{Bad, NoMemory}
-use Rattle.history_audit.specs.Rows.{AreRows, committed_in}
+use Rattle.history_audit.specs.Rows.{AreRowsOf, committed_in}
 
 -- the rows have to grow for the event
-abbrev pub takes_memory : EventKind → Bool
-takes_memory (Begin t) = true
-takes_memory (Op k t x) = true
-takes_memory _ = false
+abbrev pub grows_rows : EventKind → Bool
+grows_rows (Begin t) = true
+grows_rows (Op k t x) = true
+grows_rows _ = false
 
 -- The event is judged after every list of events with which the old rows agree. Where it is taken it can follow there, the new rows
 -- agree with the events and this one, whichever worker's it is, and what is handed out is what it commits. Where it is bad it
 -- can't follow there. Memory is refused to a begin or an operation alone
 abbrev pub Judges : List Table → List (Option (List Executed)) → EventKind → Result (Option (List Executed)) EventFault → List (Option (List Executed)) → Type 0
 Judges tables old event (Ok its) new =
-    (H : List Event) (w : ℕ) → AreRows old (summary H)
-    → ContinuesHistory tables (summary H) event × AreRows new (summary (H ++ (record { worker = w; kind = event }) ∷ [])) × (its ≡ committed_in event (summary H))
-Judges tables old event (Err Bad) new = (H : List Event) → AreRows old (summary H) → ContinuesHistory tables (summary H) event → ⊥
-Judges tables old event (Err NoMemory) new = takes_memory event ≡ true
+    (H : List Event) (w : ℕ) → AreRowsOf old (summary H)
+    → ContinuesHistory tables (summary H) event × AreRowsOf new (summary (H ++ (record { worker = w; kind = event }) ∷ [])) × (its ≡ committed_in event (summary H))
+Judges tables old event (Err Bad) new = (H : List Event) → AreRowsOf old (summary H) → ContinuesHistory tables (summary H) event → ⊥
+Judges tables old event (Err NoMemory) new = grows_rows event ≡ true
 
 -- the event is judged, whatever it commits
 abbrev pub Takes : List Table → List (Option (List Executed)) → EventKind → Result (Unit {0}) EventFault → List (Option (List Executed)) → Type 0

@@ -6,7 +6,7 @@ use Rattle.object_trait.specs.declared.event.EventKind.{EventKind}
 use Rattle.object_trait.specs.declared.event.EventKind.TheVariants.{Begin, Op, Commit, Abort, Rollback}
 use Rattle.serial_order.specs.History.{summary, ContinuesHistory}
 use Rattle.history_audit.specs.declared.executed.Executed.{Executed}
-use Rattle.history_audit.specs.Rows.{AreRows}
+use Rattle.history_audit.specs.Rows.{AreRowsOf}
 
 -- the row of the open transaction t becomes another, and no other row changes
 pub record IsRowMoved (old new : List (Option (List Executed))) (t : ℕ) (moved : List Executed → Option (List Executed)) : Type 0 where
@@ -28,4 +28,4 @@ RowsMove _ old new = new ≡ old
 abbrev pub MovedRowsAgree : Type 0
 MovedRowsAgree =
     (tables : List Table) (H : List Event) (e : Event) (old new : List (Option (List Executed)))
-    → AreRows old (summary H) → ContinuesHistory tables (summary H) e.kind → RowsMove e.kind old new → AreRows new (summary (H ++ e ∷ []))
+    → AreRowsOf old (summary H) → ContinuesHistory tables (summary H) e.kind → RowsMove e.kind old new → AreRowsOf new (summary (H ++ e ∷ []))

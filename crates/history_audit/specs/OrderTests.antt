@@ -4,7 +4,7 @@ use Rattle.type_table.specs.Table.{Table}
 use Rattle.object_trait.specs.declared.event.Event.{Event}
 use Rattle.serial_order.specs.Operations.{is_among}
 use Rattle.serial_order.specs.History.{commits}
-use Rattle.history_audit.specs.Audit.{LeadsTo, IsFirstIllegal}
+use Rattle.history_audit.specs.Audit.{LeadToStates, IsFirstIllegal}
 use Rattle.history_audit.specs.InOrder.{HasOrderFault, Precedes}
 use Rattle.history_audit.specs.declared.in_order_fault.InOrderFault.{InOrderFault}
 use Rattle.history_audit.specs.declared.in_order_fault.InOrderFault.TheVariants as no
@@ -54,7 +54,7 @@ KeepsDatesAt committed dates ts n = (t u : ℕ) → slice_get ts n ≡ Some u �
 
 -- what comes of the operations in this order
 abbrev pub RunsInOrder : List Table → List Event → List ℕ → Result Audit AuditFault → Type 0
-RunsInOrder tables H ts (Ok a) = (a.order.items ≡ ts) × LeadsTo tables H ts a.finals.items
+RunsInOrder tables H ts (Ok a) = (a.order.items ≡ ts) × LeadToStates tables H ts a.finals.items
 RunsInOrder tables H ts (Err (BadEvent at)) = ⊥
 RunsInOrder tables H ts (Err (IllegalOp i x j)) = IsFirstIllegal tables H ts i x j
 RunsInOrder tables H ts (Err NoMemory) = Unit {0}

@@ -59,7 +59,7 @@ stop_after tables states stop place o = if is_stopped_at stop o.x then stop else
 -- ---- all of them
 
 -- from the old states: the operations at the object before this place are legal, and the one at this place isn't
-pub record IsStopped (tables : List Table) (old : List ℕ) (its : List Executed) (q : Stop) : Type 0 where
+pub record StopsReplayAt (tables : List Table) (old : List ℕ) (its : List Executed) (q : Stop) : Type 0 where
   pub table : Table
   pub from : ℕ
   pub operation : Executed
@@ -75,4 +75,4 @@ pub record IsStopped (tables : List Table) (old : List ℕ) (its : List Executed
 pub record AreReplayed (tables : List Table) (old : List ℕ) (its : List Executed) (n : ℕ) (states : List ℕ) (stop : Option Stop) : Type 0 where
   pub states_are : (x : ℕ) (T : Table) (s : ℕ) → slice_get tables x ≡ Some T → slice_get old x ≡ Some s → is_stopped_at stop x ≡ false
       → run T (Some s) (ops_at x (take n its)) ≡ slice_get states x
-  pub stopped : (q : Stop) → stop ≡ Some q → IsStopped tables old its q
+  pub stopped : (q : Stop) → stop ≡ Some q → StopsReplayAt tables old its q

@@ -9,24 +9,24 @@ use Rattle.serial_order.specs.declared.entry.Entry.{Entry}
 use Rattle.history_audit.specs.declared.executed.Executed.{Executed}
 
 -- an operation without its transaction
-abbrev pub plain : Entry → Executed
-plain e = record { x = e.at; k = e.op }
+abbrev pub executed_of : Entry → Executed
+executed_of e = record { x = e.at; k = e.op }
 
 -- the operations of t that survive, over all objects, in the order in which they were executed
 abbrev pub operations_of : ℕ → Summary → List Executed
-operations_of t s = map plain (of t s.survives)
+operations_of t s = map executed_of (of t s.survives)
 
 -- the row of the transaction t: none where it isn't open, else its operations that survive
-pub record IsRow (row : Option (List Executed)) (t : ℕ) (s : Summary) : Type 0 where
+pub record IsRowOf (row : Option (List Executed)) (t : ℕ) (s : Summary) : Type 0 where
   pub going : is_some row ≡ is_open s t
   pub operations : (its : List Executed) → row ≡ Some its → its ≡ operations_of t s
 
 -- there is a row for each transaction that began; and of the transactions it is known what is known of those of every run, among it
 -- that what ended or executed operations began
-pub record AreRows (rows : List (Option (List Executed))) (s : Summary) : Type 0 where
+pub record AreRowsOf (rows : List (Option (List Executed))) (s : Summary) : Type 0 where
   pub known : AreInRun s
   pub begun : length rows ≡ s.begun
-  pub each : (t : ℕ) (row : Option (List Executed)) → slice_get rows t ≡ Some row → IsRow row t s
+  pub each : (t : ℕ) (row : Option (List Executed)) → slice_get rows t ≡ Some row → IsRowOf row t s
 
 -- what a commit commits
 abbrev pub committed_in : EventKind → Summary → Option (List Executed)

@@ -3,7 +3,7 @@ use Rattle.std.specs.Prelude.{◌≡◌, ℕ, List, [], ◌∷◌, ◌++◌, len
 use Rattle.type_table.specs.Table.{Table}
 use Rattle.object_trait.specs.declared.event.Event.{Event}
 use Rattle.history_audit.specs.declared.executed.Executed.{Executed}
-use Rattle.history_audit.specs.Audit.{LeadsTo, IsFirstIllegal}
+use Rattle.history_audit.specs.Audit.{LeadToStates, IsFirstIllegal}
 use Rattle.history_audit.specs.Replay.{ops_at, AreStates, AreReplayed}
 use Rattle.history_audit.specs.declared.replay.Stop.{Stop}
 use Rattle.history_audit.specs.declared.serial_run.Illegal.{Illegal}
@@ -11,11 +11,11 @@ use Rattle.history_audit.specs.declared.serial_run.SerialRun.{SerialRun}
 
 -- each operation of these transactions is legal in their order, which leads to the states; or this is the first that isn't
 abbrev pub RunsTo : List Table → List Event → List ℕ → List ℕ → Option Illegal → Type 0
-RunsTo tables H ts states None = LeadsTo tables H ts states
+RunsTo tables H ts states None = LeadToStates tables H ts states
 RunsTo tables H ts states (Some p) = IsFirstIllegal tables H ts p.commit_index p.object p.op_index
 
 -- what is kept agrees with the operations of these transactions, in their order
-pub record IsRunOf (tables : List Table) (H : List Event) (ts : List ℕ) (run : SerialRun) : Type 0 where
+pub record IsSerialRunOf (tables : List Table) (H : List Event) (ts : List ℕ) (run : SerialRun) : Type 0 where
   pub ready : AreStates tables run.states.items
   pub order : run.illegal ≡ None → run.order.items ≡ ts
   pub leads : RunsTo tables H ts run.states.items run.illegal
@@ -35,7 +35,7 @@ illegal_at i its (Some q) = Some (record { commit_index = i; object = q.object; 
 
 -- the transaction's operations were replayed on the old states; it is the next in the order, and where an operation isn't legal its
 -- place is kept
-pub record Replays (tables : List Table) (t : ℕ) (its : List Executed) (old new : SerialRun) : Type 0 where
+pub record ReplaysNext (tables : List Table) (t : ℕ) (its : List Executed) (old new : SerialRun) : Type 0 where
   pub stop : Option Stop
   pub replayed : AreReplayed tables old.states.items its (length its) new.states.items stop
   pub order : new.order.items ≡ old.order.items ++ t ∷ []
@@ -43,5 +43,5 @@ pub record Replays (tables : List Table) (t : ℕ) (its : List Executed) (old ne
 
 -- after the first operation that isn't legal nothing is replayed
 abbrev pub ReplaysFrom : Option Illegal → List Table → ℕ → List Executed → SerialRun → SerialRun → Type 0
-ReplaysFrom None tables t its old new = Replays tables t its old new
+ReplaysFrom None tables t its old new = ReplaysNext tables t its old new
 ReplaysFrom (Some p) tables t its old new = new ≡ old

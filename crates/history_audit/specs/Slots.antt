@@ -5,16 +5,16 @@ use Rattle.history_audit.specs.declared.executed.Executed.{Executed}
 use Rattle.history_audit.specs.declared.slots.Slot.{Slot}
 
 -- the number of an open transaction
-abbrev pub number_of : Slot → ℕ
-number_of slot = slot.number
+abbrev pub slot_number : Slot → ℕ
+slot_number slot = slot.number
 
 -- its row: its operations that survive
-abbrev pub row_of : Slot → List Executed
-row_of slot = slot.operations
+abbrev pub slot_row : Slot → List Executed
+slot_row slot = slot.operations
 
 -- the rows that slots show
-abbrev pub rows_of : List Slot → List ℕ → List (Option (List Executed))
-rows_of slots index = shown_rows row_of slots index
+abbrev pub slot_rows : List Slot → List ℕ → List (Option (List Executed))
+slot_rows slots index = shown_rows slot_row slots index
 
 -- the operations of a row, and none where there is none
 abbrev pub its_of : Option (List Executed) → List Executed

@@ -11,8 +11,8 @@ abbrev pub comment : List (List ℕ) → List ℕ
 comment words = join_with_byte 32 (codes "#" ∷ words) ++ 10 ∷ []
 
 -- the line of a committed transaction
-abbrev pub commit_line : ℕ → List ℕ
-commit_line t = comment (codes "commit" ∷ decimal t ∷ [])
+abbrev pub committed_line : ℕ → List ℕ
+committed_line t = comment (codes "commit" ∷ decimal t ∷ [])
 
 -- the line of an object with its serial state
 abbrev pub serial_line : ℕ × ℕ → List ℕ
@@ -23,7 +23,7 @@ serial_line p = comment (codes "serial" ∷ decimal (p.0) ∷ decimal (p.1) ∷ 
 abbrev pub audit_text : Result Audit AuditFault → List ℕ
 audit_text (Ok a) =
     comment (codes "audit" ∷ codes "yes" ∷ [])
-    ++ (flat_map commit_line a.order.items ++ flat_map serial_line (enumerate_from 0 a.finals.items))
+    ++ (flat_map committed_line a.order.items ++ flat_map serial_line (enumerate_from 0 a.finals.items))
 audit_text (Err (BadEvent at)) = comment (codes "audit" ∷ codes "no" ∷ codes "BadEvent" ∷ decimal at ∷ [])
 audit_text (Err (IllegalOp i x j)) = comment (codes "audit" ∷ codes "no" ∷ codes "IllegalOp" ∷ decimal i ∷ decimal x ∷ decimal j ∷ [])
 audit_text (Err NoMemory) = []

@@ -2,20 +2,20 @@
 
 ghost use Rattle.std.specs.Prelude.{◌≡◌, ◌<◌, ◌++◌, ◌∷◌, [], length, map, IfErr, IfOk};
 ghost use Rattle.std.specs.List.{AllByRecursion};
-ghost use Rattle.table_checker.specs.Declarations.{table_of};
+ghost use Rattle.declared_types.specs.Declarations.{table_of};
 ghost use Rattle.serial_order.specs.History.{IsHistory};
-ghost use Rattle.history_audit.specs.Commits.{AreCommits, ArePlaces, IsPlace, NoneAborts, numbers};
+ghost use Rattle.history_audit.specs.Commits.{AreCommits, AreIndexes, IsIndexOf, NoneAborts, numbers};
 ghost use Rattle.history_audit.specs.Judged.{StopsJudge};
 
 use crate::committed::Committed;
 use crate::judge::Judge;
 use crate::laws::nothing_began;
 use crate::outcome::AuditFault;
+use declared_types::DeclaredType;
 use object_trait::Event;
 use serial_order::{own_after, summary_after};
 use std::alloc::{AllocError, Global};
 use std::marker::Model;
-use table_checker::DeclaredType;
 
 /// The committed transactions of a history. Contracts see the list of them, in commit order.
 #[derive(Drop)]
@@ -28,14 +28,14 @@ pub struct Commits {
 impl Model for Commits {
     ghost use Rattle.std.specs.Prelude.{List, length};
     ghost use Rattle.std.specs.List.{AllByRecursion};
-    ghost use Rattle.history_audit.specs.Commits.{ArePlaced};
+    ghost use Rattle.history_audit.specs.Commits.{AreIndexed};
     ghost use Rattle.history_audit.specs.declared.committed.Committed.{Committed};
 
     ghost Value = { List Committed };
 
     ghost view = { λ a. a.list.items };
 
-    ghost invariant = { λ a. ArePlaced a.list.items a.places.items };
+    ghost invariant = { λ a. AreIndexed a.list.items a.places.items };
 }
 
 impl Commits {
@@ -77,7 +77,7 @@ impl Commits {
 
     /// The place of t, where it committed.
     pub fn place(&self, t: u32) -> Option<usize>
-        ensures { IsPlace (numbers self.now) t result }
+        ensures { IsIndexOf (numbers self.now) t result }
     {
         match self.places.get(t as usize) {
             Some(place) => *place,
@@ -129,7 +129,7 @@ fn places_of(
     above: usize,
 ) -> Result<Vec<Option<usize>>, AllocError>
     requires { AllByRecursion (λ c. c.number < above) commits.now }
-    ensures { IfOk result (λ them. (length them.items ≡ above) × ArePlaces (numbers commits.now) them.items) }
+    ensures { IfOk result (λ them. (length them.items ≡ above) × AreIndexes (numbers commits.now) them.items) }
 {
     let mut places = vec![in alloc; None; above]?;
     for place in 0..commits.len() {

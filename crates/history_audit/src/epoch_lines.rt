@@ -3,7 +3,7 @@
 ghost use Rattle.std.specs.Prelude.{◌≡◌, ◌-◌, None, Ok, length, slice_get};
 ghost use Rattle.std.specs.List.{flat_map, enumerate_from};
 ghost use Rattle.outputs.specs.Out.{Puts};
-ghost use Rattle.history_audit.specs.EpochText.{commit_line_in, epochs_text, fault_line, finals_of, order_lines};
+ghost use Rattle.history_audit.specs.EpochText.{commit_line_in, epochs_text, epoch_fault_line, finals_of, order_lines};
 ghost use Rattle.history_audit.specs.Text.{serial_line};
 ghost use Rattle.history_audit.specs.declared.outcome.AuditFault.TheVariants.{BadEvent, IllegalOp};
 
@@ -109,7 +109,7 @@ fn write_last<W: Out>(audits: &[Audit], out: &mut W) -> Result<(), OutFault>
 /// Writes the line of a fault of the history of this epoch, and none where memory was refused.
 fn write_fault_in<W: Out>(epoch: usize, fault: AuditFault, out: &mut W) -> Result<(), OutFault>
     requires { W.fault out.old ≡ None }
-    ensures { Puts (W.taken out.old) (W.taken out.new) (W.fault out.new) (fault_line epoch fault) result }
+    ensures { Puts (W.taken out.old) (W.taken out.new) (W.fault out.new) (epoch_fault_line epoch fault) result }
 {
     match fault {
         AuditFault::BadEvent { at } => write_bad_in(epoch, at, out),
@@ -125,7 +125,7 @@ fn write_fault_in<W: Out>(epoch: usize, fault: AuditFault, out: &mut W) -> Resul
 /// Writes the line of a bad event of the history of this epoch.
 fn write_bad_in<W: Out>(epoch: usize, at: usize, out: &mut W) -> Result<(), OutFault>
     requires { W.fault out.old ≡ None }
-    ensures { Puts (W.taken out.old) (W.taken out.new) (W.fault out.new) (fault_line epoch (BadEvent at)) result }
+    ensures { Puts (W.taken out.old) (W.taken out.new) (W.fault out.new) (epoch_fault_line epoch (BadEvent at)) result }
 {
     let (mut first, mut second) = (Buffer::new(), Buffer::new());
     put_all(
@@ -149,7 +149,7 @@ fn write_illegal_in<W: Out>(
     out: &mut W,
 ) -> Result<(), OutFault>
     requires { W.fault out.old ≡ None }
-    ensures { Puts (W.taken out.old) (W.taken out.new) (W.fault out.new) (fault_line epoch (IllegalOp commit_index object op_index)) result }
+    ensures { Puts (W.taken out.old) (W.taken out.new) (W.fault out.new) (epoch_fault_line epoch (IllegalOp commit_index object op_index)) result }
 {
     let (mut first, mut second) = (Buffer::new(), Buffer::new());
     let (mut third, mut fourth) = (Buffer::new(), Buffer::new());

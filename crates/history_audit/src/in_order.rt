@@ -2,7 +2,7 @@
 
 ghost use Rattle.std.specs.Prelude.{◌≡◌, ◌++◌, ◌∷◌, [], ℕ, List, true, map, IfErr, IfOk, MatchResult, OnOk};
 ghost use Rattle.std.specs.List.{AllByRecursion};
-ghost use Rattle.table_checker.specs.Declarations.{table_of};
+ghost use Rattle.declared_types.specs.Declarations.{table_of};
 ghost use Rattle.object_trait.specs.declared.event.Event.{Event as EventValue};
 ghost use Rattle.serial_order.specs.History.{commits};
 ghost use Rattle.serial_order.specs.Operations.{is_among};
@@ -10,7 +10,7 @@ ghost use Rattle.history_audit.specs.Commits.{AreCommits, NoneAborts, numbers};
 ghost use Rattle.history_audit.specs.InOrder.{AreCommitted, AuditsInOrder, KeepsPrecedes};
 ghost use Rattle.history_audit.specs.OrderTests.{RunsInOrder, StopsOrder};
 ghost use Rattle.history_audit.specs.Replay.{AreOperations, AreStates};
-ghost use Rattle.history_audit.specs.SerialRun.{IsRunOf};
+ghost use Rattle.history_audit.specs.SerialRun.{IsSerialRunOf};
 
 use crate::commits::Commits;
 use crate::dates::dates_of;
@@ -18,9 +18,9 @@ use crate::in_order_fault::InOrderFault;
 use crate::order_tests::{all_there, each_after, each_committed};
 use crate::outcome::{Audit, AuditFault};
 use crate::serial_run::SerialRun;
+use declared_types::DeclaredType;
 use object_trait::Event;
 use std::alloc::{AllocError, Global};
-use table_checker::DeclaredType;
 use type_table::runs_along;
 
 /// Audits events at objects of these types in this order of the committed transactions, in time linear in the
@@ -105,7 +105,7 @@ fn take_one(
     requires states { AreStates (map (λ t. table_of t.now) types.now) run.old.states.items }
     ensures states { AreStates (map (λ t. table_of t.now) types.now) run.new.states.items }
     ensures ok { OnOk result ((H : List EventValue) (ts : List ℕ) → AreCommits (map (λ t. table_of t.now) types.now) H committed.now
-        → IsRunOf (map (λ t. table_of t.now) types.now) H ts run.old → IsRunOf (map (λ t. table_of t.now) types.now) H (ts ++ t ∷ []) run.new) }
+        → IsSerialRunOf (map (λ t. table_of t.now) types.now) H ts run.old → IsSerialRunOf (map (λ t. table_of t.now) types.now) H (ts ++ t ∷ []) run.new) }
     ensures err { IfErr result (λ fault. fault ≡ AuditFault.NoMemory) }
 {
     runs_along();

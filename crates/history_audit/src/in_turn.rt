@@ -1,16 +1,16 @@
 //! The audit of histories one after another, as one.
 
 ghost use Rattle.std.specs.Prelude.{◌≡◌, Ok, Err, map, IfOk, MatchResult};
-ghost use Rattle.table_checker.specs.Declarations.{table_of};
+ghost use Rattle.declared_types.specs.Declarations.{table_of};
 ghost use Rattle.history_audit.specs.Audit.{Audits};
 ghost use Rattle.history_audit.specs.Epochs.{AuditsEpochs, tables_at};
 ghost use Rattle.history_audit.specs.Replay.{AreStates};
 
-use crate::auditing::audit;
+use crate::auditor::audit;
 use crate::outcome::{Audit, AuditFault, EpochFault};
+use declared_types::DeclaredType;
 use object_trait::Event;
 use std::alloc::{AllocError, Global};
-use table_checker::DeclaredType;
 
 /// Audits histories one after another at objects of these types: each begins at the serial states in which
 /// the one before it ends. At `Ok` each has its audit.

@@ -1,8 +1,8 @@
 ghost use Rattle.std.specs.Prelude.{◌≡◌, ◌↔◌, ◌+◌, ◌<◌, ℕ, [], List, length, map, take, slice_get, IfErr, IfOk, IsTrue, OnErr};
 ghost use Rattle.type_table.specs.Table.{Table};
-ghost use Rattle.serial_order.specs.History.{IsOperation, IsPlace};
+ghost use Rattle.serial_order.specs.History.{IsOperation, IsOperationPlace};
 ghost use Rattle.object_trait.specs.declared.event.EventKind.TheVariants as kind;
-ghost use Rattle.table_checker.specs.Declarations.{table_of};
+ghost use Rattle.declared_types.specs.Declarations.{table_of};
 ghost use Rattle.history_audit.specs.Judges.{Judges, Takes, handed};
 ghost use Rattle.history_audit.specs.Judged.{IsHanded, IsJudged, StopsJudge, fault_at};
 
@@ -13,11 +13,11 @@ use crate::laws::moved_rows_agree;
 use crate::operations::Operations;
 use crate::outcome::AuditFault;
 use crate::slots::Slots;
+use declared_types::DeclaredType;
 use object_trait::{Event, EventKind};
 use serial_order::summary_after;
 use std::alloc::Global;
 use std::marker::Model;
-use table_checker::DeclaredType;
 use type_table::Operation;
 
 /// What comes of an event: it is taken, or why it isn't.
@@ -213,7 +213,7 @@ fn is_operation(types: &[&DeclaredType], x: u32, k: Operation) -> bool
 
 /// Whether the object is there and some operation of its type has this place.
 fn is_place(types: &[&DeclaredType], x: u32, place: u8) -> bool
-    ensures { IsTrue result ↔ IsPlace (slice_get (map (λ t. table_of t.now) types.now) x) place }
+    ensures { IsTrue result ↔ IsOperationPlace (slice_get (map (λ t. table_of t.now) types.now) x) place }
 {
     match types.get(x as usize) {
         Some(declared) => declared.has_place(place),

@@ -2,7 +2,7 @@
 
 ghost use Rattle.std.specs.Prelude.{[]};
 ghost use Rattle.serial_order.specs.History.{summary};
-ghost use Rattle.history_audit.specs.Rows.{AreRows};
+ghost use Rattle.history_audit.specs.Rows.{AreRowsOf};
 ghost use Rattle.history_audit.specs.Epochs.{EpochsDecide, EpochsPass, YesIsSerialOver};
 ghost use Rattle.history_audit.specs.InOrder.{InOrderDecides, LegalOrdersPass};
 ghost use Rattle.history_audit.specs.Moves.{MovedRowsAgree};
@@ -64,7 +64,7 @@ pub fn in_order_decides()
 
 /// Before the first event there are no rows.
 pub fn nothing_began()
-    ensures { AreRows [] (summary []) }
+    ensures { AreRowsOf [] (summary []) }
 {}
 
 /// Where rows agree with some events, the rows to which one more leads agree with these and it.

@@ -2,7 +2,6 @@
 //! another in commit order, give the same replies. It is computed from the events alone, with no store.
 #![tactic(auto)]
 
-mod auditing;
 mod auditor;
 mod commits;
 mod committed;
@@ -23,7 +22,7 @@ mod serial_run;
 mod slots;
 mod write;
 
-pub use auditing::audit;
+pub use auditor::audit;
 pub use epoch_lines::write_epochs;
 pub use in_order::audit_in_order;
 pub use in_order_fault::{InOrderFault, OrderFault};

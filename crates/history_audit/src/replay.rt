@@ -2,12 +2,12 @@
 
 ghost use Rattle.std.specs.Prelude.{◌≡◌, ◌<◌, map, length, Some, IfSome, slice_get};
 ghost use Rattle.type_table.specs.Table.{Table};
-ghost use Rattle.table_checker.specs.Declarations.{table_of};
+ghost use Rattle.declared_types.specs.Declarations.{table_of};
 ghost use Rattle.serial_order.specs.History.{IsOperation};
 ghost use Rattle.history_audit.specs.Replay.{ops_at, AreOperations, AreStates, next_at, is_stopped_at, states_after, stop_after, AreReplayed};
 
 use crate::executed::Executed;
-use table_checker::DeclaredType;
+use declared_types::DeclaredType;
 use type_table::runs_along;
 
 /// Where a replay stopped: an operation that isn't legal, at the least object that has one.

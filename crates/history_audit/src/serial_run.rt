@@ -2,15 +2,15 @@
 
 ghost use Rattle.std.specs.Prelude.{◌≡◌, ◌≤◌, [], map, length, Err, IfOk, OnOk, IfSome, MatchOption};
 ghost use Rattle.std.specs.Result.{IsOkAnd};
-ghost use Rattle.table_checker.specs.Declarations.{table_of};
+ghost use Rattle.declared_types.specs.Declarations.{table_of};
 ghost use Rattle.history_audit.specs.Replay.{AreOperations, AreStates};
-ghost use Rattle.history_audit.specs.SerialRun.{AreInitial, illegal_at, Replays, ReplaysFrom};
+ghost use Rattle.history_audit.specs.SerialRun.{AreInitial, illegal_at, ReplaysNext, ReplaysFrom};
 
 use crate::executed::Executed;
 use crate::outcome::{Audit, AuditFault};
 use crate::replay::{Stop, count_at, replay};
+use declared_types::DeclaredType;
 use std::alloc::{AllocError, Global};
-use table_checker::DeclaredType;
 
 /// The place of an operation that isn't legal in the serial order.
 #[derive(Clone, Copy)]
@@ -73,7 +73,7 @@ impl SerialRun {
         requires states { AreStates (map (λ t. table_of t.now) types.now) self.old.states.items }
         requires operations { AreOperations (map (λ t. table_of t.now) types.now) operations.now }
         ensures states { AreStates (map (λ t. table_of t.now) types.now) self.new.states.items }
-        ensures replays { OnOk result (Replays (map (λ t. table_of t.now) types.now) t operations.now self.old self.new) }
+        ensures replays { OnOk result (ReplaysNext (map (λ t. table_of t.now) types.now) t operations.now self.old self.new) }
     {
         let commit_index = self.order.len();
         self.order.push(t)?;

@@ -1,7 +1,7 @@
 //! The rows of transactions in slots, so that one that ended keeps four bytes.
 
 ghost use Rattle.std.specs.Prelude.{◌≡◌, true, [], ◌∷◌, ◌++◌, length, take, None, Some, OnOk, OnErr, slice_set};
-ghost use Rattle.open_transactions.specs.Transactions.{row, is_open};
+ghost use Rattle.open_transactions.specs.Transactions.{row, has_row};
 ghost use Rattle.history_audit.specs.Slots.{its_of};
 
 use crate::executed::Executed;
@@ -35,13 +35,13 @@ impl Model for Slots {
     ghost use Rattle.std.specs.Prelude.{List, map, Option};
     ghost use Rattle.open_transactions.specs.InSlots.{IsPlaced};
     ghost use Rattle.history_audit.specs.declared.executed.Executed.{Executed};
-    ghost use Rattle.history_audit.specs.Slots.{number_of, rows_of};
+    ghost use Rattle.history_audit.specs.Slots.{slot_number, slot_rows};
 
     ghost Value = { List (Option (List Executed)) };
 
-    ghost view = { λ a. rows_of a.slots.items a.slot_of.items };
+    ghost view = { λ a. slot_rows a.slots.items a.slot_of.items };
 
-    ghost invariant = { λ a. IsPlaced 4294967295 a.slot_of.items (map number_of a.slots.items) };
+    ghost invariant = { λ a. IsPlaced 4294967295 a.slot_of.items (map slot_number a.slots.items) };
 }
 
 impl Slots {
@@ -64,7 +64,7 @@ impl Slots {
 
     /// Whether t began and hasn't ended.
     pub(crate) fn is_open(&self, t: u32) -> bool
-        ensures { result ≡ is_open self.now t }
+        ensures { result ≡ has_row self.now t }
     {
         let t = t as usize;
         t < self.slot_of.len() && self.slot_of[t] != ENDED
@@ -72,7 +72,7 @@ impl Slots {
 
     /// How many operations of t survive.
     pub(crate) fn count(&self, t: u32) -> usize
-        requires { is_open self.now t ≡ true }
+        requires { has_row self.now t ≡ true }
         ensures { result ≡ length (its_of (row self.now t)) }
     {
         let slot = self.slot_of[t as usize] as usize;
@@ -102,7 +102,7 @@ impl Slots {
 
     /// One more operation of t.
     pub(crate) fn add(&mut self, t: u32, operation: Executed) -> Result<(), AllocError>
-        requires { is_open self.old t ≡ true }
+        requires { has_row self.old t ≡ true }
         ensures ok { OnOk result (self.new ≡ slice_set self.old t (Some (its_of (row self.old t) ++ operation ∷ []))) }
         ensures err { OnErr result (self.new ≡ self.old) }
     {
@@ -112,7 +112,7 @@ impl Slots {
 
     /// Keeps the first n operations of t, or all where it has fewer. It takes no memory.
     pub(crate) fn keep(&mut self, t: u32, n: usize)
-        requires { is_open self.old t ≡ true }
+        requires { has_row self.old t ≡ true }
         ensures { self.new ≡ slice_set self.old t (Some (take n (its_of (row self.old t)))) }
     {
         let slot = self.slot_of[t as usize] as usize;
@@ -121,7 +121,7 @@ impl Slots {
 
     /// Ends t, and hands out its operations. It takes no memory.
     pub(crate) fn end(&mut self, t: u32) -> Operations
-        requires { is_open self.old t ≡ true }
+        requires { has_row self.old t ≡ true }
         ensures operations { result ≡ its_of (row self.old t) }
         ensures rows { self.new ≡ slice_set self.old t None }
     {

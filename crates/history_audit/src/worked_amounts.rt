@@ -3,14 +3,14 @@
 #![tactic(auto)]
 
 ghost use Rattle.std.specs.Prelude.{[], ◌∷◌, Some};
-ghost use Rattle.type_table.specs.Examples.{counter};
+ghost use Rattle.type_table.specs.Examples.{counter_table};
 ghost use Rattle.type_table.specs.Operation.{operation_at};
 ghost use Rattle.object_trait.specs.declared.event.EventKind.TheVariants as kind;
 ghost use Rattle.serial_order.specs.History.{commits, IsHistory};
 ghost use Rattle.history_audit.specs.Audit.{IsAudit, IsFirstBad, IsFirstIllegal};
-ghost use Rattle.history_audit.specs.Examples.{one_purse, purse_history, early_history, amount_history, IsBadFirst, give_any, take_any, value};
+ghost use Rattle.history_audit.specs.Examples.{one_purse, purse_history, early_history, amount_history, IsBadFirst, give_any, take_any, purse_value};
 
-use number_text::number_has_table;
+use number_types::number_has_table;
 
 /// Two give to the purse, one of whom takes of it too; then a third reads 6 and takes 3, which is listed.
 pub fn amounts_are_replayed()
@@ -37,9 +37,9 @@ pub fn operations_that_are_bad()
     ensures nothing { IsBadFirst (kind.Op (take_any 0) 0 0) }
     ensures too_much { IsBadFirst (kind.Op (take_any 10) 0 0) }
     ensures too_much_given { IsBadFirst (kind.Op (give_any 10) 0 0) }
-    ensures value_past { IsBadFirst (kind.Op (value 10) 0 0) }
+    ensures value_past { IsBadFirst (kind.Op (purse_value 10) 0 0) }
     ensures second_of_value { IsBadFirst (kind.Op (operation_at 7 (Some 1)) 0 0) }
-    ensures at_a_table { IsFirstBad (counter ∷ []) amount_history 1 }
+    ensures at_a_table { IsFirstBad (counter_table ∷ []) amount_history 1 }
 {}
 
 /// An answer without a reply says a place that some operation has. `value` has one place.

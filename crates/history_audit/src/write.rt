@@ -3,7 +3,7 @@
 ghost use Rattle.std.specs.Prelude.{◌≡◌, None, Ok, Err};
 ghost use Rattle.std.specs.List.{flat_map, enumerate_from};
 ghost use Rattle.outputs.specs.Out.{Puts};
-ghost use Rattle.history_audit.specs.Text.{commit_line, serial_line, audit_text};
+ghost use Rattle.history_audit.specs.Text.{committed_line, serial_line, audit_text};
 
 use crate::outcome::{Audit, AuditFault};
 use itoa::Buffer;
@@ -41,7 +41,7 @@ fn write_yes<W: Out>(audit: &Audit, out: &mut W) -> Result<(), OutFault>
 /// Writes the lines of the committed transactions.
 fn write_order<W: Out>(order: &[u32], out: &mut W) -> Result<(), OutFault>
     requires { W.fault out.old ≡ None }
-    ensures { Puts (W.taken out.old) (W.taken out.new) (W.fault out.new) (flat_map commit_line order.now) result }
+    ensures { Puts (W.taken out.old) (W.taken out.new) (W.fault out.new) (flat_map committed_line order.now) result }
 {
     texts_in_turn();
     items_in_turn::<u32>();
@@ -54,7 +54,7 @@ fn write_order<W: Out>(order: &[u32], out: &mut W) -> Result<(), OutFault>
 /// Writes the line of a committed transaction, of which there may be many.
 fn write_commit<W: Out>(t: u32, out: &mut W) -> Result<(), OutFault>
     requires { W.fault out.old ≡ None }
-    ensures { Puts (W.taken out.old) (W.taken out.new) (W.fault out.new) (commit_line t) result }
+    ensures { Puts (W.taken out.old) (W.taken out.new) (W.fault out.new) (committed_line t) result }
 {
     out.put_numbers(b"# commit", &[t])
 }

@@ -10,7 +10,7 @@ use Rattle.object_trait.specs.declared.event.Event.{Event}
 use Rattle.store_text.specs.Body.{store_rules, rank_of}
 use Rattle.store_text.specs.declared.line.Line.TheVariants.{End}
 use Rattle.store_text.specs.declared.line.ObjectLine.{ObjectLine}
-use Rattle.history_text.specs.Events.{events, line_of, is_in_range}
+use Rattle.history_text.specs.Events.{history_body, line_of, is_in_range}
 use Rattle.history_text.specs.Canonical.{object_line, event_line, canonical_lines, AreInRange}
 use Rattle.history_text.proofs.Follows.{HistoryLine, count, AreUpTo, Follow, follow_append, accepted_with_end, not_late, not_late_single, ascending}
 
@@ -29,7 +29,7 @@ count-more rank before x = omega (arith, count-push rank before x)
 -- ---- objects
 
 -- an object line passes
-object_passes : (before : List HistoryLine) (o : ObjectLine) → AreUpTo 1 before → count 1 before < 256 → o.file ≤ 255 → HasPassed (store_rules events) before (object_line o)
+object_passes : (before : List HistoryLine) (o : ObjectLine) → AreUpTo 1 before → count 1 before < 256 → o.file ≤ 255 → HasPassed (store_rules history_body) before (object_line o)
 object_passes before o low room fit = record {
   in_order = not_late before (object_line o) low refl;
   lacks_none = refl;
@@ -54,8 +54,8 @@ objects_follow before (o ∷ objects) low room fit =
 -- ---- events
 
 -- the line of an event passes
-event_passes : (before : List HistoryLine) (e : Event) → AreUpTo 2 before → was_read (store_rules events) before 1 ≡ true → count 2 before < 1000000
-    → is_in_range (line_of e) ≡ true → HasPassed (store_rules events) before (event_line e)
+event_passes : (before : List HistoryLine) (e : Event) → AreUpTo 2 before → was_read (store_rules history_body) before 1 ≡ true → count 2 before < 1000000
+    → is_in_range (line_of e) ≡ true → HasPassed (store_rules history_body) before (event_line e)
 event_passes before e low is_read room fit = record {
   in_order = not_late before (event_line e) low refl;
   lacks_none = rw is_read refl;
@@ -79,9 +79,9 @@ events_follow before (e ∷ happened) low is_read room fit =
 
 -- ---- `end`
 
-end_passes : (before : List HistoryLine) → AreUpTo 2 before → 0 < count 1 before → HasPassed (store_rules events) before End
+end_passes : (before : List HistoryLine) → AreUpTo 2 before → 0 < count 1 before → HasPassed (store_rules history_body) before End
 end_passes before low some =
-    let is_read : was_read (store_rules events) before 1 ≡ true = lt-ltb 0 (count 1 before) some in
+    let is_read : was_read (store_rules history_body) before 1 ≡ true = lt-ltb 0 (count 1 before) some in
     record {
       in_order = not_late_single before low;
       lacks_none = rw is_read refl;
@@ -124,7 +124,7 @@ no_event (o ∷ objects) =
     omega (arith, one, no_event objects)
 
 -- the lines of a history whose numbers and counts are in their ranges
-pub canonical_accepted : (objects : List ObjectLine) (happened : List Event) → AreInRange objects happened → IsAccepted (store_rules events) (canonical_lines objects happened)
+pub canonical_accepted : (objects : List ObjectLine) (happened : List Event) → AreInRange objects happened → IsAccepted (store_rules history_body) (canonical_lines objects happened)
 canonical_accepted objects happened h =
     let front : List HistoryLine = map object_line objects in
     let body : List HistoryLine = map event_line happened in
@@ -136,4 +136,4 @@ canonical_accepted objects happened h =
     let second : Follow front body = events_follow front happened front_low some (omega (arith, no_event objects, h.events_fit)) h.numbers_fit in
     let last : Follow (front ++ body) (End ∷ []) = (end_passes (front ++ body) low (omega (arith, still, some)), tt) in
     let both : Follow [] ((front ++ body) ++ End ∷ []) = follow_append [] (front ++ body) (End ∷ []) (follow_append [] front body first second) last in
-    subst (IsAccepted (store_rules events)) (append_assoc front body (End ∷ [])) (accepted_with_end (front ++ body) low both)
+    subst (IsAccepted (store_rules history_body)) (append_assoc front body (End ∷ [])) (accepted_with_end (front ++ body) low both)

@@ -6,10 +6,10 @@ use Rattle.line_text.specs.Rules.{Rules}
 use Rattle.line_text.specs.Spelling.{Spells, IsReadAgain, NumberIsReadAgain}
 use Rattle.object_trait.specs.declared.event.Event.{Event}
 use Rattle.store_text.specs.Body.{store_rules}
-use Rattle.store_text.specs.Said.{objects_of, entries_of}
+use Rattle.store_text.specs.Said.{said_objects, entries_of}
 use Rattle.store_text.specs.declared.line.Line.TheVariants.{End}
 use Rattle.store_text.specs.declared.line.ObjectLine.{ObjectLine}
-use Rattle.history_text.specs.Events.{events, event_of, line_of, is_in_range}
+use Rattle.history_text.specs.Events.{history_body, event_in_line, line_of, is_in_range}
 use Rattle.history_text.specs.Canonical.{words_of, object_line, event_line, canonical_lines, CanonicalIsRead, WrittenIsRead}
 use Rattle.history_text.proofs.Follows.{HistoryLine}
 use Rattle.history_text.proofs.Accepted.{canonical_accepted}
@@ -20,7 +20,7 @@ module _ (again : (g : Rules HistoryLine) (words : HistoryLine → List (List �
     (numbers : (n : ℕ) → n < 10 ^ 7 → NumberIsReadAgain n) where
   -- a line is said by its words
   abbrev IsSpelled : HistoryLine → Type 0
-  IsSpelled x = Spells (store_rules events) x (words_of x)
+  IsSpelled x = Spells (store_rules history_body) x (words_of x)
 
   -- the lines of the objects are
   objects_spelled : (objects : List ObjectLine) → AllByRecursion (λ (o : ObjectLine). o.file ≤ 255) objects → AllByRecursion IsSpelled (map object_line objects)
@@ -38,7 +38,7 @@ module _ (again : (g : Rules HistoryLine) (words : HistoryLine → List (List �
       let body = each-append IsSpelled (map event_line happened) (End ∷ []) (events_spelled happened h.numbers_fit) (end_spells numbers, tt) in
       let spelled = each-append IsSpelled (map object_line objects) (map event_line happened ++ End ∷ []) (objects_spelled objects h.files_fit) body in
       record {
-        read = again (store_rules events) words_of (canonical_lines objects happened) spelled (canonical_accepted objects happened h);
+        read = again (store_rules history_body) words_of (canonical_lines objects happened) spelled (canonical_accepted objects happened h);
         objects_said = objects_said objects happened;
         events_said = events_said objects happened;
       }
@@ -49,6 +49,6 @@ written_read canonical objects happened back h read =
     let known = canonical objects happened h in
     let same : read.0 ≡ canonical_lines objects happened = let both = sym read.1 ∙ known.read in cc in
     record {
-      objects_are = read.2.objects ∙ ap objects_of same ∙ known.objects_said;
-      events_are = read.2.events ∙ ap (λ lines. map event_of (entries_of lines)) same ∙ known.events_said;
+      objects_are = read.2.objects ∙ ap said_objects same ∙ known.objects_said;
+      events_are = read.2.events ∙ ap (λ lines. map event_in_line (entries_of lines)) same ∙ known.events_said;
     }

@@ -12,7 +12,7 @@ use Rattle.store_text.specs.declared.line.Line.{Line}
 use Rattle.store_text.specs.declared.parts.Parts.{Parts}
 use Rattle.history_text.specs.declared.event_line.EventLine.{EventLine}
 use Rattle.history_text.specs.declared.event_line.EventLine.TheVariants.{Begin, Op, OpOf, Busy, Nothing, Commit, Abort, Rollback}
-use Rattle.history_text.specs.Events.{events, event_of, line_of, is_operation, is_in_range}
+use Rattle.history_text.specs.Events.{history_body, event_in_line, line_of, is_operation, is_in_range}
 use Rattle.history_text.specs.History.{IsHistoryOf}
 use Rattle.history_text.specs.Canonical.{AreInRange}
 use Rattle.history_text.proofs.Said.{event_again}
@@ -22,7 +22,7 @@ is_place : (k : ℕ) → is_operation k ≡ true → k < 256
 is_place k h = omega (arith, leb-true k 63 h)
 
 -- the event of a line whose numbers are in range is said by that line
-pub line_again : (x : EventLine) → is_in_range x ≡ true → line_of (event_of x) ≡ x
+pub line_again : (x : EventLine) → is_in_range x ≡ true → line_of (event_in_line x) ≡ x
 line_again (Begin w t) h = refl
 line_again (Op w t x k) h =
     let small : k < 256 = is_place k (and_parts _ _ h).1 in
@@ -37,20 +37,20 @@ line_again (Abort w t) h = refl
 line_again (Rollback w t n) h = refl
 
 -- the lines of events say them
-pub lines_again : (happened : List Event) → happened ≡ map event_of (map line_of happened)
+pub lines_again : (happened : List Event) → happened ≡ map event_in_line (map line_of happened)
 lines_again [] = refl
-lines_again (e ∷ happened) = ap (λ rest. e ∷ rest) (lines_again happened) ∙ ap (λ f. f ∷ map event_of (map line_of happened)) (sym (event_again e.worker e.kind))
+lines_again (e ∷ happened) = ap (λ rest. e ∷ rest) (lines_again happened) ∙ ap (λ f. f ∷ map event_in_line (map line_of happened)) (sym (event_again e.worker e.kind))
 
 -- what the events that are kept say
 abbrev said : Vec Event Global → List EventLine
 said happened = map line_of happened.items
 
 -- the events that were kept are those of the lines
-pub is_history : (lines : List (Line EventLine)) (parts : Parts (Vec Event Global)) (happened : Vec Event Global) → happened.items ≡ parts.entries.items → IsPartsOf events said lines parts
+pub is_history : (lines : List (Line EventLine)) (parts : Parts (Vec Event Global)) (happened : Vec Event Global) → happened.items ≡ parts.entries.items → IsPartsOf history_body said lines parts
     → IsHistoryOf lines (record { objects = parts.objects; events = happened })
 is_history lines parts happened same are = record {
   objects = are.objects;
-  events = same ∙ lines_again parts.entries.items ∙ ap (map event_of) are.entries;
+  events = same ∙ lines_again parts.entries.items ∙ ap (map event_in_line) are.entries;
 }
 
 -- the lines of events have their numbers in range where the events do
@@ -59,7 +59,7 @@ events_in_range [] h = tt
 events_in_range (e ∷ happened) h = (h.0, events_in_range happened h.1)
 
 -- the numbers and counts are those of its parts
-pub are_in_range : (parts : Parts (Vec Event Global)) (happened : Vec Event Global) → happened.items ≡ parts.entries.items → AreFit events said parts → AreInRange parts.objects.items happened.items
+pub are_in_range : (parts : Parts (Vec Event Global)) (happened : Vec Event Global) → happened.items ≡ parts.entries.items → AreFit history_body said parts → AreInRange parts.objects.items happened.items
 are_in_range parts happened same fit = record {
   some_object = fit.some_object;
   objects_fit = fit.objects;

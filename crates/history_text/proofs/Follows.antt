@@ -13,7 +13,7 @@ use Rattle.store_text.specs.Body.{store_rules, rank_of, sections}
 use Rattle.store_text.specs.declared.line.Line.{Line}
 use Rattle.store_text.specs.declared.line.Line.TheVariants.{End}
 use Rattle.history_text.specs.declared.event_line.EventLine.{EventLine}
-use Rattle.history_text.specs.Events.{events}
+use Rattle.history_text.specs.Events.{history_body}
 
 -- a line of a history
 abbrev pub HistoryLine : Type 0
@@ -30,7 +30,7 @@ AreUpTo rank lines = AllByRecursion (λ x. rank_of x ≤ rank) lines
 -- each of these lines passes its tests after all lines before it
 abbrev pub Follow : List HistoryLine → List HistoryLine → Type 0
 Follow before [] = Unit {0}
-Follow before (x ∷ xs) = HasPassed (store_rules events) before x × Follow (before ++ x ∷ []) xs
+Follow before (x ∷ xs) = HasPassed (store_rules history_body) before x × Follow (before ++ x ∷ []) xs
 
 -- of lines and then others
 pub follow_append : (before xs ys : List HistoryLine) → Follow before xs → Follow (before ++ xs) ys → Follow before (xs ++ ys)
@@ -38,13 +38,13 @@ follow_append before [] ys h k = rw append-nil at k
 follow_append before (x ∷ xs) ys h k = (h.0, follow_append (before ++ x ∷ []) xs ys h.1 (subst (λ lines. Follow lines ys) (sym (append_assoc before (x ∷ []) xs)) k))
 
 -- at a place
-follow_at : (before xs : List HistoryLine) (n : ℕ) (x : HistoryLine) → Follow before xs → slice_get xs n ≡ Some x → HasPassed (store_rules events) (before ++ take n xs) x
+follow_at : (before xs : List HistoryLine) (n : ℕ) (x : HistoryLine) → Follow before xs → slice_get xs n ≡ Some x → HasPassed (store_rules history_body) (before ++ take n xs) x
 follow_at before [] n x h e = absurd (none-some x e)
-follow_at before (y ∷ xs) zero x h e = rw append-nil (subst (HasPassed (store_rules events) before) (same_Some y x e) h.0)
-follow_at before (y ∷ xs) (suc n) x h e = subst (λ lines. HasPassed (store_rules events) lines x) (append_assoc before (y ∷ []) (take n xs)) (follow_at (before ++ y ∷ []) xs n x h.1 e)
+follow_at before (y ∷ xs) zero x h e = rw append-nil (subst (HasPassed (store_rules history_body) before) (same_Some y x e) h.0)
+follow_at before (y ∷ xs) (suc n) x h e = subst (λ lines. HasPassed (store_rules history_body) lines x) (append_assoc before (y ∷ []) (take n xs)) (follow_at (before ++ y ∷ []) xs n x h.1 e)
 
 -- an item that passes each test has no fault
-no_fault : (before : List HistoryLine) (x : HistoryLine) → HasPassed (store_rules events) before x → item_fault (store_rules events) before x ≡ None
+no_fault : (before : List HistoryLine) (x : HistoryLine) → HasPassed (store_rules history_body) before x → item_fault (store_rules history_body) before x ≡ None
 unfolding item_fault
 no_fault before x h = rw (h.in_order, h.lacks_none, h.misses_none, h.in_range, h.has_room, h.ascending, h.no_twin) refl
 
@@ -58,12 +58,12 @@ no_ends (x ∷ lines) h =
     sum_by-cons (λ y. cond (eqb (rank_of y) 3) 1 0) x lines ∙ rw other (omega (arith, no_ends lines h.1))
 
 -- lines of lower ranks that follow, and then `end`, are accepted
-pub accepted_with_end : (lines : List HistoryLine) → AreUpTo 2 lines → Follow [] (lines ++ End ∷ []) → IsAccepted (store_rules events) (lines ++ End ∷ [])
+pub accepted_with_end : (lines : List HistoryLine) → AreUpTo 2 lines → Follow [] (lines ++ End ∷ []) → IsAccepted (store_rules history_body) (lines ++ End ∷ [])
 accepted_with_end lines low h = record {
   each = λ n x at. no_fault (take n (lines ++ End ∷ [])) x (follow_at [] (lines ++ End ∷ []) n x h at);
   before_end = λ n below.
       let within : n ≤ length lines = omega (arith, below, length-append lines (End ∷ [])) in
-      ap (λ front. was_read (store_rules events) front 3) (take-append-le n lines (End ∷ []) within) ∙ ap (ltb 0) (no_ends (take n lines) (each-take (λ x. rank_of x ≤ 2) n lines low));
+      ap (λ front. was_read (store_rules history_body) front 3) (take-append-le n lines (End ∷ []) within) ∙ ap (ltb 0) (no_ends (take n lines) (each-take (λ x. rank_of x ≤ 2) n lines low));
   has_ended = lt-ltb 0 (count 3 (lines ++ End ∷ [])) (omega (arith, sum_by-append (λ x. cond (eqb (rank_of x) 3) 1 0) lines (End ∷ [])));
 }
 
@@ -75,10 +75,10 @@ last_low rank before y h at = each-found (λ x. rank_of x ≤ rank) before _ y h
 
 -- a line after lines of no higher rank isn't late, where its section may have several lines
 pub not_late : (before : List HistoryLine) (x : HistoryLine) → AreUpTo (rank_of x) before → is_single (slice_get (sections false) (rank_of x)) ≡ false
-    → is_late (store_rules events) (last_item before) x ≡ false
+    → is_late (store_rules history_body) (last_item before) x ≡ false
 not_late before x h several = by_last (last_item before) (λ y at. last_low (rank_of x) before y h at)
   where
-    by_last : (last : Option HistoryLine) → ((y : HistoryLine) → last ≡ Some y → rank_of y ≤ rank_of x) → is_late (store_rules events) last x ≡ false
+    by_last : (last : Option HistoryLine) → ((y : HistoryLine) → last ≡ Some y → rank_of y ≤ rank_of x) → is_late (store_rules history_body) last x ≡ false
     by_last None low = refl
     by_last (Some y) low =
         let first : ltb (rank_of x) (rank_of y) ≡ false = le-ltb (rank_of x) (rank_of y) (low y refl) in
@@ -89,10 +89,10 @@ not_late before x h several = by_last (last_item before) (λ y at. last_low (ran
         and_false false = refl
 
 -- nor is one after lines of lower ranks
-pub not_late_single : (before : List HistoryLine) → AreUpTo 2 before → is_late (store_rules events) (last_item before) End ≡ false
+pub not_late_single : (before : List HistoryLine) → AreUpTo 2 before → is_late (store_rules history_body) (last_item before) End ≡ false
 not_late_single before h = by_last (last_item before) (λ y at. last_low 2 before y h at)
   where
-    by_last : (last : Option HistoryLine) → ((y : HistoryLine) → last ≡ Some y → rank_of y ≤ 2) → is_late (store_rules events) last End ≡ false
+    by_last : (last : Option HistoryLine) → ((y : HistoryLine) → last ≡ Some y → rank_of y ≤ 2) → is_late (store_rules history_body) last End ≡ false
     by_last None low = refl
     by_last (Some y) low =
         let rank = rank_of y in
@@ -100,9 +100,9 @@ not_late_single before h = by_last (last_item before) (λ y at. last_low 2 befor
         or_from (ltb 3 rank) (eqb 3 rank && true) (le-ltb 3 rank (omega (arith, below))) (and_left (eqb 3 rank) true (ne_eqb 3 rank (λ e. omega (arith, e, below))))
 
 -- no line has a key, so each ascends
-pub ascending : (before : List HistoryLine) (x : HistoryLine) → ascends (store_rules events) (last_item before) x ≡ true
+pub ascending : (before : List HistoryLine) (x : HistoryLine) → ascends (store_rules history_body) (last_item before) x ≡ true
 ascending before x = by_last (last_item before)
   where
-    by_last : (last : Option HistoryLine) → ascends (store_rules events) last x ≡ true
+    by_last : (last : Option HistoryLine) → ascends (store_rules history_body) last x ≡ true
     by_last None = refl
     by_last (Some y) = or_right (not (eqb (rank_of x) (rank_of y))) true refl

@@ -7,11 +7,11 @@ use Rattle.line_text.proofs.Items.{keyword}
 use Rattle.store_text.specs.Body.{line_of}
 use Rattle.store_text.specs.declared.line.Line.TheVariants.{Entry}
 use Rattle.history_text.specs.declared.event_line.EventLine.TheVariants.{Begin, Op, Busy, Nothing, Commit, Abort, Rollback}
-use Rattle.history_text.specs.Events.{events, event_line_of, begin_of, op_of, listed_of, busy_of, nothing_of, commit_of, abort_of, rollback_of}
+use Rattle.history_text.specs.Events.{history_body, event_line_of, begin_event_of, op_event_of, listed_of, busy_of, nothing_of, commit_event_of, abort_event_of, rollback_event_of}
 
 pub begin_plainly : (w t : ℕ) (rest first behind : List ℕ) → IsNumberBefore 32 rest w first → IsNumberBefore 10 first t behind
-    → SaysPlainly (line_of events) (codes "begin " ++ rest) (Entry (Begin w t)) behind
-unfolding line_of is_key event_line_of begin_of exactly number_at
+    → SaysPlainly (line_of history_body) (codes "begin " ++ rest) (Entry (Begin w t)) behind
+unfolding line_of is_key event_line_of begin_event_of exactly number_at
 begin_plainly w t rest first behind pw pt = record {
   words = codes "begin" ∷ pw.word ∷ pt.word ∷ [];
   line = (rest, keyword (codes "begin") refl refl, refl, (first, pw.is_word, pw.front, (pt.is_word, pt.front)));
@@ -21,8 +21,8 @@ begin_plainly w t rest first behind pw pt = record {
 }
 
 pub op_plainly : (w t x k : ℕ) (rest first second third behind : List ℕ) → IsNumberBefore 32 rest w first → IsNumberBefore 32 first t second → IsNumberBefore 32 second x third → IsNumberBefore 10 third k behind
-    → SaysPlainly (line_of events) (codes "op " ++ rest) (Entry (Op w t x k)) behind
-unfolding line_of is_key event_line_of op_of listed_of exactly number_at
+    → SaysPlainly (line_of history_body) (codes "op " ++ rest) (Entry (Op w t x k)) behind
+unfolding line_of is_key event_line_of op_event_of listed_of exactly number_at
 op_plainly w t x k rest first second third behind pw pt px pk = record {
   words = codes "op" ∷ pw.word ∷ pt.word ∷ px.word ∷ pk.word ∷ [];
   line = (rest, keyword (codes "op") refl refl, refl, (first, pw.is_word, pw.front, (second, pt.is_word, pt.front, (third, px.is_word, px.front, (pk.is_word, pk.front)))));
@@ -32,7 +32,7 @@ op_plainly w t x k rest first second third behind pw pt px pk = record {
 }
 
 pub busy_plainly : (w t x c u : ℕ) (rest first second third fourth behind : List ℕ) → IsNumberBefore 32 rest w first → IsNumberBefore 32 first t second → IsNumberBefore 32 second x third → IsNumberBefore 32 third c fourth → IsNumberBefore 10 fourth u behind
-    → SaysPlainly (line_of events) (codes "busy " ++ rest) (Entry (Busy w t x c u)) behind
+    → SaysPlainly (line_of history_body) (codes "busy " ++ rest) (Entry (Busy w t x c u)) behind
 unfolding line_of is_key event_line_of busy_of exactly number_at
 busy_plainly w t x c u rest first second third fourth behind pw pt px pc pu = record {
   words = codes "busy" ∷ pw.word ∷ pt.word ∷ px.word ∷ pc.word ∷ pu.word ∷ [];
@@ -43,7 +43,7 @@ busy_plainly w t x c u rest first second third fourth behind pw pt px pc pu = re
 }
 
 pub nothing_plainly : (w t x c : ℕ) (rest first second third behind : List ℕ) → IsNumberBefore 32 rest w first → IsNumberBefore 32 first t second → IsNumberBefore 32 second x third → IsNumberBefore 10 third c behind
-    → SaysPlainly (line_of events) (codes "none " ++ rest) (Entry (Nothing w t x c)) behind
+    → SaysPlainly (line_of history_body) (codes "none " ++ rest) (Entry (Nothing w t x c)) behind
 unfolding line_of is_key event_line_of nothing_of exactly number_at
 nothing_plainly w t x c rest first second third behind pw pt px pc = record {
   words = codes "none" ∷ pw.word ∷ pt.word ∷ px.word ∷ pc.word ∷ [];
@@ -54,8 +54,8 @@ nothing_plainly w t x c rest first second third behind pw pt px pc = record {
 }
 
 pub commit_plainly : (w t : ℕ) (rest first behind : List ℕ) → IsNumberBefore 32 rest w first → IsNumberBefore 10 first t behind
-    → SaysPlainly (line_of events) (codes "commit " ++ rest) (Entry (Commit w t)) behind
-unfolding line_of is_key event_line_of commit_of exactly number_at
+    → SaysPlainly (line_of history_body) (codes "commit " ++ rest) (Entry (Commit w t)) behind
+unfolding line_of is_key event_line_of commit_event_of exactly number_at
 commit_plainly w t rest first behind pw pt = record {
   words = codes "commit" ∷ pw.word ∷ pt.word ∷ [];
   line = (rest, keyword (codes "commit") refl refl, refl, (first, pw.is_word, pw.front, (pt.is_word, pt.front)));
@@ -65,8 +65,8 @@ commit_plainly w t rest first behind pw pt = record {
 }
 
 pub abort_plainly : (w t : ℕ) (rest first behind : List ℕ) → IsNumberBefore 32 rest w first → IsNumberBefore 10 first t behind
-    → SaysPlainly (line_of events) (codes "abort " ++ rest) (Entry (Abort w t)) behind
-unfolding line_of is_key event_line_of abort_of exactly number_at
+    → SaysPlainly (line_of history_body) (codes "abort " ++ rest) (Entry (Abort w t)) behind
+unfolding line_of is_key event_line_of abort_event_of exactly number_at
 abort_plainly w t rest first behind pw pt = record {
   words = codes "abort" ∷ pw.word ∷ pt.word ∷ [];
   line = (rest, keyword (codes "abort") refl refl, refl, (first, pw.is_word, pw.front, (pt.is_word, pt.front)));
@@ -76,8 +76,8 @@ abort_plainly w t rest first behind pw pt = record {
 }
 
 pub rollback_plainly : (w t n : ℕ) (rest first second behind : List ℕ) → IsNumberBefore 32 rest w first → IsNumberBefore 32 first t second → IsNumberBefore 10 second n behind
-    → SaysPlainly (line_of events) (codes "rollback " ++ rest) (Entry (Rollback w t n)) behind
-unfolding line_of is_key event_line_of rollback_of exactly number_at
+    → SaysPlainly (line_of history_body) (codes "rollback " ++ rest) (Entry (Rollback w t n)) behind
+unfolding line_of is_key event_line_of rollback_event_of exactly number_at
 rollback_plainly w t n rest first second behind pw pt pn = record {
   words = codes "rollback" ∷ pw.word ∷ pt.word ∷ pn.word ∷ [];
   line = (rest, keyword (codes "rollback") refl refl, refl, (first, pw.is_word, pw.front, (second, pt.is_word, pt.front, (pn.is_word, pn.front))));

@@ -4,29 +4,29 @@ use Rattle.type_table.specs.Operation.{operation_at, place_of, amount_of, operat
 use Rattle.object_trait.specs.declared.event.Event.{Event}
 use Rattle.object_trait.specs.declared.event.EventKind.{EventKind}
 use Rattle.object_trait.specs.declared.event.EventKind.TheVariants as kind
-use Rattle.store_text.specs.Said.{objects_of, entries_of}
+use Rattle.store_text.specs.Said.{said_objects, entries_of}
 use Rattle.store_text.specs.declared.line.Line.TheVariants.{End}
 use Rattle.store_text.specs.declared.line.ObjectLine.{ObjectLine}
-use Rattle.history_text.specs.Events.{event_of, line_at, op_line}
+use Rattle.history_text.specs.Events.{event_in_line, event_line_at, op_event_line}
 use Rattle.history_text.specs.Canonical.{event_line, canonical_lines}
 
 -- the lines of events say no object
-no_object : (happened : List Event) → objects_of (map event_line happened ++ End ∷ []) ≡ []
+no_object : (happened : List Event) → said_objects (map event_line happened ++ End ∷ []) ≡ []
 no_object [] = refl
 no_object (e ∷ happened) = no_object happened
 
 -- the lines of a history say its objects
-pub objects_said : (objects : List ObjectLine) (happened : List Event) → objects_of (canonical_lines objects happened) ≡ objects
+pub objects_said : (objects : List ObjectLine) (happened : List Event) → said_objects (canonical_lines objects happened) ≡ objects
 objects_said [] happened = no_object happened
 objects_said (o ∷ objects) happened = ap (λ rest. o ∷ rest) (objects_said objects happened)
 
 -- the line of an operation says its place and its amount
-op_again : (w t x k : ℕ) (amount : Option ℕ) → event_of (op_line w t x k amount) ≡ record { worker = w; kind = kind.Op (operation_at k amount) t x }
+op_again : (w t x k : ℕ) (amount : Option ℕ) → event_in_line (op_event_line w t x k amount) ≡ record { worker = w; kind = kind.Op (operation_at k amount) t x }
 op_again w t x k None = refl
 op_again w t x k (Some n) = refl
 
 -- the line of an event says it
-pub event_again : (w : ℕ) (k : EventKind) → event_of (line_at w k) ≡ record { worker = w; kind = k }
+pub event_again : (w : ℕ) (k : EventKind) → event_in_line (event_line_at w k) ≡ record { worker = w; kind = k }
 event_again w (kind.Begin t) = refl
 event_again w (kind.Op k t x) = op_again w t x (place_of k) (amount_of k) ∙ ap (λ p. record { worker = w; kind = kind.Op p t x }) (operation-again k)
 event_again w (kind.Busy c t x u) = refl
@@ -36,11 +36,11 @@ event_again w (kind.Abort t) = refl
 event_again w (kind.Rollback t n) = refl
 
 -- the lines of the events say them
-events_again : (happened : List Event) → map event_of (entries_of (map event_line happened ++ End ∷ [])) ≡ happened
+events_again : (happened : List Event) → map event_in_line (entries_of (map event_line happened ++ End ∷ [])) ≡ happened
 events_again [] = refl
-events_again (e ∷ happened) = ap (λ f. f ∷ map event_of (entries_of (map event_line happened ++ End ∷ []))) (event_again e.worker e.kind) ∙ ap (λ rest. e ∷ rest) (events_again happened)
+events_again (e ∷ happened) = ap (λ f. f ∷ map event_in_line (entries_of (map event_line happened ++ End ∷ []))) (event_again e.worker e.kind) ∙ ap (λ rest. e ∷ rest) (events_again happened)
 
 -- and those of a history its events
-pub events_said : (objects : List ObjectLine) (happened : List Event) → map event_of (entries_of (canonical_lines objects happened)) ≡ happened
+pub events_said : (objects : List ObjectLine) (happened : List Event) → map event_in_line (entries_of (canonical_lines objects happened)) ≡ happened
 events_said [] happened = events_again happened
 events_said (o ∷ objects) happened = events_said objects happened

@@ -11,12 +11,13 @@ use Rattle.line_text.specs.LongNumbers.{long_number_at}
 use Rattle.line_text.specs.Shapes.{exactly, number_at, kind_at, is_key}
 use Rattle.line_text.specs.Spelling.{spaced, IsWord, Spells, NumberIsReadAgain}
 use Rattle.line_text.proofs.Items.{keyword, length-spaced}
-use Rattle.line_text.proofs.LongDecimals.{read_long}
+use Rattle.decimals.proofs.Decimals.{read_long}
+use Rattle.line_text.proofs.Decimals.{long_is_word}
 use Rattle.store_text.specs.Body.{store_rules, line_of, object_of_words, end_of_words}
 use Rattle.store_text.specs.declared.line.Line.TheVariants.{Object, Entry, End}
 use Rattle.history_text.specs.declared.event_line.EventLine.{EventLine}
 use Rattle.history_text.specs.declared.event_line.EventLine.TheVariants.{Begin, Op, OpOf, Busy, Nothing, Commit, Abort, Rollback}
-use Rattle.history_text.specs.Events.{events, event_line_of, begin_of, op_of, counted_of, listed_of, busy_of, nothing_of, commit_of, abort_of, rollback_of, is_in_range, is_worker, is_transaction, is_object, is_operation, is_amount}
+use Rattle.history_text.specs.Events.{history_body, event_line_of, begin_event_of, op_event_of, counted_of, listed_of, busy_of, nothing_of, commit_event_of, abort_event_of, rollback_event_of, is_in_range, is_worker, is_transaction, is_object, is_operation, is_event_amount}
 use Rattle.history_text.specs.Canonical.{words_of}
 
 -- ---- ranges
@@ -54,7 +55,7 @@ module _ (numbers : (n : ℕ) → n < 10 ^ 7 → NumberIsReadAgain n) where
   short_long_line w (m ∷ ns) n h last = omega (arith, length-spaced w (decimal m) (map decimal ns ++ decimal n ∷ []), short_long_line (decimal m) ns n h.1 last, (numbers m h.0).short)
 
   -- the words of an `object` line
-  object_spells : (kind : Kind) (file : ℕ) → file < 10 ^ 7 → Spells (store_rules events) (Object kind file) (words_of (Object kind file))
+  object_spells : (kind : Kind) (file : ℕ) → file < 10 ^ 7 → Spells (store_rules history_body) (Object kind file) (words_of (Object kind file))
   unfolding line_of object_of_words exactly number_at kind_at is_key
   object_spells Undo file small = record {
     some = omega arith;
@@ -79,8 +80,8 @@ module _ (numbers : (n : ℕ) → n < 10 ^ 7 → NumberIsReadAgain n) where
   }
 
   -- the words of a `begin` line
-  begin_spells : (w t : ℕ) → w < 10 ^ 7 → t < 10 ^ 7 → Spells (store_rules events) (Entry (Begin w t)) (words_of (Entry (Begin w t)))
-  unfolding line_of event_line_of begin_of exactly number_at is_key
+  begin_spells : (w t : ℕ) → w < 10 ^ 7 → t < 10 ^ 7 → Spells (store_rules history_body) (Entry (Begin w t)) (words_of (Entry (Begin w t)))
+  unfolding line_of event_line_of begin_event_of exactly number_at is_key
   begin_spells w t w_small t_small =
       let small : AreSmall (w ∷ t ∷ []) = (w_small, (t_small, tt)) in
       record {
@@ -92,8 +93,8 @@ module _ (numbers : (n : ℕ) → n < 10 ^ 7 → NumberIsReadAgain n) where
       }
 
   -- the words of a `op` line
-  op_spells : (w t x k : ℕ) → w < 10 ^ 7 → t < 10 ^ 7 → x < 10 ^ 7 → k < 10 ^ 7 → Spells (store_rules events) (Entry (Op w t x k)) (words_of (Entry (Op w t x k)))
-  unfolding line_of event_line_of op_of listed_of exactly number_at is_key
+  op_spells : (w t x k : ℕ) → w < 10 ^ 7 → t < 10 ^ 7 → x < 10 ^ 7 → k < 10 ^ 7 → Spells (store_rules history_body) (Entry (Op w t x k)) (words_of (Entry (Op w t x k)))
+  unfolding line_of event_line_of op_event_of listed_of exactly number_at is_key
   op_spells w t x k w_small t_small x_small k_small =
       let small : AreSmall (w ∷ t ∷ x ∷ k ∷ []) = (w_small, (t_small, (x_small, (k_small, tt)))) in
       record {
@@ -105,21 +106,21 @@ module _ (numbers : (n : ℕ) → n < 10 ^ 7 → NumberIsReadAgain n) where
       }
 
   -- those of one with an amount
-  counted_spells : (w t x k n : ℕ) → w < 10 ^ 7 → t < 10 ^ 7 → x < 10 ^ 7 → k < 10 ^ 7 → n ≤ 4294967295 → Spells (store_rules events) (Entry (OpOf w t x k n)) (words_of (Entry (OpOf w t x k n)))
-  unfolding line_of event_line_of op_of counted_of exactly number_at long_number_at is_key
+  counted_spells : (w t x k n : ℕ) → w < 10 ^ 7 → t < 10 ^ 7 → x < 10 ^ 7 → k < 10 ^ 7 → n ≤ 4294967295 → Spells (store_rules history_body) (Entry (OpOf w t x k n)) (words_of (Entry (OpOf w t x k n)))
+  unfolding line_of event_line_of op_event_of counted_of exactly number_at long_number_at is_key
   counted_spells w t x k n w_small t_small x_small k_small n_fits =
       let small : AreSmall (w ∷ t ∷ x ∷ k ∷ []) = (w_small, (t_small, (x_small, (k_small, tt)))) in
       let amount = read_long n n_fits in
       record {
         some = omega arith;
-        each = (keyword (codes "op") refl refl, each-append IsWord (map decimal (w ∷ t ∷ x ∷ k ∷ [])) (decimal n ∷ []) (are_words (w ∷ t ∷ x ∷ k ∷ []) small) (amount.is_word, tt));
+        each = (keyword (codes "op") refl refl, each-append IsWord (map decimal (w ∷ t ∷ x ∷ k ∷ [])) (decimal n ∷ []) (are_words (w ∷ t ∷ x ∷ k ∷ []) small) (long_is_word n n_fits, tt));
         no_comment = λ e. omega (arith, e);
         short = omega (arith, short_long_line (codes "op") (w ∷ t ∷ x ∷ k ∷ []) n small amount.short);
         said = rw ((numbers w w_small).read, (numbers t t_small).read, (numbers x x_small).read, (numbers k k_small).read, amount.read) refl;
       }
 
   -- the words of a `busy` line
-  busy_spells : (w t x c u : ℕ) → w < 10 ^ 7 → t < 10 ^ 7 → x < 10 ^ 7 → c < 10 ^ 7 → u < 10 ^ 7 → Spells (store_rules events) (Entry (Busy w t x c u)) (words_of (Entry (Busy w t x c u)))
+  busy_spells : (w t x c u : ℕ) → w < 10 ^ 7 → t < 10 ^ 7 → x < 10 ^ 7 → c < 10 ^ 7 → u < 10 ^ 7 → Spells (store_rules history_body) (Entry (Busy w t x c u)) (words_of (Entry (Busy w t x c u)))
   unfolding line_of event_line_of busy_of exactly number_at is_key
   busy_spells w t x c u w_small t_small x_small c_small u_small =
       let small : AreSmall (w ∷ t ∷ x ∷ c ∷ u ∷ []) = (w_small, (t_small, (x_small, (c_small, (u_small, tt))))) in
@@ -132,7 +133,7 @@ module _ (numbers : (n : ℕ) → n < 10 ^ 7 → NumberIsReadAgain n) where
       }
 
   -- the words of a `none` line
-  nothing_spells : (w t x c : ℕ) → w < 10 ^ 7 → t < 10 ^ 7 → x < 10 ^ 7 → c < 10 ^ 7 → Spells (store_rules events) (Entry (Nothing w t x c)) (words_of (Entry (Nothing w t x c)))
+  nothing_spells : (w t x c : ℕ) → w < 10 ^ 7 → t < 10 ^ 7 → x < 10 ^ 7 → c < 10 ^ 7 → Spells (store_rules history_body) (Entry (Nothing w t x c)) (words_of (Entry (Nothing w t x c)))
   unfolding line_of event_line_of nothing_of exactly number_at is_key
   nothing_spells w t x c w_small t_small x_small c_small =
       let small : AreSmall (w ∷ t ∷ x ∷ c ∷ []) = (w_small, (t_small, (x_small, (c_small, tt)))) in
@@ -145,8 +146,8 @@ module _ (numbers : (n : ℕ) → n < 10 ^ 7 → NumberIsReadAgain n) where
       }
 
   -- the words of a `commit` line
-  commit_spells : (w t : ℕ) → w < 10 ^ 7 → t < 10 ^ 7 → Spells (store_rules events) (Entry (Commit w t)) (words_of (Entry (Commit w t)))
-  unfolding line_of event_line_of commit_of exactly number_at is_key
+  commit_spells : (w t : ℕ) → w < 10 ^ 7 → t < 10 ^ 7 → Spells (store_rules history_body) (Entry (Commit w t)) (words_of (Entry (Commit w t)))
+  unfolding line_of event_line_of commit_event_of exactly number_at is_key
   commit_spells w t w_small t_small =
       let small : AreSmall (w ∷ t ∷ []) = (w_small, (t_small, tt)) in
       record {
@@ -158,8 +159,8 @@ module _ (numbers : (n : ℕ) → n < 10 ^ 7 → NumberIsReadAgain n) where
       }
 
   -- the words of a `abort` line
-  abort_spells : (w t : ℕ) → w < 10 ^ 7 → t < 10 ^ 7 → Spells (store_rules events) (Entry (Abort w t)) (words_of (Entry (Abort w t)))
-  unfolding line_of event_line_of abort_of exactly number_at is_key
+  abort_spells : (w t : ℕ) → w < 10 ^ 7 → t < 10 ^ 7 → Spells (store_rules history_body) (Entry (Abort w t)) (words_of (Entry (Abort w t)))
+  unfolding line_of event_line_of abort_event_of exactly number_at is_key
   abort_spells w t w_small t_small =
       let small : AreSmall (w ∷ t ∷ []) = (w_small, (t_small, tt)) in
       record {
@@ -171,8 +172,8 @@ module _ (numbers : (n : ℕ) → n < 10 ^ 7 → NumberIsReadAgain n) where
       }
 
   -- the words of a `rollback` line
-  rollback_spells : (w t n : ℕ) → w < 10 ^ 7 → t < 10 ^ 7 → n < 10 ^ 7 → Spells (store_rules events) (Entry (Rollback w t n)) (words_of (Entry (Rollback w t n)))
-  unfolding line_of event_line_of rollback_of exactly number_at is_key
+  rollback_spells : (w t n : ℕ) → w < 10 ^ 7 → t < 10 ^ 7 → n < 10 ^ 7 → Spells (store_rules history_body) (Entry (Rollback w t n)) (words_of (Entry (Rollback w t n)))
+  unfolding line_of event_line_of rollback_event_of exactly number_at is_key
   rollback_spells w t n w_small t_small n_small =
       let small : AreSmall (w ∷ t ∷ n ∷ []) = (w_small, (t_small, (n_small, tt))) in
       record {
@@ -184,7 +185,7 @@ module _ (numbers : (n : ℕ) → n < 10 ^ 7 → NumberIsReadAgain n) where
       }
 
   -- the words of the `end` line
-  pub end_spells : Spells (store_rules events) End (words_of End)
+  pub end_spells : Spells (store_rules history_body) End (words_of End)
   unfolding line_of end_of_words exactly is_key
   end_spells = record {
     some = omega arith;
@@ -195,11 +196,11 @@ module _ (numbers : (n : ℕ) → n < 10 ^ 7 → NumberIsReadAgain n) where
   }
 
   -- the line of an object is said by its words
-  pub object_line_spells : (kind : Kind) (file : ℕ) → file ≤ 255 → Spells (store_rules events) (Object kind file) (words_of (Object kind file))
+  pub object_line_spells : (kind : Kind) (file : ℕ) → file ≤ 255 → Spells (store_rules history_body) (Object kind file) (words_of (Object kind file))
   object_line_spells kind file fit = object_spells kind file (omega (arith, fit))
 
   -- so is that of an event whose numbers are in range
-  pub event_line_spells : (x : EventLine) → is_in_range x ≡ true → Spells (store_rules events) (Entry x) (words_of (Entry x))
+  pub event_line_spells : (x : EventLine) → is_in_range x ≡ true → Spells (store_rules history_body) (Entry x) (words_of (Entry x))
   event_line_spells (Begin w t) h =
       let p1 : ((is_worker w) ≡ true) × ((is_transaction t) ≡ true) = and_parts _ _ h in
       begin_spells w t (worker w p1.0) (transaction t p1.1)
@@ -209,7 +210,7 @@ module _ (numbers : (n : ℕ) → n < 10 ^ 7 → NumberIsReadAgain n) where
       let p1 : ((is_worker w) ≡ true) × ((is_transaction t) ≡ true) = and_parts _ _ p2.0 in
       op_spells w t x k (worker w p1.0) (transaction t p1.1) (object x p2.1) (operation k p3.1)
   event_line_spells (OpOf w t x k n) h =
-      let p4 : ((is_worker w && is_transaction t && is_object x && is_operation k) ≡ true) × ((is_amount n) ≡ true) = and_parts _ _ h in
+      let p4 : ((is_worker w && is_transaction t && is_object x && is_operation k) ≡ true) × ((is_event_amount n) ≡ true) = and_parts _ _ h in
       let p3 : ((is_worker w && is_transaction t && is_object x) ≡ true) × ((is_operation k) ≡ true) = and_parts _ _ p4.0 in
       let p2 : ((is_worker w && is_transaction t) ≡ true) × ((is_object x) ≡ true) = and_parts _ _ p3.0 in
       let p1 : ((is_worker w) ≡ true) × ((is_transaction t) ≡ true) = and_parts _ _ p2.0 in

@@ -9,35 +9,35 @@ use Rattle.line_text.specs.Comments.{AreSkipped}
 use Rattle.line_text.specs.Outcome.{outcome_of}
 use Rattle.line_text.specs.Spelling.{text_of}
 use Rattle.store_text.specs.Body.{store_rules}
-use Rattle.store_text.specs.Parts.{Reads}
-use Rattle.store_text.specs.Said.{objects_of, entries_of}
+use Rattle.store_text.specs.Parts.{ReadsStoreText}
+use Rattle.store_text.specs.Said.{said_objects, entries_of}
 use Rattle.store_text.specs.declared.line.Line.{Line}
 use Rattle.store_text.specs.declared.line.Line.TheVariants.{Max, Object, Entry, End}
 use Rattle.store_text.specs.declared.line.ObjectLine.{ObjectLine}
 use Rattle.history_text.specs.declared.event_line.EventLine.{EventLine}
 use Rattle.history_text.specs.declared.event_line.EventLine.TheVariants.{Begin, Op, OpOf, Busy, Nothing, Commit, Abort, Rollback}
 use Rattle.history_text.specs.declared.history_file.HistoryFile.{HistoryFile}
-use Rattle.history_text.specs.Events.{events, event_of, line_of, is_in_range}
+use Rattle.history_text.specs.Events.{history_body, event_in_line, line_of, is_in_range}
 use Rattle.history_text.specs.History.{IsHistoryOf}
 
 -- ---- a line
 
 -- the words of an event's line
-abbrev pub event_words : EventLine → List (List ℕ)
-event_words (Begin w t) = codes "begin" ∷ decimal w ∷ decimal t ∷ []
-event_words (Op w t x k) = codes "op" ∷ decimal w ∷ decimal t ∷ decimal x ∷ decimal k ∷ []
-event_words (OpOf w t x k n) = codes "op" ∷ decimal w ∷ decimal t ∷ decimal x ∷ decimal k ∷ decimal n ∷ []
-event_words (Busy w t x c u) = codes "busy" ∷ decimal w ∷ decimal t ∷ decimal x ∷ decimal c ∷ decimal u ∷ []
-event_words (Nothing w t x c) = codes "none" ∷ decimal w ∷ decimal t ∷ decimal x ∷ decimal c ∷ []
-event_words (Commit w t) = codes "commit" ∷ decimal w ∷ decimal t ∷ []
-event_words (Abort w t) = codes "abort" ∷ decimal w ∷ decimal t ∷ []
-event_words (Rollback w t n) = codes "rollback" ∷ decimal w ∷ decimal t ∷ decimal n ∷ []
+abbrev pub event_line_words : EventLine → List (List ℕ)
+event_line_words (Begin w t) = codes "begin" ∷ decimal w ∷ decimal t ∷ []
+event_line_words (Op w t x k) = codes "op" ∷ decimal w ∷ decimal t ∷ decimal x ∷ decimal k ∷ []
+event_line_words (OpOf w t x k n) = codes "op" ∷ decimal w ∷ decimal t ∷ decimal x ∷ decimal k ∷ decimal n ∷ []
+event_line_words (Busy w t x c u) = codes "busy" ∷ decimal w ∷ decimal t ∷ decimal x ∷ decimal c ∷ decimal u ∷ []
+event_line_words (Nothing w t x c) = codes "none" ∷ decimal w ∷ decimal t ∷ decimal x ∷ decimal c ∷ []
+event_line_words (Commit w t) = codes "commit" ∷ decimal w ∷ decimal t ∷ []
+event_line_words (Abort w t) = codes "abort" ∷ decimal w ∷ decimal t ∷ []
+event_line_words (Rollback w t n) = codes "rollback" ∷ decimal w ∷ decimal t ∷ decimal n ∷ []
 
 -- the words of a line; a history has no `max` line
 abbrev pub words_of : Line EventLine → List (List ℕ)
 words_of (Max most) = codes "max" ∷ decimal most ∷ []
 words_of (Object kind file) = codes "object" ∷ kind_word kind ∷ decimal file ∷ []
-words_of (Entry x) = event_words x
+words_of (Entry x) = event_line_words x
 words_of End = codes "end" ∷ []
 
 -- ---- the text
@@ -68,9 +68,9 @@ pub record AreInRange (objects : List ObjectLine) (happened : List Event) : Type
 
 -- the text is read, and its lines say these objects and events
 pub record IsReadBack (objects : List ObjectLine) (happened : List Event) : Type 0 where
-  pub read : outcome_of (store_rules events) (canonical_text objects happened) ≡ Ok (canonical_lines objects happened)
-  pub objects_said : objects_of (canonical_lines objects happened) ≡ objects
-  pub events_said : map event_of (entries_of (canonical_lines objects happened)) ≡ happened
+  pub read : outcome_of (store_rules history_body) (canonical_text objects happened) ≡ Ok (canonical_lines objects happened)
+  pub objects_said : said_objects (canonical_lines objects happened) ≡ objects
+  pub events_said : map event_in_line (entries_of (canonical_lines objects happened)) ≡ happened
 
 -- ---- statements of laws
 
@@ -87,8 +87,8 @@ pub record IsFileWith (objects : List ObjectLine) (happened : List Event) (file 
 abbrev pub WrittenIsRead : Type 0
 WrittenIsRead =
     (objects : List ObjectLine) (happened : List Event) (back : HistoryFile) → AreInRange objects happened
-    → Reads events IsHistoryOf (Ok back) (canonical_text objects happened) → IsFileWith objects happened back
+    → ReadsStoreText history_body IsHistoryOf (Ok back) (canonical_text objects happened) → IsFileWith objects happened back
 
 -- a text of a history is read as the one without its comments
 abbrev pub CommentsAreSkipped : Type 0
-CommentsAreSkipped = (lines : List (List ℕ)) → AreSkipped (store_rules events) lines
+CommentsAreSkipped = (lines : List (List ℕ)) → AreSkipped (store_rules history_body) lines

@@ -14,8 +14,8 @@ use Rattle.history_text.specs.declared.event_line.EventLine.TheVariants.{Begin, 
 
 -- ---- what a line says
 
-unfoldable pub begin_of : List (List ℕ) → Result EventLine FaultKind
-begin_of words = do
+unfoldable pub begin_event_of : List (List ℕ) → Result EventLine FaultKind
+begin_event_of words = do
   done ← exactly words 3
   w ← number_at words 1
   t ← number_at words 2
@@ -41,8 +41,8 @@ counted_of words = do
   Ok (OpOf w t x k n)
 
 -- with a sixth word, which is the amount, or without
-unfoldable pub op_of : List (List ℕ) → Result EventLine FaultKind
-op_of words = if length words == 6 then counted_of words else listed_of words
+unfoldable pub op_event_of : List (List ℕ) → Result EventLine FaultKind
+op_event_of words = if length words == 6 then counted_of words else listed_of words
 
 unfoldable pub busy_of : List (List ℕ) → Result EventLine FaultKind
 busy_of words = do
@@ -63,22 +63,22 @@ nothing_of words = do
   c ← number_at words 4
   Ok (Nothing w t x c)
 
-unfoldable pub commit_of : List (List ℕ) → Result EventLine FaultKind
-commit_of words = do
+unfoldable pub commit_event_of : List (List ℕ) → Result EventLine FaultKind
+commit_event_of words = do
   done ← exactly words 3
   w ← number_at words 1
   t ← number_at words 2
   Ok (Commit w t)
 
-unfoldable pub abort_of : List (List ℕ) → Result EventLine FaultKind
-abort_of words = do
+unfoldable pub abort_event_of : List (List ℕ) → Result EventLine FaultKind
+abort_event_of words = do
   done ← exactly words 3
   w ← number_at words 1
   t ← number_at words 2
   Ok (Abort w t)
 
-unfoldable pub rollback_of : List (List ℕ) → Result EventLine FaultKind
-rollback_of words = do
+unfoldable pub rollback_event_of : List (List ℕ) → Result EventLine FaultKind
+rollback_event_of words = do
   done ← exactly words 4
   w ← number_at words 1
   t ← number_at words 2
@@ -88,13 +88,13 @@ rollback_of words = do
 -- by the keyword
 unfoldable pub event_line_of : List (List ℕ) → Result EventLine FaultKind
 event_line_of words =
-    if is_key words (codes "begin") then begin_of words
-    else (if is_key words (codes "op") then op_of words
+    if is_key words (codes "begin") then begin_event_of words
+    else (if is_key words (codes "op") then op_event_of words
     else (if is_key words (codes "busy") then busy_of words
     else (if is_key words (codes "none") then nothing_of words
-    else (if is_key words (codes "commit") then commit_of words
-    else (if is_key words (codes "abort") then abort_of words
-    else (if is_key words (codes "rollback") then rollback_of words
+    else (if is_key words (codes "commit") then commit_event_of words
+    else (if is_key words (codes "abort") then abort_event_of words
+    else (if is_key words (codes "rollback") then rollback_event_of words
     else Err UnknownWord))))))
 
 -- ---- the event of a line
@@ -103,34 +103,34 @@ abbrev event : ℕ → EventKind → Event
 event w kind = record { worker = w; kind = kind }
 
 -- the event that a line says
-abbrev pub event_of : EventLine → Event
-event_of (Begin w t) = event w (kind.Begin t)
-event_of (Op w t x k) = event w (kind.Op k t x)
-event_of (OpOf w t x k n) = event w (kind.Op (operation_at k (Some n)) t x)
-event_of (Busy w t x c u) = event w (kind.Busy c t x u)
-event_of (Nothing w t x c) = event w (kind.None t x c)
-event_of (Commit w t) = event w (kind.Commit t)
-event_of (Abort w t) = event w (kind.Abort t)
-event_of (Rollback w t n) = event w (kind.Rollback t n)
+abbrev pub event_in_line : EventLine → Event
+event_in_line (Begin w t) = event w (kind.Begin t)
+event_in_line (Op w t x k) = event w (kind.Op k t x)
+event_in_line (OpOf w t x k n) = event w (kind.Op (operation_at k (Some n)) t x)
+event_in_line (Busy w t x c u) = event w (kind.Busy c t x u)
+event_in_line (Nothing w t x c) = event w (kind.None t x c)
+event_in_line (Commit w t) = event w (kind.Commit t)
+event_in_line (Abort w t) = event w (kind.Abort t)
+event_in_line (Rollback w t n) = event w (kind.Rollback t n)
 
 -- the line of an operation with its place and, where it has one, its amount
-abbrev pub op_line : ℕ → ℕ → ℕ → ℕ → Option ℕ → EventLine
-op_line w t x k None = Op w t x k
-op_line w t x k (Some n) = OpOf w t x k n
+abbrev pub op_event_line : ℕ → ℕ → ℕ → ℕ → Option ℕ → EventLine
+op_event_line w t x k None = Op w t x k
+op_event_line w t x k (Some n) = OpOf w t x k n
 
 -- the line of a kind of event at a worker's call
-abbrev pub line_at : ℕ → EventKind → EventLine
-line_at w (kind.Begin t) = Begin w t
-line_at w (kind.Op k t x) = op_line w t x (place_of k) (amount_of k)
-line_at w (kind.Busy c t x u) = Busy w t x c u
-line_at w (kind.None t x c) = Nothing w t x c
-line_at w (kind.Commit t) = Commit w t
-line_at w (kind.Abort t) = Abort w t
-line_at w (kind.Rollback t n) = Rollback w t n
+abbrev pub event_line_at : ℕ → EventKind → EventLine
+event_line_at w (kind.Begin t) = Begin w t
+event_line_at w (kind.Op k t x) = op_event_line w t x (place_of k) (amount_of k)
+event_line_at w (kind.Busy c t x u) = Busy w t x c u
+event_line_at w (kind.None t x c) = Nothing w t x c
+event_line_at w (kind.Commit t) = Commit w t
+event_line_at w (kind.Abort t) = Abort w t
+event_line_at w (kind.Rollback t n) = Rollback w t n
 
 -- the line of an event
 abbrev pub line_of : Event → EventLine
-line_of e = line_at e.worker e.kind
+line_of e = event_line_at e.worker e.kind
 
 -- ---- the ranges
 
@@ -147,13 +147,13 @@ is_object x = nat_le x 255
 abbrev pub is_operation : ℕ → Bool
 is_operation k = nat_le k 63
 
-abbrev pub is_amount : ℕ → Bool
-is_amount n = nat_le n 4294967295
+abbrev pub is_event_amount : ℕ → Bool
+is_event_amount n = nat_le n 4294967295
 
 abbrev pub is_in_range : EventLine → Bool
 is_in_range (Begin w t) = is_worker w && is_transaction t
 is_in_range (Op w t x k) = is_worker w && is_transaction t && is_object x && is_operation k
-is_in_range (OpOf w t x k n) = is_worker w && is_transaction t && is_object x && is_operation k && is_amount n
+is_in_range (OpOf w t x k n) = is_worker w && is_transaction t && is_object x && is_operation k && is_event_amount n
 is_in_range (Busy w t x c u) = is_worker w && is_transaction t && is_object x && is_operation c && is_transaction u
 is_in_range (Nothing w t x c) = is_worker w && is_transaction t && is_object x && is_operation c
 is_in_range (Commit w t) = is_worker w && is_transaction t
@@ -161,8 +161,8 @@ is_in_range (Abort w t) = is_worker w && is_transaction t
 is_in_range (Rollback w t n) = is_worker w && is_transaction t && nat_le 1 n && nat_le n 999999
 
 -- a history has no limit; an event may come at any place
-abbrev pub events : Body EventLine
-events = record {
+abbrev pub history_body : Body EventLine
+history_body = record {
   has_max = false;
   entry_of = event_line_of;
   is_in_range = is_in_range;

@@ -14,11 +14,11 @@ use Rattle.store_text.specs.declared.line.Line.TheVariants.{Object, Entry, End}
 use Rattle.store_text.specs.declared.line.ObjectLine.{ObjectLine}
 use Rattle.history_text.specs.declared.event_line.EventLine.{EventLine}
 use Rattle.history_text.specs.declared.event_line.EventLine.TheVariants.{Begin, Op, OpOf, Busy, Nothing, Commit, Abort, Rollback}
-use Rattle.history_text.specs.Events.{events}
+use Rattle.history_text.specs.Events.{history_body}
 
 -- a history over two objects, which has each kind of event, and an operation with an amount
-abbrev pub history_text : List (List ℕ)
-history_text =
+abbrev pub two_objects_text : List (List ℕ)
+two_objects_text =
     codes "object undo 0"
     ∷ codes "object intentions 255"
     ∷ codes "begin 0 0"
@@ -76,13 +76,13 @@ abbrev pub ended : List (List ℕ) → List ℕ
 ended text = flat_map (λ l. l ++ 10 ∷ []) text
 
 -- these lines are read as these
-abbrev pub Says : List (List ℕ) → List (Line EventLine) → Type 0
-Says text lines = outcome_of (store_rules events) (ended text) ≡ Ok lines
+abbrev pub SaysEvents : List (List ℕ) → List (Line EventLine) → Type 0
+SaysEvents text lines = outcome_of (store_rules history_body) (ended text) ≡ Ok lines
 
 -- a text is refused at a line
-abbrev pub Refuses : List (List ℕ) → ℕ → FaultKind → Type 0
-Refuses text line kind = outcome_of (store_rules events) (ended text) ≡ Err (fault_on line kind)
+abbrev pub RefusesHistory : List (List ℕ) → ℕ → FaultKind → Type 0
+RefusesHistory text line kind = outcome_of (store_rules history_body) (ended text) ≡ Err (fault_on line kind)
 
 -- the history's text with another line in place of the one at a place, counted from 0
 abbrev pub history_with : ℕ → List ℕ → List (List ℕ)
-history_with place line = slice_set history_text place line
+history_with place line = slice_set two_objects_text place line

@@ -1,7 +1,7 @@
 //! An event as its line says it, with numbers that may be too great for an event.
 
 ghost use Rattle.std.specs.Prelude.{◌≡◌, true};
-ghost use Rattle.history_text.specs.Events.{event_of, is_in_range, is_worker, is_transaction, is_object, is_operation, is_amount};
+ghost use Rattle.history_text.specs.Events.{event_in_line, is_in_range, is_worker, is_transaction, is_object, is_operation, is_event_amount};
 
 use object_trait::{Event, EventKind};
 use type_table::Operation;
@@ -100,7 +100,7 @@ impl EventLine {
     #[inline(always)]
     pub fn event(self) -> Event
         requires { is_in_range self ≡ true }
-        ensures { result ≡ event_of self }
+        ensures { result ≡ event_in_line self }
     {
         match self {
             EventLine::Begin { w, t } => event(w, EventKind::Begin { t }),
@@ -162,7 +162,7 @@ fn is_object(x: u32) -> bool
 }
 
 fn is_amount(n: u64) -> bool
-    ensures { result ≡ is_amount n }
+    ensures { result ≡ is_event_amount n }
 {
     n <= 4_294_967_295
 }

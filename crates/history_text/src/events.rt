@@ -1,7 +1,7 @@
 //! The event lines of a history.
 
 ghost use Rattle.std.specs.Prelude.{◌≡◌, map};
-ghost use Rattle.history_text.specs.Events.{events, line_of, event_line_of, begin_of, op_of, counted_of, listed_of, busy_of, nothing_of, commit_of, abort_of, rollback_of};
+ghost use Rattle.history_text.specs.Events.{history_body, line_of, event_line_of, begin_event_of, op_event_of, counted_of, listed_of, busy_of, nothing_of, commit_event_of, abort_event_of, rollback_event_of};
 
 use crate::event_line::EventLine;
 use crate::plain::keep_plain;
@@ -19,7 +19,7 @@ impl Entries for Events {
 
     type Kept = Vec<Event>;
 
-    ghost body = { λ _. events };
+    ghost body = { λ _. history_body };
 
     ghost said = { λ happened. map line_of happened.items };
 
@@ -76,9 +76,9 @@ impl Entries for Events {
     }
 }
 
-#[tactic(auto, unfolding(crate::specs::Events::begin_of))]
+#[tactic(auto, unfolding(crate::specs::Events::begin_event_of))]
 fn begin_of(words: &[&[u8]]) -> Result<EventLine, FaultKind>
-    ensures { result ≡ begin_of (map (λ w. w.now) words.now) }
+    ensures { result ≡ begin_event_of (map (λ w. w.now) words.now) }
 {
     exactly(words, 3)?;
     let w = number_at(words, 1)?;
@@ -86,9 +86,9 @@ fn begin_of(words: &[&[u8]]) -> Result<EventLine, FaultKind>
     Ok(EventLine::Begin { w, t })
 }
 
-#[tactic(auto, unfolding(crate::specs::Events::op_of))]
+#[tactic(auto, unfolding(crate::specs::Events::op_event_of))]
 fn op_of(words: &[&[u8]]) -> Result<EventLine, FaultKind>
-    ensures { result ≡ op_of (map (λ w. w.now) words.now) }
+    ensures { result ≡ op_event_of (map (λ w. w.now) words.now) }
 {
     if words.len() == 6 {
         counted_of(words)
@@ -147,9 +147,9 @@ fn nothing_of(words: &[&[u8]]) -> Result<EventLine, FaultKind>
     Ok(EventLine::Nothing { w, t, x, c })
 }
 
-#[tactic(auto, unfolding(crate::specs::Events::commit_of))]
+#[tactic(auto, unfolding(crate::specs::Events::commit_event_of))]
 fn commit_of(words: &[&[u8]]) -> Result<EventLine, FaultKind>
-    ensures { result ≡ commit_of (map (λ w. w.now) words.now) }
+    ensures { result ≡ commit_event_of (map (λ w. w.now) words.now) }
 {
     exactly(words, 3)?;
     let w = number_at(words, 1)?;
@@ -157,9 +157,9 @@ fn commit_of(words: &[&[u8]]) -> Result<EventLine, FaultKind>
     Ok(EventLine::Commit { w, t })
 }
 
-#[tactic(auto, unfolding(crate::specs::Events::abort_of))]
+#[tactic(auto, unfolding(crate::specs::Events::abort_event_of))]
 fn abort_of(words: &[&[u8]]) -> Result<EventLine, FaultKind>
-    ensures { result ≡ abort_of (map (λ w. w.now) words.now) }
+    ensures { result ≡ abort_event_of (map (λ w. w.now) words.now) }
 {
     exactly(words, 3)?;
     let w = number_at(words, 1)?;
@@ -167,9 +167,9 @@ fn abort_of(words: &[&[u8]]) -> Result<EventLine, FaultKind>
     Ok(EventLine::Abort { w, t })
 }
 
-#[tactic(auto, unfolding(crate::specs::Events::rollback_of))]
+#[tactic(auto, unfolding(crate::specs::Events::rollback_event_of))]
 fn rollback_of(words: &[&[u8]]) -> Result<EventLine, FaultKind>
-    ensures { result ≡ rollback_of (map (λ w. w.now) words.now) }
+    ensures { result ≡ rollback_event_of (map (λ w. w.now) words.now) }
 {
     exactly(words, 4)?;
     let w = number_at(words, 1)?;

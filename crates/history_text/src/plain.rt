@@ -2,7 +2,7 @@
 
 ghost use Rattle.std.specs.Prelude.{◌≡◌, ◌+◌, ◌<◌, ◌≤◌, [], ◌∷◌, ◌++◌, true, length, map, vec_len, vec_capacity, MatchOption, codes};
 ghost use Rattle.store_text.specs.PlainEntry.{KeepsEntry};
-ghost use Rattle.history_text.specs.Events.{events, line_of, is_in_range};
+ghost use Rattle.history_text.specs.Events.{history_body, line_of, is_in_range};
 
 use crate::event_line::EventLine;
 use line_text::number_before;
@@ -14,7 +14,7 @@ use object_trait::Event;
 pub fn keep_plain<'a>(kept: &mut Vec<Event>, text: &'a [u8]) -> Option<&'a [u8]>
     ensures items { MatchOption result
         (kept.new.items ≡ kept.old.items)
-        (λ behind. KeepsEntry events text.now behind.now (map line_of kept.old.items) (map line_of kept.new.items)) }
+        (λ behind. KeepsEntry history_body text.now behind.now (map line_of kept.old.items) (map line_of kept.new.items)) }
     ensures few { length kept.new.items ≤ length kept.old.items + 1 }
 {
     if kept.len() == kept.capacity() {
@@ -34,7 +34,7 @@ fn keep_rarer<'a>(kept: &mut Vec<Event>, text: &'a [u8]) -> Option<&'a [u8]>
     requires { vec_len kept.old < vec_capacity kept.old }
     ensures items { MatchOption result
         (kept.new.items ≡ kept.old.items)
-        (λ behind. KeepsEntry events text.now behind.now (map line_of kept.old.items) (map line_of kept.new.items)) }
+        (λ behind. KeepsEntry history_body text.now behind.now (map line_of kept.old.items) (map line_of kept.new.items)) }
     ensures few { length kept.new.items ≤ length kept.old.items + 1 }
 {
     match text {
@@ -80,7 +80,7 @@ fn keep_begin<'a>(kept: &mut Vec<Event>, rest: &'a [u8]) -> Option<&'a [u8]>
     requires { vec_len kept.old < vec_capacity kept.old }
     ensures items { MatchOption result
         (kept.new.items ≡ kept.old.items)
-        (λ behind. KeepsEntry events (codes "begin " ++ rest.now) behind.now (map line_of kept.old.items) (map line_of kept.new.items)) }
+        (λ behind. KeepsEntry history_body (codes "begin " ++ rest.now) behind.now (map line_of kept.old.items) (map line_of kept.new.items)) }
     ensures few { length kept.new.items ≤ length kept.old.items + 1 }
 {
     let (w, rest) = number_before(rest, b' ')?;
@@ -95,7 +95,7 @@ fn keep_op<'a>(kept: &mut Vec<Event>, rest: &'a [u8]) -> Option<&'a [u8]>
     requires { vec_len kept.old < vec_capacity kept.old }
     ensures items { MatchOption result
         (kept.new.items ≡ kept.old.items)
-        (λ behind. KeepsEntry events (codes "op " ++ rest.now) behind.now (map line_of kept.old.items) (map line_of kept.new.items)) }
+        (λ behind. KeepsEntry history_body (codes "op " ++ rest.now) behind.now (map line_of kept.old.items) (map line_of kept.new.items)) }
     ensures few { length kept.new.items ≤ length kept.old.items + 1 }
 {
     let (w, rest) = number_before(rest, b' ')?;
@@ -111,7 +111,7 @@ fn keep_busy<'a>(kept: &mut Vec<Event>, rest: &'a [u8]) -> Option<&'a [u8]>
     requires { vec_len kept.old < vec_capacity kept.old }
     ensures items { MatchOption result
         (kept.new.items ≡ kept.old.items)
-        (λ behind. KeepsEntry events (codes "busy " ++ rest.now) behind.now (map line_of kept.old.items) (map line_of kept.new.items)) }
+        (λ behind. KeepsEntry history_body (codes "busy " ++ rest.now) behind.now (map line_of kept.old.items) (map line_of kept.new.items)) }
     ensures few { length kept.new.items ≤ length kept.old.items + 1 }
 {
     let (w, rest) = number_before(rest, b' ')?;
@@ -128,7 +128,7 @@ fn keep_nothing<'a>(kept: &mut Vec<Event>, rest: &'a [u8]) -> Option<&'a [u8]>
     requires { vec_len kept.old < vec_capacity kept.old }
     ensures items { MatchOption result
         (kept.new.items ≡ kept.old.items)
-        (λ behind. KeepsEntry events (codes "none " ++ rest.now) behind.now (map line_of kept.old.items) (map line_of kept.new.items)) }
+        (λ behind. KeepsEntry history_body (codes "none " ++ rest.now) behind.now (map line_of kept.old.items) (map line_of kept.new.items)) }
     ensures few { length kept.new.items ≤ length kept.old.items + 1 }
 {
     let (w, rest) = number_before(rest, b' ')?;
@@ -144,7 +144,7 @@ fn keep_commit<'a>(kept: &mut Vec<Event>, rest: &'a [u8]) -> Option<&'a [u8]>
     requires { vec_len kept.old < vec_capacity kept.old }
     ensures items { MatchOption result
         (kept.new.items ≡ kept.old.items)
-        (λ behind. KeepsEntry events (codes "commit " ++ rest.now) behind.now (map line_of kept.old.items) (map line_of kept.new.items)) }
+        (λ behind. KeepsEntry history_body (codes "commit " ++ rest.now) behind.now (map line_of kept.old.items) (map line_of kept.new.items)) }
     ensures few { length kept.new.items ≤ length kept.old.items + 1 }
 {
     let (w, rest) = number_before(rest, b' ')?;
@@ -158,7 +158,7 @@ fn keep_abort<'a>(kept: &mut Vec<Event>, rest: &'a [u8]) -> Option<&'a [u8]>
     requires { vec_len kept.old < vec_capacity kept.old }
     ensures items { MatchOption result
         (kept.new.items ≡ kept.old.items)
-        (λ behind. KeepsEntry events (codes "abort " ++ rest.now) behind.now (map line_of kept.old.items) (map line_of kept.new.items)) }
+        (λ behind. KeepsEntry history_body (codes "abort " ++ rest.now) behind.now (map line_of kept.old.items) (map line_of kept.new.items)) }
     ensures few { length kept.new.items ≤ length kept.old.items + 1 }
 {
     let (w, rest) = number_before(rest, b' ')?;
@@ -172,7 +172,7 @@ fn keep_rollback<'a>(kept: &mut Vec<Event>, rest: &'a [u8]) -> Option<&'a [u8]>
     requires { vec_len kept.old < vec_capacity kept.old }
     ensures items { MatchOption result
         (kept.new.items ≡ kept.old.items)
-        (λ behind. KeepsEntry events (codes "rollback " ++ rest.now) behind.now (map line_of kept.old.items) (map line_of kept.new.items)) }
+        (λ behind. KeepsEntry history_body (codes "rollback " ++ rest.now) behind.now (map line_of kept.old.items) (map line_of kept.new.items)) }
     ensures few { length kept.new.items ≤ length kept.old.items + 1 }
 {
     let (w, rest) = number_before(rest, b' ')?;

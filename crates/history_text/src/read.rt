@@ -1,6 +1,6 @@
 ghost use Rattle.std.specs.Prelude.{IfOk};
-ghost use Rattle.store_text.specs.Parts.{Reads};
-ghost use Rattle.history_text.specs.Events.{events};
+ghost use Rattle.store_text.specs.Parts.{ReadsStoreText};
+ghost use Rattle.history_text.specs.Events.{history_body};
 ghost use Rattle.history_text.specs.History.{IsHistoryOf};
 ghost use Rattle.history_text.specs.Canonical.{AreInRange};
 
@@ -15,7 +15,7 @@ use store_text::{Parts, StoreGrammar, read_parts};
 /// `NoMemory` comes in place of either where memory was refused; its line is the one that was being
 /// read.
 pub fn read_history(alloc: Global, text: &[u8]) -> Result<HistoryFile, TextFault>
-    ensures exact { Reads events IsHistoryOf result text.now }
+    ensures exact { ReadsStoreText history_body IsHistoryOf result text.now }
     ensures fit { IfOk result (λ file. AreInRange file.objects.items file.events.items) }
 {
     let grammar = StoreGrammar { entries: Events };

@@ -4,8 +4,8 @@ ghost use Rattle.std.specs.Prelude.{◌≡◌, ◌++◌, ◌∷◌, [], map, Non
 ghost use Rattle.line_text.specs.Spelling.{spaced, text_of};
 ghost use Rattle.outputs.specs.Out.{Puts};
 ghost use Rattle.store_text.specs.declared.line.Line.TheVariants.{End};
-ghost use Rattle.history_text.specs.Canonical.{canonical_text, event_words, words_of, object_line, event_line};
-ghost use Rattle.history_text.specs.Events.{op_line};
+ghost use Rattle.history_text.specs.Canonical.{canonical_text, event_line_words, words_of, object_line, event_line};
+ghost use Rattle.history_text.specs.Events.{op_event_line};
 ghost use Rattle.type_table.specs.Operation.{place_of, amount_of};
 
 use itoa::Buffer;
@@ -106,7 +106,7 @@ pub fn write_event<W: Out>(out: &mut W, event: &Event) -> Result<(), OutFault>
 /// Writes the line of an operation.
 fn write_op<W: Out>(out: &mut W, w: u32, t: u32, x: u32, k: Operation) -> Result<(), OutFault>
     requires { W.fault out.old ≡ None }
-    ensures { Puts (W.taken out.old) (W.taken out.new) (W.fault out.new) (spaced (event_words (op_line w t x (place_of k) (amount_of k))) ++ 10 ∷ []) result }
+    ensures { Puts (W.taken out.old) (W.taken out.new) (W.fault out.new) (spaced (event_line_words (op_event_line w t x (place_of k) (amount_of k))) ++ 10 ∷ []) result }
 {
     let place = u32::from(k.place());
     match k.amount() {

@@ -3,7 +3,7 @@ use Rattle.std.proofs.Common.{◌≡◌, ℕ, false, not, ◌&&◌, ◌==◌, sy
 use Rattle.std.specs.List.{filter, find, AllByRecursion}
 use Rattle.std.specs.Option.{option_map}
 use Rattle.type_table.specs.declared.kind.Kind.{Kind}
-use Rattle.type_text.specs.declared.type_file.TypeFile.{TypeFile}
+use Rattle.declared_types.specs.declared.type_file.TypeFile.{TypeFile}
 use Rattle.type_table.specs.declared.kind.Kind.TheVariants.{Intentions}
 use Rattle.object_trait.specs.Object.{conflicts_by}
 use Rattle.object_trait.specs.Meaning.{Meaning, object}

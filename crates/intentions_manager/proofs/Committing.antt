@@ -10,14 +10,14 @@ use Rattle.type_table.proofs.Elements.{each-filter, each-map}
 use Rattle.type_table.proofs.Legal.{equi-turned}
 use Rattle.object_trait.specs.Orders.{Pairs}
 use Rattle.object_trait.specs.Strike.{keep_first}
-use Rattle.object_trait.specs.Meaning.{Meaning, object, ops_of, is_open_of, open_of, run_log}
+use Rattle.object_trait.specs.Meaning.{Meaning, object, log_ops, is_open_of, open_of, run_log}
 use Rattle.object_trait.specs.Steps.{IsCommitBy, IsCommit}
 use Rattle.object_trait.specs.Laws.{KeepsFirst, KeepsNone, KeepsParts, KeepsOthers, OpensCommute, SoundAfterCommit}
 use Rattle.object_trait.specs.declared.log_entry.LogEntry.{LogEntry}
 use Rattle.object_trait.proofs.Leaving.{others-stay, own-left, each-left}
 use Rattle.object_trait.proofs.Rows.{ordered-dropped}
 use Rattle.object_trait.proofs.Striking.{keep_first-length}
-use Rattle.intentions_manager.specs.Views.{owner, owners, bare, seen_by, without_view}
+use Rattle.intentions_manager.specs.Views.{view_owner, view_owners, bare, seen_by, without_view}
 use Rattle.intentions_manager.specs.Walk.{walked, carried, FitsTable}
 use Rattle.intentions_manager.specs.Kept.{IsView, IsKeptDeferred}
 use Rattle.intentions_manager.specs.declared.views.View.{View}
@@ -43,14 +43,14 @@ pub record CommitLaws : Type 0 where
 
 -- carried on by t's operations, it is equieffective to the run of its own from t's view
 equi-carried : CommitLaws → {m : Meaning} {views : List View} (t u : ℕ) → IsKeptDeferred m views → eqb t u ≡ false →
-    let T = m.checked.file.table in let mine = ops_of (open_of t m.log) in let theirs = ops_of (open_of u m.log) in
+    let T = m.checked.file.table in let mine = log_ops (open_of t m.log) in let theirs = log_ops (open_of u m.log) in
     IsLegal T (Some (seen_by u m.base views).state) mine
     × AreEqui T (run T (Some (seen_by u m.base views).state) mine) (run T (Some (seen_by t m.base views).state) theirs)
 equi-carried laws {m} {views} t u h differ =
     let T = m.checked.file.table in
     let base : Option ℕ = Some m.base in
-    let mine = ops_of (open_of t m.log) in
-    let theirs = ops_of (open_of u m.log) in
+    let mine = log_ops (open_of t m.log) in
+    let theirs = log_ops (open_of u m.log) in
     let v : Option ℕ = Some (seen_by u m.base views).state in
     let w : Option ℕ = Some (seen_by t m.base views).state in
     let extended = laws.extends T in
@@ -75,14 +75,14 @@ view-carried : CommitLaws → {m : Meaning} {views : List View} (t u : ℕ) (log
 view-carried laws {m} {views} t u log part h differ same all =
     let T = m.checked.file.table in
     let o = object m in
-    let mine = ops_of (open_of t m.log) in
+    let mine = log_ops (open_of t m.log) in
     let shown = h.seen u in
     let s = (seen_by u m.base views).state in
     let base = (seen_by t m.base views).state in
     let end = walked T t s part in
     let both = equi-carried laws t u h differ in
-    let legal : IsLegal T (Some s) (ops_of (open_of t part)) = subst (λ V. IsLegal T (Some s) (ops_of V)) (sym all) both.0 in
-    let walk : run T (Some s) mine ≡ Some end = subst (λ V. run T (Some s) (ops_of V) ≡ Some end) all (walk-run T t s part legal) in
+    let legal : IsLegal T (Some s) (log_ops (open_of t part)) = subst (λ V. IsLegal T (Some s) (log_ops V)) (sym all) both.0 in
+    let walk : run T (Some s) mine ≡ Some end = subst (λ V. run T (Some s) (log_ops V) ≡ Some end) all (walk-run T t s part legal) in
     record {
       fits = laws.within T s end mine h.table shown.fits walk;
       inside = laws.inside T o.set s end mine (deferred-covered m h.deferred h.covered).closed shown.inside walk;
@@ -184,7 +184,7 @@ committed-commits laws {m} {views} {t} {from} {w} {log} {new} h done =
     }
 
 -- views that are carried on have their owners
-owners-carried : (T : Table) (t : ℕ) (part : List LogEntry) (views : List View) → owners (map (walk_view T t part) views) ≡ owners views
+owners-carried : (T : Table) (t : ℕ) (part : List LogEntry) (views : List View) → view_owners (map (walk_view T t part) views) ≡ view_owners views
 owners-carried T t part [] = refl
 owners-carried T t part (v ∷ views) = ap (λ rest. v.by ∷ rest) (owners-carried T t part views)
 
@@ -216,5 +216,5 @@ committed-kept laws {m} {views} {t} {from} {w} {log} {new} h done =
           subst (λ V. AllByRecursion (λ (v : View). 0 < v.count) V) (sym on)
           (each-map (λ (v : View). 0 < v.count) (walk_view T t part) (without_view t views) (each-filter (λ (v : View). 0 < v.count) (λ v. not (eqb v.by t)) views h.some));
       ordered =
-          subst (λ V. Pairs (λ a b. a < b) V) (sym (ap owners on ∙ owners-carried T t part (without_view t views))) (ordered-dropped owner (λ (v : View). not (eqb v.by t)) views h.ordered);
+          subst (λ V. Pairs (λ a b. a < b) V) (sym (ap view_owners on ∙ owners-carried T t part (without_view t views))) (ordered-dropped view_owner (λ (v : View). not (eqb v.by t)) views h.ordered);
     }

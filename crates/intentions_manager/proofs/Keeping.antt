@@ -12,14 +12,14 @@ use Rattle.type_table.specs.Commute.{Covers}
 use Rattle.type_table.proofs.Elements.{differ_turned}
 use Rattle.type_table.specs.declared.table_kind.TableKind.TheVariants as kind
 use Rattle.object_trait.specs.Object.{Object, IsCovered, CoversBy}
-use Rattle.object_trait.specs.Meaning.{Meaning, object, ops_of, open_of, AreOpen, run_log, view_by, view_of}
+use Rattle.object_trait.specs.Meaning.{Meaning, object, log_ops, open_of, AreOpen, run_log, view_by, view_of}
 use Rattle.object_trait.specs.Sound.{IsSound, IsSoundBy, IsSoundIntentions}
 use Rattle.object_trait.specs.Steps.{IsLegalFor, MayApply, applied}
 use Rattle.object_trait.specs.Laws.{SoundAfterApply}
 use Rattle.object_trait.specs.declared.log_entry.LogEntry.{LogEntry}
 use Rattle.object_trait.proofs.Rows.{each-put, ordered-put}
 use Rattle.object_trait.proofs.Runs.{open-push, open-push_other}
-use Rattle.intentions_manager.specs.Views.{owner, bare, seen_by, with_view}
+use Rattle.intentions_manager.specs.Views.{view_owner, bare, seen_by, with_view}
 use Rattle.intentions_manager.specs.Walk.{stepped, walked, FitsTable}
 use Rattle.intentions_manager.specs.Kept.{IsView, IsKeptDeferred}
 use Rattle.intentions_manager.specs.declared.views.View.{View}
@@ -112,7 +112,7 @@ view-applied along extends within {m} {views} t k h may =
     let both = (extends T).after (Some v.state) before (k ∷ []) shown.equi here in
     let opens = open-push m.log (entry t k) refl in
     let behind : run T before (k ∷ []) ≡ run_log o m.base (open_of t (m.log ++ entry t k ∷ [])) =
-    sym (ap (run_log o m.base) opens ∙ ap (run T (Some m.base)) (map-append (λ (e : LogEntry). e.op) (open_of t m.log) (entry t k ∷ [])) ∙ along T (Some m.base) (ops_of (open_of t m.log)) (k ∷ [])) in
+    sym (ap (run_log o m.base) opens ∙ ap (run T (Some m.base)) (map-append (λ (e : LogEntry). e.op) (open_of t m.log) (entry t k ∷ [])) ∙ along T (Some m.base) (log_ops (open_of t m.log)) (k ∷ [])) in
     record {
       fits = (within T v.state k (stepped T v.state k) h.table there).2;
       inside = (deferred-covered m h.deferred h.covered).closed v.state k (stepped T v.state k) shown.inside there;
@@ -146,7 +146,7 @@ applied-kept along extends within sound_after {m} {views} new t k h may made =
             | inr isnt ↦
                 subst (λ v. IsView o m.base log u v) (sym (seen-put_other w u m.base views isnt)) (view-same o m.base m.log log u (seen_by u m.base views) (open-push_other u m.log (entry t k) (differ_turned u t isnt)) (h.seen u))
           ];
-      fit = All-from_recursion (FitsTable T) (with_view w views) (each-put owner (FitsTable T) w views shown.fits (recursion_from_All (FitsTable T) views h.fit));
-      some = each-put owner (λ (v : View). 0 < v.count) w views (omega arith) h.some;
-      ordered = ordered-put owner w views h.ordered;
+      fit = All-from_recursion (FitsTable T) (with_view w views) (each-put view_owner (FitsTable T) w views shown.fits (recursion_from_All (FitsTable T) views h.fit));
+      some = each-put view_owner (λ (v : View). 0 < v.count) w views (omega arith) h.some;
+      ordered = ordered-put view_owner w views h.ordered;
     })

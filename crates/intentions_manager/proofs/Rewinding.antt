@@ -7,14 +7,14 @@ use Rattle.type_table.specs.Run.{run, IsLegal, AreEqui}
 use Rattle.type_table.specs.Laws.{EndsInside, EndsWithin}
 use Rattle.type_table.proofs.Elements.{each-filter}
 use Rattle.object_trait.specs.Strike.{keep_first}
-use Rattle.object_trait.specs.Meaning.{Meaning, object, ops_of, is_open_of, open_of}
+use Rattle.object_trait.specs.Meaning.{Meaning, object, log_ops, is_open_of, open_of}
 use Rattle.object_trait.specs.Steps.{IsStrikeBy, Keeps}
 use Rattle.object_trait.specs.Laws.{KeepsFirst, KeepsOthers, SoundAfterStrike}
 use Rattle.object_trait.specs.declared.log_entry.LogEntry.{LogEntry}
 use Rattle.object_trait.proofs.Leaving.{others-stay, own-left, own-count, each-left}
 use Rattle.object_trait.proofs.Rows.{each-put, ordered-put, ordered-dropped}
 use Rattle.object_trait.proofs.Striking.{keep_first-length}
-use Rattle.intentions_manager.specs.Views.{owner, AreOrdered, seen_by, with_view, without_view}
+use Rattle.intentions_manager.specs.Views.{view_owner, ViewsAscend, seen_by, with_view, without_view}
 use Rattle.intentions_manager.specs.Walk.{walked, FitsTable}
 use Rattle.intentions_manager.specs.Kept.{IsView, IsKeptDeferred}
 use Rattle.intentions_manager.specs.declared.views.View.{View}
@@ -43,7 +43,7 @@ struck-keeps {m} {views} t n log h left = record {
 -- where t sees what it may be shown, and all others see what they saw
 struck-kept : StrikeLaws → {m : Meaning} {views : List View} (new : List View) (t n : ℕ) (log : List LogEntry) → IsKeptDeferred m views → log ≡ keep_first (is_open_of t) n m.log →
     ((u : ℕ) → eqb t u ≡ false → seen_by u m.base new ≡ seen_by u m.base views) → IsView (object m) m.base log t (seen_by t m.base new) →
-    All (FitsTable m.checked.file.table) new → AllByRecursion (λ (v : View). 0 < v.count) new → AreOrdered new → IsKeptDeferred (with_log m log) new
+    All (FitsTable m.checked.file.table) new → AllByRecursion (λ (v : View). 0 < v.count) new → ViewsAscend new → IsKeptDeferred (with_log m log) new
 struck-kept laws {m} {views} new t n log h left same own fit some ordered =
     let o = object m in
     let room = h.room in
@@ -78,7 +78,7 @@ dropped-kept laws {m} {views} new t n log h left nothing dropped =
     subst (λ V. IsKeptDeferred (with_log m log) V) (sym dropped)
     (struck-kept laws (without_view t views) t n log h left (λ u differ. seen-dropped_other t u m.base views differ) own
     (All-filter (λ (v : View). not (eqb v.by t)) (FitsTable m.checked.file.table) views h.fit) (each-filter (λ (v : View). 0 < v.count) (λ v. not (eqb v.by t)) views h.some)
-    (ordered-dropped owner (λ (v : View). not (eqb v.by t)) views h.ordered))
+    (ordered-dropped view_owner (λ (v : View). not (eqb v.by t)) views h.ordered))
 
 -- ---- something is left
 
@@ -94,14 +94,14 @@ view-rewound : RewindLaws → {m : Meaning} {views : List View} (t n from : ℕ)
 view-rewound laws {m} {views} t n from log h left many counted =
     let T = m.checked.file.table in
     let o = object m in
-    let opens = ops_of (open_of t log) in
+    let opens = log_ops (open_of t log) in
     let end = walked T t m.base (drop from log) in
     let count : length (open_of t log) ≡ n = own-count laws.strike.first t n m.log log left many in
     let all : open_of t (drop from log) ≡ open_of t log = behind_all (is_open_of t) log from (counted ∙ sym count) in
     let old_sound = deferred-sound m h.deferred h.sound in
     let sound = deferred-sound (with_log m log) h.deferred (laws.strike.sound_after m (with_log m log) t n h.covered h.sound (struck-keeps t n log h left)) in
-    let legal : IsLegal T (Some m.base) (ops_of (open_of t (drop from log))) = subst (λ V. IsLegal T (Some m.base) (ops_of V)) (sym all) (sound.legal t) in
-    let walk : run T (Some m.base) opens ≡ Some end = subst (λ V. run T (Some m.base) (ops_of V) ≡ Some end) all (walk-run T t m.base (drop from log) legal) in
+    let legal : IsLegal T (Some m.base) (log_ops (open_of t (drop from log))) = subst (λ V. IsLegal T (Some m.base) (log_ops V)) (sym all) (sound.legal t) in
+    let walk : run T (Some m.base) opens ≡ Some end = subst (λ V. run T (Some m.base) (log_ops V) ≡ Some end) all (walk-run T t m.base (drop from log) legal) in
     record {
       fits = laws.within T m.base end opens h.table h.base_fits walk;
       inside = laws.inside T o.set m.base end opens (deferred-covered m h.deferred h.covered).closed old_sound.inside walk;
@@ -119,5 +119,5 @@ rewound-kept laws {m} {views} new t n from state log h left many some counted en
     let own : IsView o m.base log t (seen_by t m.base (with_view w views)) = subst (λ v. IsView o m.base log t v) (sym (seen-put w m.base views)) shown in
     subst (λ V. IsKeptDeferred (with_log m log) V) (sym put)
     (struck-kept laws.strike (with_view w views) t n log h left (λ u differ. seen-put_other w u m.base views differ) own
-    (All-from_recursion (FitsTable T) (with_view w views) (each-put owner (FitsTable T) w views shown.fits (recursion_from_All (FitsTable T) views h.fit)))
-    (each-put owner (λ (v : View). 0 < v.count) w views some h.some) (ordered-put owner w views h.ordered))
+    (All-from_recursion (FitsTable T) (with_view w views) (each-put view_owner (FitsTable T) w views shown.fits (recursion_from_All (FitsTable T) views h.fit)))
+    (each-put view_owner (λ (v : View). 0 < v.count) w views some h.some) (ordered-put view_owner w views h.ordered))

@@ -7,7 +7,7 @@ use Rattle.type_table.specs.Table.{Table, IsTable, next}
 use Rattle.type_table.specs.Laws.{StepsWithin}
 use Rattle.type_table.specs.Run.{run, IsLegal}
 use Rattle.type_table.proofs.Legal.{nothing_legal}
-use Rattle.object_trait.specs.Meaning.{ops_of, is_open_of, open_of}
+use Rattle.object_trait.specs.Meaning.{log_ops, is_open_of, open_of}
 use Rattle.object_trait.specs.declared.log_entry.LogEntry.{LogEntry}
 use Rattle.intentions_manager.specs.Walk.{stepped, walked, step_view, carried}
 use Rattle.intentions_manager.specs.declared.views.View.{View}
@@ -20,14 +20,14 @@ some_state T None w s h = absurd (nothing_legal T w h)
 some_state T (Some x) w s h = refl
 
 -- a walk ends where the run does
-pub walk-run : (T : Table) (t s : ℕ) (log : List LogEntry) → IsLegal T (Some s) (ops_of (open_of t log)) → run T (Some s) (ops_of (open_of t log)) ≡ Some (walked T t s log)
+pub walk-run : (T : Table) (t s : ℕ) (log : List LogEntry) → IsLegal T (Some s) (log_ops (open_of t log)) → run T (Some s) (log_ops (open_of t log)) ≡ Some (walked T t s log)
 walk-run T t s [] h = refl
 walk-run T t s (e ∷ log) h =
     elim (cases_Bool (is_open_of t e)) [
       | inl is ↦
-          let legal : IsLegal T (next T s e.op) (ops_of (open_of t log)) = rw is at h in
-          let there : next T s e.op ≡ Some (stepped T s e.op) = some_state T (next T s e.op) (ops_of (open_of t log)) s legal in
-          rw is (ap (λ o. run T o (ops_of (open_of t log))) there ∙ walk-run T t (stepped T s e.op) log (subst (λ o. IsLegal T o (ops_of (open_of t log))) there legal))
+          let legal : IsLegal T (next T s e.op) (log_ops (open_of t log)) = rw is at h in
+          let there : next T s e.op ≡ Some (stepped T s e.op) = some_state T (next T s e.op) (log_ops (open_of t log)) s legal in
+          rw is (ap (λ o. run T o (log_ops (open_of t log))) there ∙ walk-run T t (stepped T s e.op) log (subst (λ o. IsLegal T o (log_ops (open_of t log))) there legal))
       | inr isnt ↦ rw isnt (walk-run T t s log (rw isnt at h))
     ]
 

@@ -5,11 +5,11 @@ use Rattle.object_trait.specs.declared.log_entry.LogEntry.{LogEntry}
 use Rattle.intentions_manager.specs.declared.views.View.{View}
 
 -- what t sees after this many entries
-abbrev pub view : ℕ → ℕ → ℕ → View
-view t state count = record { by = t; state = state; count = count }
+abbrev pub seen_view : ℕ → ℕ → ℕ → View
+seen_view t state count = record { by = t; state = state; count = count }
 
 abbrev pub two_views : List View
-two_views = view 1 2 1 ∷ view 2 0 1 ∷ []
+two_views = seen_view 1 2 1 ∷ seen_view 2 0 1 ∷ []
 
-abbrev pub up_and_down : List LogEntry
-up_and_down = held 1 0 ∷ held 2 1 ∷ []
+abbrev pub up_and_down_log : List LogEntry
+up_and_down_log = held 1 0 ∷ held 2 1 ∷ []

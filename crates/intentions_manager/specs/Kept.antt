@@ -9,13 +9,13 @@ use Rattle.object_trait.specs.Object.{Object, IsCovered}
 use Rattle.object_trait.specs.Meaning.{Meaning, object, open_of, run_log}
 use Rattle.object_trait.specs.Sound.{IsSound}
 use Rattle.object_trait.specs.declared.log_entry.LogEntry.{LogEntry}
-use Rattle.intentions_manager.specs.Views.{AreOrdered, seen_by}
+use Rattle.intentions_manager.specs.Views.{ViewsAscend, seen_by}
 use Rattle.intentions_manager.specs.Walk.{FitsTable}
 use Rattle.intentions_manager.specs.declared.views.View.{View}
 
 -- each entry's operation has a bit in the word, which is set
-abbrev pub HasBits : ℕ → List LogEntry → Type 0
-HasBits word log = All (λ (e : LogEntry). e.op < 64 → bit_at word e.op ≡ 1) log
+abbrev pub LogHasBits : ℕ → List LogEntry → Type 0
+LogHasBits word log = All (λ (e : LogEntry). e.op < 64 → bit_at word e.op ≡ 1) log
 
 -- what t may be shown: a state that is equieffective to the run of its open entries from base, and how many these are
 pub record IsView (o : Object) (base : ℕ) (log : List LogEntry) (t : ℕ) (v : View) : Type 0 where
@@ -37,4 +37,4 @@ pub record IsKeptDeferred (m : Meaning) (views : List View) : Type 0 where
   pub seen : (t : ℕ) → IsView (object m) m.base m.log t (seen_by t m.base views)
   pub fit : All (FitsTable m.checked.file.table) views
   pub some : AllByRecursion (λ (v : View). 0 < v.count) views
-  pub ordered : AreOrdered views
+  pub ordered : ViewsAscend views

@@ -4,24 +4,24 @@ use Rattle.object_trait.specs.Rows as rows
 use Rattle.intentions_manager.specs.declared.views.View.{View}
 
 -- whose view it is
-abbrev pub owner : View → ℕ
-owner v = v.by
+abbrev pub view_owner : View → ℕ
+view_owner v = v.by
 
 -- whose views they are
-abbrev pub owners : List View → List ℕ
-owners views = rows.owners owner views
+abbrev pub view_owners : List View → List ℕ
+view_owners views = rows.row_owners view_owner views
 
 -- each is of an earlier transaction than those after it
-abbrev pub AreOrdered : List View → Type 0
-AreOrdered views = rows.AreOrdered owner views
+abbrev pub ViewsAscend : List View → Type 0
+ViewsAscend views = rows.RowsAscend view_owner views
 
--- t's place among the views: after those of earlier transactions
-abbrev pub place_of : ℕ → List View → ℕ
-place_of t views = rows.place_of owner t views
+-- t's index among the views: after those of earlier transactions
+abbrev pub view_index : ℕ → List View → ℕ
+view_index t views = rows.row_index view_owner t views
 
--- t's view is at this place
-abbrev pub IsAt : ℕ → ℕ → List View → Type 0
-IsAt t at views = rows.IsAt owner t at views
+-- t's view is at this index
+abbrev pub IsViewAt : ℕ → ℕ → List View → Type 0
+IsViewAt t at views = rows.IsRowAt view_owner t at views
 
 -- of no entries
 abbrev pub bare : ℕ → ℕ → View
@@ -29,12 +29,12 @@ bare t base = record { by = t; state = base; count = 0 }
 
 -- what t sees: its view, or where it has none base after no entries
 abbrev pub seen_by : ℕ → ℕ → List View → View
-seen_by t base views = rows.shown_of owner (λ v. v) (bare t base) t views
+seen_by t base views = rows.shown_of view_owner (λ v. v) (bare t base) t views
 
 -- with this view in the place of its transaction's, or before those of later ones
 abbrev pub with_view : View → List View → List View
-with_view w views = rows.with_row owner w views
+with_view w views = rows.with_row view_owner w views
 
 -- without that of t
 abbrev pub without_view : ℕ → List View → List View
-without_view t views = rows.without_row owner t views
+without_view t views = rows.without_row view_owner t views

@@ -20,8 +20,8 @@ walked T t s [] = s
 walked T t s (e ∷ log) = walked T t (entered T t s e) log
 
 -- a view after operation k
-abbrev pub moved : Table → ℕ → View → View
-moved T k v = record v { state = stepped T v.state k }
+abbrev pub view_moved : Table → ℕ → View → View
+view_moved T k v = record v { state = stepped T v.state k }
 
 -- a view after an entry, if that is an open one of t
 abbrev pub step_view : Table → ℕ → LogEntry → View → View

@@ -6,7 +6,7 @@ ghost use Rattle.std.specs.Option.{option_map};
 ghost use Rattle.type_table.specs.ConflictTable.{conflicts};
 ghost use Rattle.object_trait.specs.Strike.{keep_first};
 ghost use Rattle.object_trait.specs.Meaning.{is_open_of, open_of, AreOpen};
-ghost use Rattle.intentions_manager.specs.Kept.{HasBits};
+ghost use Rattle.intentions_manager.specs.Kept.{LogHasBits};
 ghost use Rattle.intentions_manager.specs.Walk.{carried, FitsTable};
 
 use crate::views::{View, step_views};
@@ -101,7 +101,7 @@ pub fn take_out(log: &mut Vec<LogEntry>, t: u32, count: u32)
 
 /// A word with the bit of each entry's operation.
 pub fn word_of(log: &Vec<LogEntry>) -> u64
-    ensures { HasBits result log.now.items }
+    ensures { LogHasBits result log.now.items }
 {
     let mut word = 0;
     for entry in log {
@@ -122,7 +122,7 @@ pub fn first_conflict(
     requires requested { k < length table.now }
     requires few { length table.now ≤ 64 }
     requires held { All (λ e. e.op < length table.now) log.now.items }
-    requires bits { HasBits word log.now.items }
+    requires bits { LogHasBits word log.now.items }
     ensures { result ≡ option_map (λ e. e.by) (find (λ e. not (e.by == t) && conflicts table.now k e.op) log.now.items) }
 {
     if table.row(column(k)) & word == 0 {

@@ -4,6 +4,7 @@ ghost use Rattle.object_trait.specs.Steps.{IsFresh};
 
 use crate::entries::{carry_from, first_conflict, place_of_last, take_out, word_of};
 use crate::views::{View, drop_view, place_of, put_view, seen_at, seen_by, stepped, walked};
+use declared_types::DeclaredType;
 use object_trait::{
     LogEntry, Recovery, Renew, WrongKind, checked_is_covered, fresh_is_sound, keeps_first,
     keeps_none, keeps_others, keeps_parts, opens_are_counted, opens_commute, sound_after_apply,
@@ -12,7 +13,7 @@ use object_trait::{
 use std::alloc::{AllocError, Global};
 use std::marker::Model;
 use std::sync::Arc;
-use table_checker::{CheckedType, DeclaredType};
+use table_checker::CheckedType;
 use type_table::{
     Kind, Operation, TableKind, ends_inside, ends_within, equi_extends, runs_along, steps_within,
 };
@@ -36,13 +37,13 @@ pub struct IntentionsManager {
 
 impl Model for IntentionsManager {
     ghost use Rattle.object_trait.specs.Meaning.{Meaning};
-    ghost use Rattle.intentions_manager.specs.Kept.{HasBits, IsKeptDeferred};
+    ghost use Rattle.intentions_manager.specs.Kept.{LogHasBits, IsKeptDeferred};
 
     ghost Value = { Meaning };
 
     ghost view = { λ a. record { checked = a.checked.value; base = a.base; log = a.log.items } };
 
-    ghost invariant = { λ a. IsKeptDeferred (record { checked = a.checked.value; base = a.base; log = a.log.items }) a.views.items × HasBits a.word a.log.items };
+    ghost invariant = { λ a. IsKeptDeferred (record { checked = a.checked.value; base = a.base; log = a.log.items }) a.views.items × LogHasBits a.word a.log.items };
 }
 
 impl IntentionsManager {

@@ -2,8 +2,8 @@
 
 ghost use Rattle.std.specs.Prelude.{◌≡◌, ◌<◌, true, false, All, length, drop, map, vec_len, vec_capacity};
 ghost use Rattle.object_trait.specs.Meaning.{is_open_of};
-ghost use Rattle.intentions_manager.specs.Views.{AreOrdered, place_of, IsAt, bare, seen_by, with_view, without_view};
-ghost use Rattle.intentions_manager.specs.Walk.{stepped, entered, walked, moved, step_view, FitsTable};
+ghost use Rattle.intentions_manager.specs.Views.{ViewsAscend, view_index, IsViewAt, bare, seen_by, with_view, without_view};
+ghost use Rattle.intentions_manager.specs.Walk.{stepped, entered, walked, view_moved, step_view, FitsTable};
 
 use crate::entries::is_of;
 use object_trait::LogEntry;
@@ -20,18 +20,18 @@ pub struct View {
     pub count: u32,
 }
 
-/// The place of t's view, or where it would be.
+/// The position of t's view, or where it would be.
 pub fn place_of(views: &Vec<View>, t: u32) -> usize
-    requires { AreOrdered views.now.items }
-    ensures { result ≡ place_of t views.now.items }
+    requires { ViewsAscend views.now.items }
+    ensures { result ≡ view_index t views.now.items }
 {
     views.partition_point(|view| view.by < t)
 }
 
-/// Whether t's view is at this place.
+/// Whether t's view is at this position.
 fn is_at(views: &Vec<View>, at: usize, t: u32) -> bool
-    ensures there { result ≡ true → IsAt t at views.now.items }
-    ensures elsewhere { result ≡ false → IsAt t at views.now.items → ⊥ }
+    ensures there { result ≡ true → IsViewAt t at views.now.items }
+    ensures elsewhere { result ≡ false → IsViewAt t at views.now.items → ⊥ }
 {
     if at < views.len() {
         views[at].by == t
@@ -40,10 +40,10 @@ fn is_at(views: &Vec<View>, at: usize, t: u32) -> bool
     }
 }
 
-/// What t sees, whose place this is: its view, or where it has none base after no entries.
+/// What t sees, whose position this is: its view, or where it has none base after no entries.
 pub fn seen_at(views: &Vec<View>, at: usize, t: u32, base: u16) -> View
-    requires ordered { AreOrdered views.now.items }
-    requires place { at ≡ place_of t views.now.items }
+    requires ordered { ViewsAscend views.now.items }
+    requires place { at ≡ view_index t views.now.items }
     ensures { result ≡ seen_by t base views.now.items }
 {
     if is_at(views, at, t) {
@@ -57,9 +57,9 @@ pub fn seen_at(views: &Vec<View>, at: usize, t: u32, base: u16) -> View
     }
 }
 
-/// The same, where the place isn't asked for.
+/// The same, where the position isn't asked for.
 pub fn seen_by(views: &Vec<View>, t: u32, base: u16) -> View
-    requires { AreOrdered views.now.items }
+    requires { ViewsAscend views.now.items }
     ensures { result ≡ seen_by t base views.now.items }
 {
     let at = place_of(views, t);
@@ -68,8 +68,8 @@ pub fn seen_by(views: &Vec<View>, t: u32, base: u16) -> View
 
 /// Puts a view in the place of its transaction's. Where that has none, there is room.
 pub fn put_view(views: &mut Vec<View>, at: usize, view: View)
-    requires ordered { AreOrdered views.old.items }
-    requires place { at ≡ place_of view.by views.old.items }
+    requires ordered { ViewsAscend views.old.items }
+    requires place { at ≡ view_index view.by views.old.items }
     requires room { (seen_by view.by 0 views.old.items).count ≡ 0 → vec_len views.old < vec_capacity views.old }
     ensures { views.new.items ≡ with_view view views.old.items }
 {
@@ -80,10 +80,10 @@ pub fn put_view(views: &mut Vec<View>, at: usize, view: View)
     }
 }
 
-/// Takes out t's view, whose place this is, if it has one.
+/// Takes out t's view, whose position this is, if it has one.
 pub fn drop_view(views: &mut Vec<View>, at: usize, t: u32)
-    requires ordered { AreOrdered views.old.items }
-    requires place { at ≡ place_of t views.old.items }
+    requires ordered { ViewsAscend views.old.items }
+    requires place { at ≡ view_index t views.old.items }
     ensures { views.new.items ≡ without_view t views.old.items }
 {
     if is_at(views, at, t) {
@@ -118,7 +118,7 @@ fn entered(table: &TypeTable, t: u32, s: u16, entry: &LogEntry) -> u16
     }
 }
 
-/// The state after t's open entries, from this place of the log on.
+/// The state after t's open entries, from this position of the log on.
 pub fn walked(table: &TypeTable, t: u32, s: u16, log: &Vec<LogEntry>, from: usize) -> u16
     requires state { s < table.now.states }
     requires operations { All (λ e. e.op < length table.now.ops) log.now.items }
@@ -136,7 +136,7 @@ pub fn walked(table: &TypeTable, t: u32, s: u16, log: &Vec<LogEntry>, from: usiz
 fn step_all(views: &mut [View], table: &TypeTable, k: Operation)
     requires states { All (FitsTable table.now) views.old }
     requires operation { k < length table.now.ops }
-    ensures exact { views.new ≡ map (moved table.now k) views.old }
+    ensures exact { views.new ≡ map (view_moved table.now k) views.old }
     ensures states { All (FitsTable table.now) views.new }
 {
     steps_within();
@@ -144,8 +144,8 @@ fn step_all(views: &mut [View], table: &TypeTable, k: Operation)
     let ops = usize::from(table.op_count());
     let column = table.column(k);
     for i in 0..views.len() {
-        let place = usize::from(views[i].state) * ops + usize::from(column);
-        views[i].state = steps[place].unwrap_or(views[i].state);
+        let position = usize::from(views[i].state) * ops + usize::from(column);
+        views[i].state = steps[position].unwrap_or(views[i].state);
     }
 }
 

@@ -6,7 +6,7 @@ use Rattle.std.specs.declared.alloc.Global.{Global}
 use Rattle.store_text.specs.Parts.{AreFit}
 use Rattle.store_text.specs.declared.parts.Parts.{Parts}
 use Rattle.jobs_text.specs.JobLines.{jobs}
-use Rattle.jobs_text.specs.Jobs.{AreJobsOf, Call, IsFit, calls_of, job_at, jobs_of}
+use Rattle.jobs_text.specs.Jobs.{AreJobsOf, Call, AreJobsFit, calls_before_job, job_at, jobs_of}
 use Rattle.jobs_text.specs.declared.job_line.JobLine.{JobLine}
 use Rattle.jobs_text.specs.declared.job_line.JobLine.TheVariants as line
 use Rattle.jobs_text.specs.declared.jobs_file.Job.{Job}
@@ -17,7 +17,7 @@ one_at_most true calls = omega arith
 one_at_most false calls = omega arith
 
 few_at : (w : ℕ) (l : JobLine) (behind : List JobLine) → length (job_at w l behind) ≤ 1
-few_at w (line.Job of) behind = one_at_most (of == w) (calls_of behind)
+few_at w (line.Job of) behind = one_at_most (of == w) (calls_before_job behind)
 few_at w (line.Do x call) behind = omega arith
 
 -- so a worker has no more jobs than there are lines
@@ -27,7 +27,7 @@ few_jobs w (l ∷ lines) = omega (arith, length-append (job_at w l lines) (jobs_
 
 -- they are those of their parts
 pub is_fit : (workers : ℕ) (parts : Parts (Vec JobLine Global)) (lists : Vec (Vec Job Global) Global) → AreFit (jobs workers) (λ lines. lines.items) parts
-    → AreJobsOf workers parts.entries.items lists.items → IsFit (record { max = parts.max; objects = parts.objects; jobs = lists })
+    → AreJobsOf workers parts.entries.items lists.items → AreJobsFit (record { max = parts.max; objects = parts.objects; jobs = lists })
 is_fit workers parts lists fit are =
     let limit = fit.max refl in
     record {

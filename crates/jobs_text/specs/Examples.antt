@@ -48,12 +48,12 @@ abbrev pub ended : List (List ℕ) → List ℕ
 ended text = flat_map (λ l. l ++ 10 ∷ []) text
 
 -- for two workers these lines are read as these
-abbrev pub Says : List (List ℕ) → List (Line JobLine) → Type 0
-Says text lines = outcome_of (store_rules (jobs 2)) (ended text) ≡ Ok lines
+abbrev pub SaysJobs : List (List ℕ) → List (Line JobLine) → Type 0
+SaysJobs text lines = outcome_of (store_rules (jobs 2)) (ended text) ≡ Ok lines
 
 -- for two workers a text is refused at a line
-abbrev pub Refuses : List (List ℕ) → ℕ → FaultKind → Type 0
-Refuses text line kind = outcome_of (store_rules (jobs 2)) (ended text) ≡ Err (fault_on line kind)
+abbrev pub RefusesJobs : List (List ℕ) → ℕ → FaultKind → Type 0
+RefusesJobs text line kind = outcome_of (store_rules (jobs 2)) (ended text) ≡ Err (fault_on line kind)
 
 -- the text with another line in place of the one at a place, counted from 0
 abbrev pub jobs_with : ℕ → List ℕ → List (List ℕ)

@@ -6,7 +6,7 @@ use Rattle.std.specs.List.{AllByRecursion}
 use Rattle.store_text.specs.declared.line.Line.{Line}
 use Rattle.store_text.specs.declared.line.Line.TheVariants.{Max}
 use Rattle.store_text.specs.declared.line.ObjectLine.{ObjectLine}
-use Rattle.store_text.specs.Said.{objects_of, entries_of}
+use Rattle.store_text.specs.Said.{said_objects, entries_of}
 use Rattle.jobs_text.specs.declared.job_line.JobLine.{JobLine}
 use Rattle.jobs_text.specs.declared.job_line.JobLine.TheVariants as line
 use Rattle.jobs_text.specs.declared.jobs_file.Job.{Job}
@@ -17,18 +17,18 @@ abbrev pub Call : Type 0
 Call = ℕ × List ℕ
 
 -- the calls of the `do` lines before the next `job` line
-abbrev pub calls_of : List JobLine → List Call
-calls_of [] = []
-calls_of (line.Job w ∷ lines) = []
-calls_of (line.Do x call ∷ lines) = (x, call) ∷ calls_of lines
+abbrev pub calls_before_job : List JobLine → List Call
+calls_before_job [] = []
+calls_before_job (line.Job w ∷ lines) = []
+calls_before_job (line.Do x call ∷ lines) = (x, call) ∷ calls_before_job lines
 
 -- a job of one worker, as one of those of another
-abbrev pub job_of : ℕ → ℕ → List Call → List (List Call)
-job_of of w calls = if of == w then calls ∷ [] else []
+abbrev pub job_of_worker : ℕ → ℕ → List Call → List (List Call)
+job_of_worker of w calls = if of == w then calls ∷ [] else []
 
 -- the job of a worker that a line before others opens
 abbrev pub job_at : ℕ → JobLine → List JobLine → List (List Call)
-job_at w (line.Job of) behind = job_of of w (calls_of behind)
+job_at w (line.Job of) behind = job_of_worker of w (calls_before_job behind)
 job_at w (line.Do x call) behind = []
 
 -- the jobs of a worker, each by its calls, in the order of their lines
@@ -46,7 +46,7 @@ pub record AreJobsOf (workers : ℕ) (lines : List JobLine) (lists : List (Vec J
   pub each : (w : ℕ) (list : Vec Job Global) → slice_get lists w ≡ Some list → calls_in list ≡ jobs_of w lines
 
 -- each worker's list is followed by these jobs
-pub record Adds (old new : List (Vec Job Global)) (more : ℕ → List (List Call)) : Type 0 where
+pub record AddJobs (old new : List (Vec Job Global)) (more : ℕ → List (List Call)) : Type 0 where
   pub count : length new ≡ length old
   pub each : (w : ℕ) (list : Vec Job Global) → slice_get new w ≡ Some list
       → (before : Vec Job Global) × (slice_get old w ≡ Some before) × (calls_in list ≡ calls_in before ++ more w)
@@ -54,11 +54,11 @@ pub record Adds (old new : List (Vec Job Global)) (more : ℕ → List (List Cal
 -- the limit is that of the first line, the objects are those of their lines in order, and so are the jobs of each worker
 pub record IsJobsOf (workers : ℕ) (lines : List (Line JobLine)) (file : JobsFile) : Type 0 where
   pub max : slice_get lines 0 ≡ Some (Max file.max)
-  pub objects : file.objects.items ≡ objects_of lines
+  pub objects : file.objects.items ≡ said_objects lines
   pub jobs : AreJobsOf workers (entries_of lines) file.jobs.items
 
 -- its numbers and counts are in their ranges
-pub record IsFit (file : JobsFile) : Type 0 where
+pub record AreJobsFit (file : JobsFile) : Type 0 where
   pub low : 2 ≤ file.max
   pub high : file.max ≤ most_events
   pub some_object : 0 < length file.objects.items

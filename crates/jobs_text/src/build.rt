@@ -3,7 +3,7 @@
 ghost use Rattle.std.specs.Prelude.{◌≡◌, ℕ, ◌<◌, true, [], length, IfOk, OnOk};
 ghost use Rattle.std.specs.List.{AllByRecursion};
 ghost use Rattle.jobs_text.specs.JobLines.{is_in_range};
-ghost use Rattle.jobs_text.specs.Jobs.{calls_of, job_at, job_of, Adds, AreJobsOf};
+ghost use Rattle.jobs_text.specs.Jobs.{calls_before_job, job_at, job_of_worker, AddJobs, AreJobsOf};
 
 use crate::job_line::JobLine;
 use crate::jobs_file::Job;
@@ -16,8 +16,8 @@ pub fn jobs_of(alloc: Global, workers: u8, lines: &[JobLine]) -> Result<Vec<Vec<
     ensures { IfOk result (λ lists. AreJobsOf workers lines.now lists.items) }
 {
     let mut lists = no_jobs(alloc, workers)?;
-    for place in 0..lines.len() {
-        add_job(alloc, &mut lists, lines[place], &lines[place + 1..])?;
+    for position in 0..lines.len() {
+        add_job(alloc, &mut lists, lines[position], &lines[position + 1..])?;
     }
     Ok(lists)
 }
@@ -42,7 +42,7 @@ fn add_job(
     behind: &[JobLine],
 ) -> Result<(), AllocError>
     requires { (w : ℕ) → line ≡ JobLine.Job w → w < length lists.old.items }
-    ensures { OnOk result (Adds lists.old.items lists.new.items (λ w. job_at w line behind.now)) }
+    ensures { OnOk result (AddJobs lists.old.items lists.new.items (λ w. job_at w line behind.now)) }
 {
     if let JobLine::Job(worker) = line {
         let calls = calls_of(alloc, behind)?;
@@ -54,7 +54,7 @@ fn add_job(
 /// Puts a job after those of its worker.
 fn push_job(lists: &mut Vec<Vec<Job>>, worker: usize, job: Job) -> Result<(), AllocError>
     requires { worker < length lists.old.items }
-    ensures { OnOk result (Adds lists.old.items lists.new.items (λ w. job_of worker w job.calls.items)) }
+    ensures { OnOk result (AddJobs lists.old.items lists.new.items (λ w. job_of_worker worker w job.calls.items)) }
 {
     lists[worker].push(job)?;
     Ok(())
@@ -62,7 +62,7 @@ fn push_job(lists: &mut Vec<Vec<Job>>, worker: usize, job: Job) -> Result<(), Al
 
 /// The calls of the `do` lines before the next `job` line. There is room for just as many.
 fn calls_of(alloc: Global, lines: &[JobLine]) -> Result<Vec<(u32, Name)>, AllocError>
-    ensures { IfOk result (λ calls. calls.items ≡ calls_of lines.now) }
+    ensures { IfOk result (λ calls. calls.items ≡ calls_before_job lines.now) }
 {
     let mut calls = Vec::with_capacity(alloc, call_count(lines))?;
     for line in lines {
@@ -76,11 +76,11 @@ fn calls_of(alloc: Global, lines: &[JobLine]) -> Result<Vec<(u32, Name)>, AllocE
 
 /// How many `do` lines are before the next `job` line.
 fn call_count(lines: &[JobLine]) -> usize
-    ensures { result ≡ length (calls_of lines.now) }
+    ensures { result ≡ length (calls_before_job lines.now) }
 {
-    for place in 0..lines.len() {
-        if let JobLine::Job(_) = lines[place] {
-            return place;
+    for position in 0..lines.len() {
+        if let JobLine::Job(_) = lines[position] {
+            return position;
         }
     }
     lines.len()

@@ -1,7 +1,7 @@
 ghost use Rattle.std.specs.Prelude.{IfOk};
-ghost use Rattle.store_text.specs.Parts.{Reads};
+ghost use Rattle.store_text.specs.Parts.{ReadsStoreText};
 ghost use Rattle.jobs_text.specs.JobLines.{jobs};
-ghost use Rattle.jobs_text.specs.Jobs.{IsJobsOf, IsFit};
+ghost use Rattle.jobs_text.specs.Jobs.{IsJobsOf, AreJobsFit};
 
 use crate::build::jobs_of;
 use crate::job_lines::Jobs;
@@ -15,8 +15,8 @@ use store_text::{Parts, StoreGrammar, read_parts};
 /// `NoMemory` comes in place of either where memory was refused; its line is the one that was
 /// being read, or the first where the lines were read and the jobs were being built.
 pub fn read_jobs(alloc: Global, text: &[u8], workers: u8) -> Result<JobsFile, TextFault>
-    ensures exact { Reads (jobs workers) (IsJobsOf workers) result text.now }
-    ensures fit { IfOk result IsFit }
+    ensures exact { ReadsStoreText (jobs workers) (IsJobsOf workers) result text.now }
+    ensures fit { IfOk result AreJobsFit }
 {
     let grammar = StoreGrammar {
         entries: Jobs { workers },

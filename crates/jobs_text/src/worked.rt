@@ -7,11 +7,11 @@ ghost use Rattle.line_text.specs.declared.fault.FaultKind.TheVariants.{UnknownWo
 ghost use Rattle.store_text.specs.declared.line.Line.TheVariants.{Max, Object, End};
 ghost use Rattle.store_text.specs.Said.{entries_of};
 ghost use Rattle.jobs_text.specs.Jobs.{jobs_of};
-ghost use Rattle.jobs_text.specs.Examples.{Says, Refuses, jobs_text, job_lines, jobs_lines, jobs_with};
+ghost use Rattle.jobs_text.specs.Examples.{SaysJobs, RefusesJobs, jobs_text, job_lines, jobs_lines, jobs_with};
 
 pub fn texts_say_their_lines()
-    ensures jobs { Says jobs_text jobs_lines }
-    ensures spaced { Says
+    ensures jobs { SaysJobs jobs_text jobs_lines }
+    ensures spaced { SaysJobs
         (codes "# note" ∷ codes " max  2" ∷ [] ∷ codes "object undo 0" ∷ codes "end" ∷ codes "#" ∷ [])
         (Max 2 ∷ Object Undo 0 ∷ End ∷ []) }
 {}
@@ -24,14 +24,14 @@ pub fn lines_say_their_jobs()
 {}
 
 pub fn faults_of_the_jobs()
-    ensures no_job { Refuses (jobs_with 2 (codes "do 0 inc:1")) 3 Missing }
-    ensures high_worker { Refuses (jobs_with 2 (codes "job 2")) 3 OutOfRange }
-    ensures high_object { Refuses (jobs_with 3 (codes "do 256 inc:1")) 4 OutOfRange }
-    ensures missing_before_range { Refuses (jobs_with 2 (codes "do 256 inc:1")) 3 Missing }
-    ensures name_before_number { Refuses (jobs_with 3 (codes "do 00 INC")) 4 UnknownWord }
-    ensures leading_zero { Refuses (jobs_with 3 (codes "do 00 inc:1")) 4 BadNumber }
-    ensures late_object { Refuses (jobs_with 5 (codes "object undo 0")) 6 OutOfOrder }
-    ensures no_object { Refuses (codes "max 20" ∷ codes "job 0" ∷ []) 2 Missing }
-    ensures no_end { Refuses (take 8 jobs_text) 9 Missing }
-    ensures second_end { Refuses (jobs_text ++ codes "end" ∷ []) 10 AfterEnd }
+    ensures no_job { RefusesJobs (jobs_with 2 (codes "do 0 inc:1")) 3 Missing }
+    ensures high_worker { RefusesJobs (jobs_with 2 (codes "job 2")) 3 OutOfRange }
+    ensures high_object { RefusesJobs (jobs_with 3 (codes "do 256 inc:1")) 4 OutOfRange }
+    ensures missing_before_range { RefusesJobs (jobs_with 2 (codes "do 256 inc:1")) 3 Missing }
+    ensures name_before_number { RefusesJobs (jobs_with 3 (codes "do 00 INC")) 4 UnknownWord }
+    ensures leading_zero { RefusesJobs (jobs_with 3 (codes "do 00 inc:1")) 4 BadNumber }
+    ensures late_object { RefusesJobs (jobs_with 5 (codes "object undo 0")) 6 OutOfOrder }
+    ensures no_object { RefusesJobs (codes "max 20" ∷ codes "job 0" ∷ []) 2 Missing }
+    ensures no_end { RefusesJobs (take 8 jobs_text) 9 Missing }
+    ensures second_end { RefusesJobs (jobs_text ++ codes "end" ∷ []) 10 AfterEnd }
 {}

@@ -14,7 +14,7 @@ use Rattle.sqlite_trees.specs.Objects.{catalog_tree, is_frozen, IsFreeFor, Destr
 use Rattle.sqlite_trees.specs.Tree.{has_rowid, put_row, rowid, without_rowid}
 use Rattle.sqlite_trees.specs.View.{View}
 use Rattle.journal.specs.Journal.{IsNamedOnce, name_column}
-use Rattle.journal.specs.Emptying.{Empties, MayEmpty}
+use Rattle.journal.specs.EmptyTable.{Empties, MayEmpty}
 
 -- a row more
 each-put : (P : Row → Type 0) (new : Row) (rs : List Row) → AllByRecursion P rs → P new → AllByRecursion P (put_row new rs)

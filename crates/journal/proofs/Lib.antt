@@ -1,11 +1,11 @@
 pub mod RowLemmas
-pub mod Reading
+pub mod CursorRows
 pub mod Writes
 pub mod Scans
 pub mod Names
 pub mod Opens
 pub mod Emptied
-pub mod Raising
+pub mod NewHeaders
 pub mod Rewritten
 pub mod Outages
 pub mod Same

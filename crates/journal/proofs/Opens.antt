@@ -6,7 +6,7 @@ use Rattle.sqlite_trees.specs.Objects.{catalog_tree}
 use Rattle.sqlite_trees.specs.Tree.{Trees}
 use Rattle.sqlite_trees.specs.View.{IsRolledBack, View, IsClean}
 use Rattle.journal.specs.declared.contents.FileContents.{FileContents}
-use Rattle.journal.specs.Rows.{rows}
+use Rattle.journal.specs.Rows.{value_rows}
 use Rattle.journal.specs.EventRow.{event_row, event_told}
 use Rattle.journal.specs.EventLaws.{event_read_back}
 use Rattle.journal.specs.HeaderRow.{header_row, header_told, header_read_back}
@@ -14,19 +14,19 @@ use Rattle.journal.specs.TypeRow.{type_row, type_told, type_read_back}
 use Rattle.journal.specs.ObjectRows.{object_row, object_told, object_read_back}
 use Rattle.journal.specs.StateRow.{state_row, state_told, state_read_back}
 use Rattle.journal.specs.Contents.{Contents, IsFile, contents_of}
-use Rattle.journal.specs.Said.{IsTold, contents}
+use Rattle.journal.specs.Said.{HasRowsOf, contents}
 use Rattle.journal.specs.Tables.{IsUnused, OnlyReads}
 use Rattle.journal.specs.Journal.{HasTables, IsKeptFile, IsNamedOnce}
 use Rattle.journal.proofs.RowLemmas.{rows-told}
 
 -- rows of values say these values, and are the rows of what they say
-pub told-of : {E : Type 0} (row_at : ℕ → E → Row) (told : Row → E) → ((n : ℕ) (e : E) → told (row_at n e) ≡ e) → (all : List Row) (es : List E) → all ≡ rows row_at 0 es → map told all ≡ es
+pub told-of : {E : Type 0} (row_at : ℕ → E → Row) (told : Row → E) → ((n : ℕ) (e : E) → told (row_at n e) ≡ e) → (all : List Row) (es : List E) → all ≡ value_rows row_at 0 es → map told all ≡ es
 told-of row_at told back all es is = ap (map told) is ∙ rows-told row_at told back 0 es
 
-rows-of : {E : Type 0} (row_at : ℕ → E → Row) (told : Row → E) → ((n : ℕ) (e : E) → told (row_at n e) ≡ e) → (all : List Row) (es : List E) → all ≡ rows row_at 0 es → all ≡ rows row_at 0 (map told all)
-rows-of row_at told back all es is = is ∙ ap (rows row_at 0) (sym (told-of row_at told back all es is))
+rows-of : {E : Type 0} (row_at : ℕ → E → Row) (told : Row → E) → ((n : ℕ) (e : E) → told (row_at n e) ≡ e) → (all : List Row) (es : List E) → all ≡ value_rows row_at 0 es → all ≡ value_rows row_at 0 (map told all)
+rows-of row_at told back all es is = is ∙ ap (value_rows row_at 0) (sym (told-of row_at told back all es is))
 
-module _ (db : Trees) (said : FileContents) (told : IsTold db said) where
+module _ (db : Trees) (said : FileContents) (told : HasRowsOf db said) where
   -- it is a file of a store
   pub is-file : IsFile db
   is-file = record {
@@ -74,7 +74,7 @@ module _ (old new : View) (back : IsRolledBack old new) (clean : IsClean new) (b
 
 -- what was read without a write is a file of a store
 pub starts : (old new : View) (n : ℕ) (said : FileContents) → IsUnused old → HasTables old → IsTrue old.is_numbered → IsNamedOnce (old.trees catalog_tree) → OnlyReads old new
-    → IsTold old.trees said → n ≡ length said.events.items → IsKeptFile new n said.header
+    → HasRowsOf old.trees said → n ≡ length said.events.items → IsKeptFile new n said.header
 starts old new n said unused tables numbered named only told many =
     let file = is-file old.trees said told in
     let says' = says old.trees said told in

@@ -9,10 +9,10 @@ use Rattle.sqlite_trees.specs.Tree.{put_row}
 use Rattle.sqlite_trees.specs.View.{View, SetsTree}
 use Rattle.journal.specs.declared.header.Header.{Header}
 use Rattle.journal.specs.declared.state_row.FirstState.{FirstState}
-use Rattle.journal.specs.Rows.{rows}
+use Rattle.journal.specs.Rows.{value_rows}
 use Rattle.journal.specs.StateRow.{state_row, state_told, state_read_back}
 use Rattle.journal.specs.Tables.{Rewrites}
-use Rattle.journal.specs.Emptying.{Empties}
+use Rattle.journal.specs.EmptyTable.{Empties}
 use Rattle.journal.specs.Contents.{IsFile, contents_of, from_states}
 use Rattle.journal.specs.Journal.{IsKeptFile, IsNamedOnce}
 use Rattle.journal.proofs.RowLemmas.{put-set, rows-told}
@@ -20,11 +20,11 @@ use Rattle.journal.proofs.RowLemmas.{put-set, rows-told}
 -- the first x states are new
 pub record AreFirstNew (old now : View) (states : List FirstState) (x : ℕ) : Type 0 where
   pub are : List FirstState
-  pub rewrites : Rewrites old now 4 (rows state_row 0 are)
+  pub rewrites : Rewrites old now 4 (value_rows state_row 0 are)
   pub as_many : length are ≡ length states
   pub first : take x are ≡ take x states
 
-pub none-new : (v : View) (was states : List FirstState) → v.trees 4 ≡ rows state_row 0 was → length was ≡ length states → AreFirstNew v v states 0
+pub none-new : (v : View) (was states : List FirstState) → v.trees 4 ≡ value_rows state_row 0 was → length was ≡ length states → AreFirstNew v v states 0
 none-new v was states is many = record {
   are = was;
   rewrites = record { rows_are = is; others = λ t differs. refl; shape = refl; committed = refl; is_open = refl; is_broken = refl; numbered = refl };
@@ -53,14 +53,14 @@ one-new old now more states x s before there low sets =
     }
 
 -- all of them
-pub all-new : (old now : View) (states : List FirstState) (x : ℕ) → AreFirstNew old now states x → length states ≤ x → Rewrites old now 4 (rows state_row 0 states)
+pub all-new : (old now : View) (states : List FirstState) (x : ℕ) → AreFirstNew old now states x → length states ≤ x → Rewrites old now 4 (value_rows state_row 0 states)
 all-new old now states x first past =
     let same : first.are ≡ states = sym (take_all x first.are (omega (arith, first.as_many, past))) ∙ first.first ∙ take_all x states past in
-    subst (λ es. Rewrites old now 4 (rows state_row 0 es)) same first.rewrites
+    subst (λ es. Rewrites old now 4 (value_rows state_row 0 es)) same first.rewrites
 
 -- ---- a history begins anew at these states
 
-module _ (old middle new : View) (n : ℕ) (header : Header) (states : List FirstState) (kept : IsKeptFile old n header) (gone : Empties old middle) (again : Rewrites middle new 4 (rows state_row 0 states)) where
+module _ (old middle new : View) (n : ℕ) (header : Header) (states : List FirstState) (kept : IsKeptFile old n header) (gone : Empties old middle) (again : Rewrites middle new 4 (value_rows state_row 0 states)) where
   before : IsFile old.trees
   before = kept.file gone.sound
 
@@ -94,7 +94,7 @@ module _ (old middle new : View) (n : ℕ) (header : Header) (states : List Firs
       headers = rw headers before.headers;
       types = rw types before.types;
       objects = rw objects before.objects;
-      states = again.rows_are ∙ ap (rows state_row 0) (sym states-told);
+      states = again.rows_are ∙ ap (value_rows state_row 0) (sym states-told);
     };
     count_is = λ _. rw events refl;
     header_is = λ _. rw headers (kept.header_is gone.sound);

@@ -6,7 +6,7 @@ use Rattle.object_trait.specs.declared.event.EventKind.{EventKind}
 use Rattle.journal.specs.declared.header.Header.{Header}
 use Rattle.journal.specs.EventRow.{event_row, event_told}
 use Rattle.journal.specs.EventLaws.{event_read_back}
-use Rattle.journal.specs.Contents.{Contents, IsFile, contents_of, with_event}
+use Rattle.journal.specs.Contents.{Contents, IsFile, contents_of, contents_with_event}
 use Rattle.journal.specs.Journal.{HasTables, IsKeptFile, IsNamedOnce}
 use Rattle.sqlite_trees.specs.Objects.{catalog_tree}
 use Rattle.journal.proofs.RowLemmas.{told-more, rows-of-more}
@@ -21,7 +21,7 @@ module _ (old new : View) (n : ℕ) (header : Header) (e : EventKind) (sets : Se
   told = told-more event_row (λ m k. refl) event_told event_read_back n (old.trees 0) e before.events (kept.count_is sets.sound)
 
   -- it is after the others
-  pub appended : contents_of new.trees ≡ with_event (contents_of old.trees) e
+  pub appended : contents_of new.trees ≡ contents_with_event (contents_of old.trees) e
   appended = ap (λ (v : View). contents_of v.trees) sets.is ∙ ap (λ es. record (contents_of old.trees) { events = es }) told
 
   file : IsFile new.trees

@@ -5,7 +5,7 @@ use Rattle.store_text.specs.declared.line.ObjectLine.{ObjectLine}
 use Rattle.sqlite_trees.specs.Tree.{Trees}
 use Rattle.journal.specs.declared.header.Header.{Header}
 use Rattle.journal.specs.declared.state_row.FirstState.{FirstState}
-use Rattle.journal.specs.Rows.{rows}
+use Rattle.journal.specs.Rows.{value_rows}
 use Rattle.journal.specs.EventRow.{event_row, event_told}
 use Rattle.journal.specs.HeaderRow.{header_row, header_told}
 use Rattle.journal.specs.TypeRow.{type_row, type_told}
@@ -32,15 +32,15 @@ contents_of db = record {
 
 -- each table has the rows of what it says, at the positions 0, 1, 2 and so on, and no other
 pub record IsFile (db : Trees) : Type 0 where
-  pub events : db 0 ≡ rows event_row 0 (contents_of db).events
-  pub headers : db 1 ≡ rows header_row 0 (contents_of db).headers
-  pub types : db 2 ≡ rows type_row 0 (contents_of db).types
-  pub objects : db 3 ≡ rows object_row 0 (contents_of db).objects
-  pub states : db 4 ≡ rows state_row 0 (contents_of db).states
+  pub events : db 0 ≡ value_rows event_row 0 (contents_of db).events
+  pub headers : db 1 ≡ value_rows header_row 0 (contents_of db).headers
+  pub types : db 2 ≡ value_rows type_row 0 (contents_of db).types
+  pub objects : db 3 ≡ value_rows object_row 0 (contents_of db).objects
+  pub states : db 4 ≡ value_rows state_row 0 (contents_of db).states
 
 -- with an event more
-abbrev pub with_event : Contents → EventKind → Contents
-with_event c e = record c { events = c.events ++ e ∷ [] }
+abbrev pub contents_with_event : Contents → EventKind → Contents
+contents_with_event c e = record c { events = c.events ++ e ∷ [] }
 
 -- with this number of a life in the header
 abbrev pub in_life : Contents → ℕ → Contents

@@ -22,8 +22,8 @@ event_word word.Abort = codes "abort"
 event_word word.Rollback = codes "rollback"
 
 -- the kind of a word, where it is one's
-abbrev pub word_of : List ℕ → Option EventWord
-word_of text =
+abbrev pub word_of_event : List ℕ → Option EventWord
+word_of_event text =
     if bytes_eq text (event_word word.Begin) then Some word.Begin
     else (if bytes_eq text (event_word word.Op) then Some word.Op
     else (if bytes_eq text (event_word word.Busy) then Some word.Busy
@@ -34,41 +34,41 @@ word_of text =
     else None))))))
 
 -- the columns of an event that has this kind, these numbers, and no others
-abbrev pub columns : EventWord → ℕ → Value → Value → Value → Row
-columns kind t x k n = Text (event_word kind) ∷ Int (pos t) ∷ x ∷ k ∷ n ∷ []
+abbrev pub columns_of_event : EventWord → ℕ → Value → Value → Value → Row
+columns_of_event kind t x k n = Text (event_word kind) ∷ Int (pos t) ∷ x ∷ k ∷ n ∷ []
 
 -- the amount of an operation as a column has it, and back
 abbrev pub amount_value : Option ℕ → Value
 amount_value None = Null
 amount_value (Some n) = Int (pos n)
 
-abbrev pub amount_in : Value → Option ℕ
-amount_in (Int (pos n)) = Some n
-amount_in _ = None
+abbrev pub amount_of_value : Value → Option ℕ
+amount_of_value (Int (pos n)) = Some n
+amount_of_value _ = None
 
 abbrev pub event_columns : EventKind → Row
-event_columns (kind.Begin t) = columns word.Begin t Null Null Null
-event_columns (kind.Op k t x) = columns word.Op t (Int (pos x)) (Int (pos (place_of k))) (amount_value (amount_of k))
-event_columns (kind.Busy c t x u) = columns word.Busy t (Int (pos x)) (Int (pos c)) (Int (pos u))
-event_columns (kind.None t x c) = columns word.None t (Int (pos x)) (Int (pos c)) Null
-event_columns (kind.Commit t) = columns word.Commit t Null Null Null
-event_columns (kind.Abort t) = columns word.Abort t Null Null Null
-event_columns (kind.Rollback t n) = columns word.Rollback t Null Null (Int (pos n))
+event_columns (kind.Begin t) = columns_of_event word.Begin t Null Null Null
+event_columns (kind.Op k t x) = columns_of_event word.Op t (Int (pos x)) (Int (pos (place_of k))) (amount_value (amount_of k))
+event_columns (kind.Busy c t x u) = columns_of_event word.Busy t (Int (pos x)) (Int (pos c)) (Int (pos u))
+event_columns (kind.None t x c) = columns_of_event word.None t (Int (pos x)) (Int (pos c)) Null
+event_columns (kind.Commit t) = columns_of_event word.Commit t Null Null Null
+event_columns (kind.Abort t) = columns_of_event word.Abort t Null Null Null
+event_columns (kind.Rollback t n) = columns_of_event word.Rollback t Null Null (Int (pos n))
 
 -- the row of the event at position n; SQLite keeps the column of the position as NULL, since it is the rowid
 abbrev pub event_row : ℕ → EventKind → Row
 event_row n e = Int (pos n) ∷ Null ∷ event_columns e
 
 -- the event of this kind with these numbers, of which the last may be none
-abbrev pub event_of : Option EventWord → ℕ → ℕ → ℕ → Value → EventKind
-event_of (Some word.Begin) t x k n = kind.Begin t
-event_of (Some word.Op) t x k n = kind.Op (operation_at k (amount_in n)) t x
-event_of (Some word.Busy) t x k n = kind.Busy k t x (number_in n)
-event_of (Some word.None) t x k n = kind.None t x k
-event_of (Some word.Commit) t x k n = kind.Commit t
-event_of (Some word.Abort) t x k n = kind.Abort t
-event_of (Some word.Rollback) t x k n = kind.Rollback t (number_in n)
-event_of None t x k n = kind.Begin t
+abbrev pub event_of_row : Option EventWord → ℕ → ℕ → ℕ → Value → EventKind
+event_of_row (Some word.Begin) t x k n = kind.Begin t
+event_of_row (Some word.Op) t x k n = kind.Op (operation_at k (amount_of_value n)) t x
+event_of_row (Some word.Busy) t x k n = kind.Busy k t x (number_in n)
+event_of_row (Some word.None) t x k n = kind.None t x k
+event_of_row (Some word.Commit) t x k n = kind.Commit t
+event_of_row (Some word.Abort) t x k n = kind.Abort t
+event_of_row (Some word.Rollback) t x k n = kind.Rollback t (number_in n)
+event_of_row None t x k n = kind.Begin t
 
 -- the columns after that of the position
 abbrev pub kind_column : ℕ
@@ -88,4 +88,4 @@ number_column = 6
 
 -- the event that a row says
 abbrev pub event_told : Row → EventKind
-event_told row = event_of (word_of (bytes (column row kind_column))) (number_in (column row transaction_column)) (number_in (column row object_column)) (number_in (column row operation_column)) (column row number_column)
+event_told row = event_of_row (word_of_event (bytes (column row kind_column))) (number_in (column row transaction_column)) (number_in (column row object_column)) (number_in (column row operation_column)) (column row number_column)

@@ -11,4 +11,4 @@ pub mod TypeRow
 pub mod Contents
 pub mod Journal
 pub mod Said
-pub mod Emptying
+pub mod EmptyTable

@@ -2,7 +2,7 @@
 use Rattle.std.specs.Prelude.{◌≡◌, [], ◌∷◌}
 use Rattle.sqlite_trees.specs.Tree.{Trees}
 use Rattle.journal.specs.declared.contents.FileContents.{FileContents}
-use Rattle.journal.specs.Rows.{rows}
+use Rattle.journal.specs.Rows.{value_rows}
 use Rattle.journal.specs.EventRow.{event_row}
 use Rattle.journal.specs.HeaderRow.{header_row}
 use Rattle.journal.specs.TypeRow.{type_row}
@@ -21,9 +21,9 @@ contents said = record {
 }
 
 -- the tables have the rows of just this
-pub record IsTold (db : Trees) (said : FileContents) : Type 0 where
-  pub events : db 0 ≡ rows event_row 0 said.events.items
+pub record HasRowsOf (db : Trees) (said : FileContents) : Type 0 where
+  pub events : db 0 ≡ value_rows event_row 0 said.events.items
   pub header : db 1 ≡ header_row 0 said.header ∷ []
-  pub types : db 2 ≡ rows type_row 0 said.types.items
-  pub objects : db 3 ≡ rows object_row 0 said.objects.items
-  pub states : db 4 ≡ rows state_row 0 said.states.items
+  pub types : db 2 ≡ value_rows type_row 0 said.types.items
+  pub objects : db 3 ≡ value_rows object_row 0 said.objects.items
+  pub states : db 4 ≡ value_rows state_row 0 said.states.items

@@ -4,7 +4,7 @@ ghost use Rattle.std.specs.Prelude.{◌≡◌, ◌<◌, ◌^◌, ◌∷◌, [], 
 ghost use Rattle.sqlite_trees.specs.Tree.{Trees};
 ghost use Rattle.sqlite_trees.specs.View.{IsClean};
 ghost use Rattle.journal.specs.HeaderRow.{header_row};
-ghost use Rattle.journal.specs.Said.{IsTold};
+ghost use Rattle.journal.specs.Said.{HasRowsOf};
 ghost use Rattle.journal.specs.Journal.{HasTables};
 ghost use Rattle.journal.specs.Tables.{IsUnused, OnlyReads};
 
@@ -61,7 +61,7 @@ pub fn read_contents<S: Store>(
 ) -> Result<FileContents, JournalError>
     requires unused { IsClean (S.Store.view store.old) → IsUnused (S.Store.view store.old) }
     requires tables { IsClean (S.Store.view store.old) → HasTables (S.Store.view store.old) }
-    ensures told { IfOk result (λ said. IsClean (S.Store.view store.new) → IsTold (S.Store.view store.old).trees said) }
+    ensures told { IfOk result (λ said. IsClean (S.Store.view store.new) → HasRowsOf (S.Store.view store.old).trees said) }
     ensures same { OnOk result (IsClean (S.Store.view store.new) → OnlyReads (S.Store.view store.old) (S.Store.view store.new)) }
     ensures few { IfOk result (λ said. length said.events.items < 2 ^ 62) }
     ensures clean { IsClean (S.Store.view store.new) → IsClean (S.Store.view store.old) }

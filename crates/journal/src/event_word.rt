@@ -2,7 +2,7 @@
 
 ghost use Rattle.std.specs.Prelude.{◌≡◌};
 ghost use Rattle.std.specs.Str.{bytes_eq};
-ghost use Rattle.journal.specs.EventRow.{event_word, word_of};
+ghost use Rattle.journal.specs.EventRow.{event_word, word_of_event};
 
 /// A kind of event, without its numbers.
 #[derive(Clone, Copy)]
@@ -41,7 +41,7 @@ impl EventWord {
 
     /// The kind of a word, which is `None` for every other word.
     pub fn of_text(word: &[u8]) -> Option<EventWord>
-        ensures { result ≡ word_of word.now }
+        ensures { result ≡ word_of_event word.now }
     {
         if EventWord::Begin.is(word) {
             Some(EventWord::Begin)

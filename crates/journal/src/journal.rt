@@ -1,17 +1,29 @@
 //! A journal: what a store did, in the tables of a file.
 
-ghost use Rattle.std.specs.Prelude.{◌≡◌, ◌⊎◌, ◌∷◌, [], IsTrue, OnOk};
+ghost use Rattle.std.specs.Prelude.{◌≡◌, ◌⊎◌, ◌∷◌, [], IsTrue, OnOk, ◌<◌, drop, map, take, IfOk, ◌+◌, ◌≤◌, ℕ, List, false, length};
 ghost use Rattle.sqlite_trees.specs.Tree.{Trees};
-ghost use Rattle.journal.specs.Contents.{IsFile, contents_of, with_event};
+ghost use Rattle.journal.specs.Contents.{IsFile, contents_of, contents_with_event, from_states, in_life};
 ghost use Rattle.journal.specs.Journal.{Clean, IsJournal, IsNumbered, IsOpen, IsSettled, ShowsCommit, durable, may_leave, written};
+ghost use Rattle.sqlite_trees.specs.declared.store.Shape.TheVariants.{Table};
+ghost use Rattle.sqlite_trees.specs.View.{IsClean};
+ghost use Rattle.journal.specs.declared.state_row.FirstState.{FirstState as First};
+ghost use Rattle.journal.specs.Rows.{value_rows};
+ghost use Rattle.journal.specs.StateRow.{state_row};
+ghost use Rattle.journal.specs.Tables.{Rewrites};
 
-use crate::contents::EVENTS;
+use crate::contents::{EVENTS, HEADER, OBJECTS, STATES, TYPES};
+use crate::entry::Entry;
+use crate::event_table::empty_events;
 use crate::header::Header;
 use crate::journal_error::JournalError;
-use crate::table::{MOST_ROWS, append};
+use crate::object_row::TypeText;
+use crate::state_row::FirstState;
+use crate::table::{MOST_ROWS, append, read_all, read_from};
 use object_trait::EventKind;
-use sqlite_trees::store::Store;
+use sqlite_trees::store::{Alter, Store};
 use sqlite_value::row::Row;
+use std::alloc::Global;
+use store_text::ObjectLine;
 
 /// What a store did, in the tables of a file, by way of a store of trees: what is written, and what of it
 /// no crash can take away.
@@ -33,7 +45,7 @@ impl<S: Store> Journal<S> {
     pub fn append(&mut self, event: EventKind) -> Result<(), JournalError>
         requires { IsJournal S.Store self.old }
         ensures kept { OnOk result (IsJournal S.Store self.new) }
-        ensures written { OnOk result (Clean S.Store self.new → written S.Store self.new ≡ with_event (written S.Store self.old) event) }
+        ensures written { OnOk result (Clean S.Store self.new → written S.Store self.new ≡ contents_with_event (written S.Store self.old) event) }
         ensures durable { OnOk result (Clean S.Store self.new → durable S.Store self.new ≡ durable S.Store self.old) }
         ensures header { self.new.header ≡ self.old.header }
         ensures clean { Clean S.Store self.new → Clean S.Store self.old }
@@ -94,4 +106,211 @@ impl<S: Store> Journal<S> {
         } = self;
         store
     }
+
+    /// The texts of types, in order.
+    ///
+    /// # Errors
+    ///
+    /// `Foreign` where a row is none that a store writes, `Full` where there are more rows than positions; the
+    /// file failed, or memory was refused. The journal isn't to be used any more.
+    pub fn types(&mut self, alloc: Global) -> Result<Vec<TypeText>, JournalError>
+        requires journal { IsJournal S.Store self.old }
+        requires shows { ShowsCommit S.Store self.old }
+        ensures said { IfOk result (λ types. Clean S.Store self.new → types.items ≡ (written S.Store self.old).types) }
+        ensures kept { OnOk result (IsJournal S.Store self.new) }
+        ensures written { OnOk result (Clean S.Store self.new → written S.Store self.new ≡ written S.Store self.old) }
+        ensures durable { OnOk result (Clean S.Store self.new → durable S.Store self.new ≡ durable S.Store self.old) }
+        ensures header { self.new.header ≡ self.old.header }
+        ensures shows { OnOk result (ShowsCommit S.Store self.new) }
+        ensures clean { Clean S.Store self.new → Clean S.Store self.old }
+        ensures crash { (db : Trees) → may_leave S.Store self.new db → may_leave S.Store self.old db }
+    {
+        self.all_of(alloc, TYPES)
+    }
+
+    /// The objects with their types, in order.
+    ///
+    /// # Errors
+    ///
+    /// As `types`.
+    pub fn objects(&mut self, alloc: Global) -> Result<Vec<ObjectLine>, JournalError>
+        requires journal { IsJournal S.Store self.old }
+        requires shows { ShowsCommit S.Store self.old }
+        ensures said { IfOk result (λ objects. Clean S.Store self.new → objects.items ≡ (written S.Store self.old).objects) }
+        ensures kept { OnOk result (IsJournal S.Store self.new) }
+        ensures written { OnOk result (Clean S.Store self.new → written S.Store self.new ≡ written S.Store self.old) }
+        ensures durable { OnOk result (Clean S.Store self.new → durable S.Store self.new ≡ durable S.Store self.old) }
+        ensures header { self.new.header ≡ self.old.header }
+        ensures shows { OnOk result (ShowsCommit S.Store self.new) }
+        ensures clean { Clean S.Store self.new → Clean S.Store self.old }
+        ensures crash { (db : Trees) → may_leave S.Store self.new db → may_leave S.Store self.old db }
+    {
+        self.all_of(alloc, OBJECTS)
+    }
+
+    /// The states at which the objects began, in order.
+    ///
+    /// # Errors
+    ///
+    /// As `types`.
+    pub fn states(&mut self, alloc: Global) -> Result<Vec<FirstState>, JournalError>
+        requires journal { IsJournal S.Store self.old }
+        requires shows { ShowsCommit S.Store self.old }
+        ensures said { IfOk result (λ states. Clean S.Store self.new → states.items ≡ (written S.Store self.old).states) }
+        ensures kept { OnOk result (IsJournal S.Store self.new) }
+        ensures written { OnOk result (Clean S.Store self.new → written S.Store self.new ≡ written S.Store self.old) }
+        ensures durable { OnOk result (Clean S.Store self.new → durable S.Store self.new ≡ durable S.Store self.old) }
+        ensures header { self.new.header ≡ self.old.header }
+        ensures shows { OnOk result (ShowsCommit S.Store self.new) }
+        ensures clean { Clean S.Store self.new → Clean S.Store self.old }
+        ensures crash { (db : Trees) → may_leave S.Store self.new db → may_leave S.Store self.old db }
+    {
+        self.all_of(alloc, STATES)
+    }
+
+    /// The events from this position on, oldest first, and at most this many: no other row is read.
+    ///
+    /// # Errors
+    ///
+    /// As `types`.
+    pub fn events(
+        &mut self,
+        alloc: Global,
+        from: u64,
+        count: usize,
+    ) -> Result<Vec<EventKind>, JournalError>
+        requires journal { IsJournal S.Store self.old }
+        requires shows { ShowsCommit S.Store self.old }
+        ensures said { IfOk result (λ events. Clean S.Store self.new → events.items ≡ take count (drop from (written S.Store self.old).events)) }
+        ensures kept { OnOk result (IsJournal S.Store self.new) }
+        ensures written { OnOk result (Clean S.Store self.new → written S.Store self.new ≡ written S.Store self.old) }
+        ensures durable { OnOk result (Clean S.Store self.new → durable S.Store self.new ≡ durable S.Store self.old) }
+        ensures header { self.new.header ≡ self.old.header }
+        ensures shows { OnOk result (ShowsCommit S.Store self.new) }
+        ensures clean { Clean S.Store self.new → Clean S.Store self.old }
+        ensures crash { (db : Trees) → may_leave S.Store self.new db → may_leave S.Store self.old db }
+    {
+        if from >= self.count {
+            return Ok(Vec::new(alloc));
+        }
+        read_from(alloc, &mut self.store, EVENTS, from, count, &mut self.row)
+    }
+
+    /// The values of a table, in order.
+    ///
+    /// # Errors
+    ///
+    /// As `types`.
+    fn all_of<E: Entry + Drop>(&mut self, alloc: Global, table: u32) -> Result<Vec<E>, JournalError>
+        requires journal { IsJournal S.Store self.old }
+        requires shows { ShowsCommit S.Store self.old }
+        requires table { table < 5 }
+        ensures told { IfOk result (λ entries. Clean S.Store self.new → entries.items ≡ map E.told_by ((S.Store.view self.old.store).trees table)) }
+        ensures kept { OnOk result (IsJournal S.Store self.new) }
+        ensures written { OnOk result (Clean S.Store self.new → written S.Store self.new ≡ written S.Store self.old) }
+        ensures durable { OnOk result (Clean S.Store self.new → durable S.Store self.new ≡ durable S.Store self.old) }
+        ensures header { self.new.header ≡ self.old.header }
+        ensures shows { OnOk result (ShowsCommit S.Store self.new) }
+        ensures clean { Clean S.Store self.new → Clean S.Store self.old }
+        ensures crash { (db : Trees) → may_leave S.Store self.new db → may_leave S.Store self.old db }
+    {
+        read_all(alloc, &mut self.store, table, &mut self.row)
+    }
+
+    /// Begins another life: its number, which is one more than the last one's, is written into the header.
+    ///
+    /// # Errors
+    ///
+    /// `Full` where there is no greater number, and nothing changes; or the file failed, or memory was
+    /// refused: the journal isn't to be used any more.
+    pub fn begin_life(&mut self) -> Result<u32, JournalError>
+        requires { IsJournal S.Store self.old }
+        ensures kept { OnOk result (IsJournal S.Store self.new) }
+        ensures raised { IfOk result (λ life. life ≡ self.old.header.life + 1) }
+        ensures last { OnOk result (Clean S.Store self.new → (written S.Store self.old).headers ≡ self.old.header ∷ []) }
+        ensures written { IfOk result (λ life. Clean S.Store self.new → written S.Store self.new ≡ in_life (written S.Store self.old) life) }
+        ensures durable { OnOk result (Clean S.Store self.new → durable S.Store self.new ≡ durable S.Store self.old) }
+        ensures clean { Clean S.Store self.new → Clean S.Store self.old }
+        ensures crash { (db : Trees) → may_leave S.Store self.new db → may_leave S.Store self.old db }
+    {
+        let Some(life) = self.header.life.checked_add(1) else {
+            return Err(JournalError::Full);
+        };
+        let header = Header {
+            life,
+            ..self.header
+        };
+        append(&mut self.store, HEADER, 0, &header, &mut self.row)?;
+        self.header = header;
+        Ok(life)
+    }
+}
+
+impl<S: Alter> Journal<S> {
+    /// Begins another epoch, and another life with it: no event is left, and these are the objects' states.
+    /// A crash before the next commit takes all of it away.
+    ///
+    /// # Errors
+    ///
+    /// As `begin_life`.
+    pub fn begin_epoch(&mut self, states: &[FirstState]) -> Result<u32, JournalError>
+        requires journal { IsJournal S.Store self.old }
+        requires as_many { Clean S.Store self.old → length states.now ≡ length (written S.Store self.old).states }
+        requires few { length states.now ≤ 65536 }
+        ensures kept { OnOk result (IsJournal S.Store self.new) }
+        ensures raised { IfOk result (λ life. life ≡ self.old.header.life + 1) }
+        ensures last { OnOk result (Clean S.Store self.new → (written S.Store self.old).headers ≡ self.old.header ∷ []) }
+        ensures written { IfOk result (λ life. Clean S.Store self.new → written S.Store self.new ≡ in_life (from_states (written S.Store self.old) states.now) life) }
+        ensures durable { OnOk result (Clean S.Store self.new → durable S.Store self.new ≡ durable S.Store self.old) }
+        ensures clean { Clean S.Store self.new → Clean S.Store self.old }
+        ensures crash { (db : Trees) → may_leave S.Store self.new db → may_leave S.Store self.old db }
+    {
+        self.reset(states)?;
+        self.begin_life()
+    }
+
+    /// Leaves no event, and these states.
+    ///
+    /// # Errors
+    ///
+    /// The file failed, or memory was refused.
+    fn reset(&mut self, states: &[FirstState]) -> Result<(), JournalError>
+        requires journal { IsJournal S.Store self.old }
+        requires as_many { Clean S.Store self.old → length states.now ≡ length (written S.Store self.old).states }
+        requires few { length states.now ≤ 65536 }
+        ensures kept { OnOk result (IsJournal S.Store self.new) }
+        ensures header { self.new.header ≡ self.old.header }
+        ensures written { OnOk result (Clean S.Store self.new → written S.Store self.new ≡ from_states (written S.Store self.old) states.now) }
+        ensures durable { OnOk result (Clean S.Store self.new → durable S.Store self.new ≡ durable S.Store self.old) }
+        ensures clean { Clean S.Store self.new → Clean S.Store self.old }
+        ensures crash { (db : Trees) → may_leave S.Store self.new db → may_leave S.Store self.old db }
+    {
+        empty_events(&mut self.store)?;
+        rewrite_states(&mut self.store, states, &mut self.row)?;
+        self.count = 0;
+        Ok(())
+    }
+}
+
+/// Writes the states of objects in place of as many.
+///
+/// # Errors
+///
+/// The file failed, or memory was refused.
+fn rewrite_states<S: Store>(
+    store: &mut S,
+    states: &[FirstState],
+    row: &mut Row,
+) -> Result<(), JournalError>
+    requires shape { IsClean (S.Store.view store.old) → (S.Store.view store.old).shape 4 ≡ Table }
+    requires as_many { IsClean (S.Store.view store.old) → (was : List First) × ((S.Store.view store.old).trees 4 ≡ value_rows state_row 0 was) × (length was ≡ length states.now) }
+    requires few { length states.now ≤ 65536 }
+    ensures ok { OnOk result (IsClean (S.Store.view store.new) → Rewrites (S.Store.view store.old) (S.Store.view store.new) 4 (value_rows state_row 0 states.now)) }
+    ensures clean { IsClean (S.Store.view store.new) → IsClean (S.Store.view store.old) }
+    ensures crash { (db : Trees) → S.Store.recovers store.new db → S.Store.recovers store.old db }
+{
+    for (x, state) in states.iter().enumerate() {
+        append(store, STATES, x as u64, state, row)?;
+    }
+    Ok(())
 }

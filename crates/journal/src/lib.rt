@@ -1,20 +1,18 @@
 //! What a store keeps in a SQLite file: tables of values, whose rows are read back as they were written.
 #![tactic(auto)]
 
-mod asking;
 mod cells;
 mod contents;
-mod creating;
-mod emptying;
 mod entry;
 mod event_row;
+mod event_table;
 mod event_word;
+mod found_file;
 mod header;
 mod journal;
 mod journal_error;
-mod lives;
+mod new_file;
 mod object_row;
-mod opening;
 mod outage;
 mod schema;
 mod state_row;

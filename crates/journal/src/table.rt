@@ -4,7 +4,7 @@ ghost use Rattle.std.specs.Prelude.{◌≡◌, ◌+◌, ◌<◌, ◌^◌, List, 
 ghost use Rattle.sqlite_value.specs.Order.{Row as Columns};
 ghost use Rattle.sqlite_trees.specs.Tree.{Trees, put_row};
 ghost use Rattle.sqlite_trees.specs.View.{IsClean, KeepsSchema, SetsTree};
-ghost use Rattle.journal.specs.Rows.{rows};
+ghost use Rattle.journal.specs.Rows.{value_rows};
 ghost use Rattle.journal.specs.Tables.{IsUnused, OnlyReads};
 
 use crate::cells::begin_key;
@@ -54,7 +54,7 @@ pub fn read_all<S: Store, E: Entry + Drop>(
 ) -> Result<Vec<E>, JournalError>
     requires unused { IsClean (S.Store.view store.old) → IsUnused (S.Store.view store.old) }
     requires shape { IsClean (S.Store.view store.old) → (S.Store.view store.old).shape table ≡ Shape.Table }
-    ensures told { IfOk result (λ entries. IsClean (S.Store.view store.new) → (S.Store.view store.old).trees table ≡ rows E.row_at 0 entries.items) }
+    ensures told { IfOk result (λ entries. IsClean (S.Store.view store.new) → (S.Store.view store.old).trees table ≡ value_rows E.row_at 0 entries.items) }
     ensures same { OnOk result (IsClean (S.Store.view store.new) → OnlyReads (S.Store.view store.old) (S.Store.view store.new)) }
     ensures few { IfOk result (λ entries. length entries.items < 2 ^ 62) }
     ensures clean { IsClean (S.Store.view store.new) → IsClean (S.Store.view store.old) }
@@ -79,7 +79,7 @@ pub fn read_from<S: Store, E: Entry + Drop>(
     row: &mut Row,
 ) -> Result<Vec<E>, JournalError>
     requires shape { IsClean (S.Store.view store.old) → (S.Store.view store.old).shape table ≡ Shape.Table }
-    requires told { IsClean (S.Store.view store.old) → (S.Store.view store.old).trees table ≡ rows E.row_at 0 (map E.told_by ((S.Store.view store.old).trees table)) }
+    requires told { IsClean (S.Store.view store.old) → (S.Store.view store.old).trees table ≡ value_rows E.row_at 0 (map E.told_by ((S.Store.view store.old).trees table)) }
     ensures told { IfOk result (λ entries. IsClean (S.Store.view store.new) → entries.items ≡ take count (drop from (map E.told_by ((S.Store.view store.old).trees table)))) }
     ensures same { OnOk result (IsClean (S.Store.view store.new) → OnlyReads (S.Store.view store.old) (S.Store.view store.new)) }
     ensures clean { IsClean (S.Store.view store.new) → IsClean (S.Store.view store.old) }
@@ -107,7 +107,7 @@ fn read_on<S: Store, E: Entry + Drop>(
 ) -> Result<Vec<E>, JournalError>
     requires { IsSome ((S.Store.view store.old).cursors 0) }
     ensures told { IfOk result (λ entries. IsClean (S.Store.view store.new)
-        → (all : List Columns) × ((S.Store.view store.old).cursors 0 ≡ Some all) × (rows E.row_at from entries.items ≡ take count all)) }
+        → (all : List Columns) × ((S.Store.view store.old).cursors 0 ≡ Some all) × (value_rows E.row_at from entries.items ≡ take count all)) }
     ensures few { IfOk result (λ entries. from + length entries.items < 2 ^ 62) }
     ensures same { OnOk result (IsClean (S.Store.view store.new) → OnlyReads (S.Store.view store.old) (S.Store.view store.new)) }
     ensures clean { IsClean (S.Store.view store.new) → IsClean (S.Store.view store.old) }

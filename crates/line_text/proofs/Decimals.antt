@@ -6,46 +6,10 @@ use Rattle.std.proofs.lemmas.Bool.{and_from, and_parts, le-leb, leb-true, eq-eqb
 use Rattle.std.proofs.lemmas.Bool.Decides.{nat_tests}
 use Rattle.std.proofs.lemmas.Fmt.{digits_decimal, digits_value-decimal, length-decimal-le, decimal_nonempty, first_decimal, decimal_digit}
 use Rattle.std.proofs.lemmas.Str.Parse.{IsNumeralModel, IsDigitsTest, FoldsDigits, numerals_by_fold}
-use Rattle.line_text.specs.Text.{is_digit, is_number, number_value}
-use Rattle.line_text.specs.Spelling.{NumberIsReadAgain, NameIsWord}
+use Rattle.decimals.specs.Decimals.{is_digit}
+use Rattle.decimals.proofs.Decimals.{read_short, read_long}
+use Rattle.line_text.specs.Spelling.{IsWord, NumberIsReadAgain, NameIsWord}
 use Rattle.type_table.specs.Name.{is_name, is_name_byte}
-
--- std's words for texts of digits, at this test of a digit
-digits_tested : IsDigitsTest (λ ds. list_all is_digit ds ≡ true)
-digits_tested = record {
-  empty = refl;
-  parts = λ c cs e. let p = and_parts (is_digit c) (list_all is_digit cs) e in let q = and_parts (leb 48 c) (leb c 57) p.0 in (search (rules, leb-true), p.1);
-  more = λ c cs r e. and_from (is_digit c) (list_all is_digit cs) (and_from (leb 48 c) (leb c 57) (le-leb 48 c (search rules)) (le-leb c 57 (search rules))) e;
-}
-
--- the value of digits after a number
-abbrev value_after : ℕ → List ℕ → ℕ
-value_after n w = fold (λ m b. 10 * m + (b - 48)) n w
-
--- it reads digits from the left
-folds : FoldsDigits value_after
-folds = record { empty = λ n. refl; more = λ n c cs r. ap (λ m. value_after m cs) (omega arith) }
-
--- a word of digits has the value that std says
-digits : IsNumeralModel (λ ds. list_all is_digit ds ≡ true) number_value
-digits = numerals_by_fold (λ ds. list_all is_digit ds ≡ true) digits_tested value_after folds
-
--- no leading zero
-first_digit : (n : ℕ) → n < 2 ^ 64 → (eqb (length (decimal n)) 1 || not (eqb (get_or (decimal n) 0 0) 48)) ≡ true
-first_digit n fits =
-    elim (cases_eq n 0) [
-      | inl e ↦ or_left (eqb (length (decimal n)) 1) (not (eqb (get_or (decimal n) 0 0) 48)) (eq-eqb (length (decimal n)) 1 (ap length (decimal_digit n (omega arith))))
-      | inr e ↦ or_right (eqb (length (decimal n)) 1) (not (eqb (get_or (decimal n) 0 0) 48)) (not_from_false (eqb (get_or (decimal n) 0 0) 48) (ne_eqb (get_or (decimal n) 0 0) 48 (λ same. omega (arith, first_decimal n (omega arith) fits))))
-    ]
-
--- a decimal text of at most seven digits is a number
-decimal_is_number : (n : ℕ) → n < 2 ^ 64 → length (decimal n) ≤ 7 → is_number (decimal n) ≡ true
-decimal_is_number n fits short =
-    let some = le-leb 1 (length (decimal n)) (decimal_nonempty n fits) in
-    let few = le-leb (length (decimal n)) 7 short in
-    and_from (leb 1 (length (decimal n)) && leb (length (decimal n)) 7 && list_all is_digit (decimal n)) (eqb (length (decimal n)) 1 || not (eqb (get_or (decimal n) 0 0) 48))
-    (and_from (leb 1 (length (decimal n)) && leb (length (decimal n)) 7) (list_all is_digit (decimal n)) (and_from (leb 1 (length (decimal n))) (leb (length (decimal n)) 7) some few) (digits_decimal digits n fits))
-    (first_digit n fits)
 
 -- digits may be in a word
 digits_in_word : (w : List ℕ) → list_all is_digit w ≡ true → AllByRecursion (λ b. (33 ≤ b) × (b ≤ 126)) w
@@ -55,16 +19,21 @@ digits_in_word (b ∷ w) e =
     let q = and_parts (leb 48 b) (leb b 57) p.0 in
     ((omega (arith, leb-true 48 b q.0), omega (arith, leb-true b 57 q.1)), digits_in_word w p.1)
 
+-- digits are a word
+digits_are_word : (w : List ℕ) → 0 < length w → list_all is_digit w ≡ true → IsWord w
+digits_are_word w some digits = (some, digits_in_word w digits)
+
 -- a number below 10,000,000 is read again
 pub NumberIsReadAgain-always : (n : ℕ) → n < 10 ^ 7 → NumberIsReadAgain n
 NumberIsReadAgain-always n below =
-    let fits : n < 2 ^ 64 = omega arith in
-    let short = length-decimal-le 7 n (omega arith) below fits in
-    record {
-      read = cond-true (is_number (decimal n)) (Some (number_value (decimal n))) None (decimal_is_number n fits short) ∙ ap Some (digits_value-decimal digits n fits);
-      is_word = (decimal_nonempty n fits, digits_in_word (decimal n) (digits_decimal digits n fits));
-      short = short;
-    }
+    let number = read_short n below in
+    record { read = number.read; is_word = digits_are_word (decimal n) number.some number.digits; short = number.short }
+
+-- the digits of a number of 32 bits are a word
+pub long_is_word : (n : ℕ) → n ≤ 4294967295 → IsWord (decimal n)
+long_is_word n below =
+    let number = read_long n below in
+    digits_are_word (decimal n) number.some number.digits
 
 -- a name's bytes may be in a word
 names_in_word : (w : List ℕ) → list_all is_name_byte w ≡ true → AllByRecursion (λ b. (33 ≤ b) × (b ≤ 126)) w

@@ -1,5 +1,4 @@
 pub mod Lines
-pub mod Numbers
 pub mod Words
 pub mod Cutting
 pub mod Counts
@@ -15,5 +14,3 @@ pub mod Decimals
 pub mod WorkedTexts
 pub mod PlainLines
 pub mod Items
-pub mod LongDigits
-pub mod LongDecimals

@@ -6,7 +6,7 @@ use Rattle.std.proofs.lemmas.Option.{same_Some}
 use Rattle.std.proofs.lemmas.Bool.{and_from, and_parts, ne_eqb, le-leb, le-ltb}
 use Rattle.std.proofs.lemmas.List.{length-append, length-take-le, length-drop, take-append-drop}
 use Rattle.type_table.proofs.Elements.{each-weaker}
-use Rattle.line_text.specs.Text.{is_digit, number_value}
+use Rattle.decimals.specs.Decimals.{is_digit, number_value}
 use Rattle.line_text.specs.LineTests.{is_text_byte, words_fault, line_fault}
 use Rattle.line_text.specs.Plain.{IsPlainLine, IsNumberBefore, KeepsPlainly}
 use Rattle.line_text.specs.Rules.{Rules, count_at, was_read, end_rank, last_item, item_in}
@@ -15,7 +15,7 @@ use Rattle.line_text.specs.Steps.{ended, place_of, place_in, IsCut, Reads}
 use Rattle.line_text.specs.Accepted.{HasPassed}
 use Rattle.line_text.specs.declared.read_so_far.Place.{Place}
 use Rattle.line_text.proofs.Order.{count_from_at}
-use Rattle.line_text.proofs.Numbers.{digit_range, number_of-digits}
+use Rattle.decimals.proofs.Digits.{digit_range, number_of-digits}
 use Rattle.line_text.proofs.Spelled.{InWord, all_pass, InLine, content_again, spaced_bytes, first_line}
 use Rattle.line_text.proofs.Items.{no_fault}
 

@@ -1,6 +1,5 @@
 -- A small grammar, which the tests read, and texts of it whose outcome was worked out by hand.
-use Rattle.std.specs.Prelude.{◌≡◌, ℕ, min, Bool, true, false, ◌&&◌, nat_lt, nat_le, List, [], ◌∷◌, ◌++◌, replicate, Option, Some, None, Result, Ok, Err}
-use Rattle.std.specs.Prelude.{◌==◌, if◌then◌else◌, count_by, codes}
+use Rattle.std.specs.Prelude.{◌≡◌, ℕ, min, Bool, true, false, ◌&&◌, nat_lt, nat_le, List, [], ◌∷◌, ◌++◌, replicate, Option, Some, None, Result, Ok, Err, ◌==◌, if◌then◌else◌, count_by, codes}
 use Rattle.std.specs.List.{flat_map}
 use Rattle.line_text.specs.Shapes.{◌>>=◌, is_key, exactly, number_at}
 use Rattle.line_text.specs.Rules.{Rules}

@@ -1,6 +1,6 @@
 -- Lines as they are usually written: one space between two words, and none elsewhere.
 use Rattle.std.specs.Prelude.{◌≡◌, ◌≢◌, ℕ, ◌+◌, ◌<◌, ◌≤◌, true, false, List, [], ◌∷◌, ◌++◌, length, slice_index, slice_get, Some, None, Result, Ok}
-use Rattle.line_text.specs.Text.{number_of}
+use Rattle.decimals.specs.Decimals.{number_of}
 use Rattle.line_text.specs.Spelling.{IsWord}
 use Rattle.line_text.specs.Rules.{Rules, count_at, was_read, end_rank, last_item}
 use Rattle.line_text.specs.LineTests.{is_late, lacks, is_full, ascends}

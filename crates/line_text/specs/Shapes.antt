@@ -1,7 +1,7 @@
 -- What the words of a line are to be: the pieces of which a grammar makes its items.
 use Rattle.std.specs.Prelude.{ℕ, Bool, List, [], length, ◌==◌, if◌then◌else◌, slice_index_or, Option, Some, None, Result, Ok, Err}
 use Rattle.std.specs.Str.{bytes_eq}
-use Rattle.line_text.specs.Text.{number_of}
+use Rattle.decimals.specs.Decimals.{number_of}
 use Rattle.line_text.specs.declared.fault.FaultKind.{FaultKind}
 use Rattle.line_text.specs.declared.fault.FaultKind.TheVariants.{UnknownWord, BadNumber}
 use Rattle.type_table.specs.Name.{is_name}

@@ -4,7 +4,7 @@ use Rattle.std.specs.Fmt.{decimal}
 use Rattle.std.specs.List.{join_with_byte, flat_map, AllByRecursion}
 use Rattle.type_table.specs.Limits.{longest_line}
 use Rattle.type_table.specs.Name.{is_name}
-use Rattle.line_text.specs.Text.{number_of}
+use Rattle.decimals.specs.Decimals.{number_of}
 use Rattle.line_text.specs.Rules.{Rules}
 use Rattle.line_text.specs.Outcome.{outcome_of}
 use Rattle.line_text.specs.Accepted.{IsAccepted}

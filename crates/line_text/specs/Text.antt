@@ -1,4 +1,4 @@
--- Bytes to lines, lines to words, words to numbers.
+-- Bytes to lines, lines to words.
 use Rattle.std.specs.Prelude.{ℕ, ◌+◌, ◌-◌, ◌*◌, Bool, true, false, not, ◌&&◌, ◌||◌, List, [], ◌∷◌, length, nat_le, ◌==◌, if◌then◌else◌, slice_index, Option, Some, None, filter, fold}
 use Rattle.std.specs.List.{slice_split, list_all}
 use Rattle.line_text.specs.declared.line.Line.{Line}
@@ -39,19 +39,3 @@ is_comment (b ∷ bs) = b == 35
 -- the words of a line, of which a comment has none
 abbrev pub content_of : List ℕ → List (List ℕ)
 content_of bytes = if is_comment bytes then [] else words_of bytes
-
--- `0` to `9`
-abbrev pub is_digit : ℕ → Bool
-is_digit b = nat_le 48 b && nat_le b 57
-
--- `0`, or one to seven decimal digits without a leading zero
-abbrev pub is_number : List ℕ → Bool
-is_number w = nat_le 1 (length w) && nat_le (length w) 7 && list_all is_digit w && (length w == 1 || not (slice_index w 0 == 48))
-
--- what decimal digits say
-abbrev pub number_value : List ℕ → ℕ
-number_value w = fold (λ n b. 10 * n + (b - 48)) 0 w
-
--- the number that a word is
-abbrev pub number_of : List ℕ → Option ℕ
-number_of w = if is_number w then Some (number_value w) else None

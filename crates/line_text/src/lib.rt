@@ -10,7 +10,6 @@ mod laws;
 mod line;
 mod long_number;
 mod more;
-mod number;
 mod plain;
 mod read;
 mod read_so_far;
@@ -23,8 +22,7 @@ pub use laws::{
     accepted_in_order, canonical_reads_again, comments_are_skipped, names_are_words,
     numbers_read_again, outcome_by_lines,
 };
-pub use long_number::{long_number_at, long_number_of};
-pub use number::number_of;
+pub use long_number::long_number_at;
 pub use plain::{bytes_before, number_before};
 pub use read::read_items;
 pub use section::Section;

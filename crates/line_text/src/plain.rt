@@ -2,10 +2,10 @@
 
 ghost use Rattle.std.specs.Prelude.{◌≡◌, ◌==◌, ◌<◌, ◌≤◌, ◌∷◌, ◌++◌, length, take, position, true, IfSome};
 ghost use Rattle.std.specs.List.{list_all};
-ghost use Rattle.line_text.specs.Text.{is_digit, number_value};
+ghost use Rattle.decimals.specs.Decimals.{is_digit, number_value};
 ghost use Rattle.line_text.specs.Plain.{IsNumberBefore};
 
-use crate::number::{MOST_DIGITS, has_leading_zero, is_digit};
+use decimals::{MOST_DIGITS, has_leading_zero, is_digit};
 
 /// The number at the front of a text that this byte ends, and what comes after that byte. A text that has no
 /// byte after the most digits isn't looked at.

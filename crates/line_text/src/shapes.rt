@@ -2,7 +2,7 @@ ghost use Rattle.std.specs.Prelude.{◌≡◌, map};
 ghost use Rattle.line_text.specs.Shapes.{word, exactly, number_at, name_at, kind_at, table_kind_at, is_key};
 
 use crate::fault::FaultKind;
-use crate::number::number_of;
+use decimals::number_of;
 use type_table::{Kind, Name, TableKind};
 
 /// Whether the first word of a line is this keyword.

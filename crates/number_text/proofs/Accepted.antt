@@ -6,12 +6,13 @@ use Rattle.std.proofs.lemmas.List.{take_more}
 use Rattle.std.proofs.lemmas.List.Elements.{filter_map-append}
 use Rattle.line_text.specs.LineTests.{pair_below, is_single, is_needed}
 use Rattle.line_text.specs.Accepted.{AreInOrder}
-use Rattle.number_text.specs.declared.number_call.NumberCall.{NumberCall}
-use Rattle.number_text.specs.declared.number_call.NumberCall.TheVariants.{Take, TakeAny, Give, GiveAny, AtLeast, Value}
+use Rattle.number_types.specs.declared.number_call.NumberCall.{NumberCall}
+use Rattle.number_types.specs.declared.number_call.NumberCall.TheVariants.{Take, TakeAny, Give, GiveAny, AtLeast, Value}
 use Rattle.number_text.specs.declared.number_line.Counted.TheVariants as of
 use Rattle.number_text.specs.declared.number_line.NumberLine.{NumberLine}
 use Rattle.number_text.specs.declared.number_line.NumberLine.TheVariants.{Called, Max, Initial, Call, TooLarge, End}
-use Rattle.number_text.specs.NumberLines.{call_rank, rank_of, sections, max_of, call_in, calls_of, amount_of, is_amount, is_within, is_below, are_ascending, is_in_range, number_rules, AreNumberLines}
+use Rattle.number_text.specs.NumberLines.{rank_of, sections, max_of, call_in, calls_of, is_in_range, number_rules, AreNumberLines}
+use Rattle.number_types.specs.Calls.{call_rank, amount_of, is_amount, is_within, is_below, are_ascending}
 
 -- ---- lines by their ranks
 

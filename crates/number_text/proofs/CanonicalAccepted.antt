@@ -1,19 +1,19 @@
 -- The lines of a canonical text are accepted.
 use Rattle.std.proofs.Common.{◌≡◌, ◌+◌, ◌<◌, ◌≤◌, Bool, true, false, ◌&&◌, eqb, leb, ltb, List, [], ◌∷◌, ◌++◌, length, map, Some, refl, sym, ap, subst, ◌∙◌, inl, inr, arith, append_assoc, append-nil}
-use Rattle.std.specs.List.{AllByRecursion, list_all}
+use Rattle.std.specs.List.{AllByRecursion, list_all, slice_get}
 use Rattle.std.proofs.lemmas.Bool.{lt-ltb, le-ltb, ltb-true, eqb-true, eq-eqb, ne_eqb, le-leb, and_parts, and_from, or_left, or_cases}
 use Rattle.std.proofs.lemmas.List.{length-append, map-append}
 use Rattle.line_text.specs.Rules.{was_read, last_item}
 use Rattle.line_text.specs.LineTests.{is_late, ascends, pair_below, is_single, is_full, lacks}
-use Rattle.std.specs.List.{slice_get}
 use Rattle.line_text.specs.Accepted.{HasPassed, IsAccepted}
 use Rattle.line_text.proofs.Items.{last_item_push}
-use Rattle.number_text.specs.declared.number_call.NumberCall.{NumberCall}
-use Rattle.number_text.specs.declared.number_call.NumberCall.TheVariants.{Take, TakeAny, Give, GiveAny, AtLeast, Value}
+use Rattle.number_types.specs.declared.number_call.NumberCall.{NumberCall}
+use Rattle.number_types.specs.declared.number_call.NumberCall.TheVariants.{Take, TakeAny, Give, GiveAny, AtLeast, Value}
 use Rattle.number_text.specs.declared.number_line.NumberLine.{NumberLine}
 use Rattle.number_text.specs.declared.number_line.NumberLine.TheVariants.{Called, Max, Initial, Call, TooLarge, End}
-use Rattle.number_text.specs.NumberLines.{call_rank, rank_of, sections, amount_in, calls_of, is_within, is_below, are_ascending, number_rules}
-use Rattle.number_text.specs.NumberFile.{Number, IsNumber}
+use Rattle.number_text.specs.NumberLines.{rank_of, sections, amount_in, calls_of, number_rules}
+use Rattle.number_types.specs.Calls.{call_rank, is_within, is_below, are_ascending}
+use Rattle.number_types.specs.Number.{Number, IsNumber}
 use Rattle.number_text.specs.Canonical.{canonical_lines}
 use Rattle.number_text.proofs.Accepted.{call_rank_low}
 use Rattle.number_text.proofs.Follows.{Follow, follow_append, no_twins, count, count-cons, accepted_with_end}

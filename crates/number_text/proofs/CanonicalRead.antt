@@ -10,11 +10,13 @@ use Rattle.type_table.proofs.Elements.{each-append}
 use Rattle.line_text.specs.Rules.{Rules}
 use Rattle.line_text.specs.Outcome.{outcome_of}
 use Rattle.line_text.specs.Spelling.{Spells, IsReadAgain, NameIsWord}
-use Rattle.number_text.specs.declared.number_call.NumberCall.{NumberCall}
+use Rattle.number_types.specs.declared.number_call.NumberCall.{NumberCall}
 use Rattle.number_text.specs.declared.number_line.NumberLine.{NumberLine}
 use Rattle.number_text.specs.declared.number_line.NumberLine.TheVariants.{Called, Max, Initial, Call, End}
-use Rattle.number_text.specs.NumberLines.{call_in, calls_of, is_within, number_rules}
-use Rattle.number_text.specs.NumberFile.{Number, IsNumber, IsNumberOf}
+use Rattle.number_text.specs.NumberLines.{call_in, calls_of, number_rules}
+use Rattle.number_types.specs.Calls.{is_within}
+use Rattle.number_text.specs.NumberFile.{IsNumberOf}
+use Rattle.number_types.specs.Number.{Number, IsNumber}
 use Rattle.number_text.specs.Canonical.{words_of, canonical_lines, canonical_text, CanonicalIsRead, WrittenIsRead}
 use Rattle.number_text.proofs.CanonicalAccepted.{calls_back, canonical_accepted}
 use Rattle.number_text.proofs.Spelled.{name_spells, max_spells, initial_spells, end_spells, call_spells}

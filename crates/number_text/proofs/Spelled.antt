@@ -6,18 +6,20 @@ use Rattle.std.specs.List.{list_all}
 use Rattle.std.specs.Str.{bytes_eq}
 use Rattle.std.proofs.lemmas.Bool.{le-leb, leb-true, ne_eqb, and_parts}
 use Rattle.type_table.specs.Name.{is_name}
-use Rattle.line_text.specs.Text.{is_digit}
+use Rattle.decimals.specs.Decimals.{is_digit}
 use Rattle.line_text.specs.Shapes.{exactly, name_at, is_key}
 use Rattle.line_text.specs.Spelling.{Spells, NameIsWord}
 use Rattle.line_text.proofs.Items.{keyword, length-spaced}
-use Rattle.number_text.specs.declared.number_call.NumberCall.{NumberCall}
-use Rattle.number_text.specs.declared.number_call.NumberCall.TheVariants.{Take, TakeAny, Give, GiveAny, AtLeast, Value}
+use Rattle.number_types.specs.declared.number_call.NumberCall.{NumberCall}
+use Rattle.number_types.specs.declared.number_call.NumberCall.TheVariants.{Take, TakeAny, Give, GiveAny, AtLeast, Value}
 use Rattle.number_text.specs.declared.number_line.NumberLine.TheVariants.{Called, Max, Initial, Call, End}
 use Rattle.line_text.specs.LongNumbers.{long_number_at}
-use Rattle.number_text.specs.NumberLines.{line_of, called_of, numbered_of, says_any, any_or_numbered, bare_of, is_amount, is_within, number_rules}
+use Rattle.number_text.specs.NumberLines.{line_of, called_of, numbered_of, says_any, any_or_numbered, bare_of, number_rules}
+use Rattle.number_types.specs.Calls.{is_amount, is_within}
 use Rattle.number_text.specs.Canonical.{words_of, call_words}
-use Rattle.line_text.proofs.LongDigits.{digit_range}
-use Rattle.line_text.proofs.LongDecimals.{read_long}
+use Rattle.decimals.proofs.Digits.{digit_range}
+use Rattle.decimals.proofs.Decimals.{read_long}
+use Rattle.line_text.proofs.Decimals.{long_is_word}
 
 -- digits aren't `any`
 not_any : (w : List ℕ) → list_all is_digit w ≡ true → bytes_eq w (codes "any") ≡ false
@@ -50,7 +52,7 @@ max_spells n small =
     let number = read_long n small in
     record {
       some = omega arith;
-      each = (keyword (codes "max") refl refl, (number.is_word, tt));
+      each = (keyword (codes "max") refl refl, (long_is_word n small, tt));
       no_comment = λ e. omega (arith, e);
       short = omega (arith, length-spaced (codes "max") (decimal n) [], number.short);
       said = rw (number.read, le-leb n 4294967295 small) refl;
@@ -63,7 +65,7 @@ initial_spells n small =
     let number = read_long n small in
     record {
       some = omega arith;
-      each = (keyword (codes "initial") refl refl, (number.is_word, tt));
+      each = (keyword (codes "initial") refl refl, (long_is_word n small, tt));
       no_comment = λ e. omega (arith, e);
       short = omega (arith, length-spaced (codes "initial") (decimal n) [], number.short);
       said = rw (number.read, le-leb n 4294967295 small) refl;
@@ -76,7 +78,7 @@ take_spells n small =
     let number = read_long n small in
     record {
       some = omega arith;
-      each = (keyword (codes "take") refl refl, (number.is_word, tt));
+      each = (keyword (codes "take") refl refl, (long_is_word n small, tt));
       no_comment = λ e. omega (arith, e);
       short = omega (arith, length-spaced (codes "take") (decimal n) [], number.short);
       said = rw (not_any (decimal n) number.digits, number.read, le-leb n 4294967295 small) refl;
@@ -88,7 +90,7 @@ give_spells n small =
     let number = read_long n small in
     record {
       some = omega arith;
-      each = (keyword (codes "give") refl refl, (number.is_word, tt));
+      each = (keyword (codes "give") refl refl, (long_is_word n small, tt));
       no_comment = λ e. omega (arith, e);
       short = omega (arith, length-spaced (codes "give") (decimal n) [], number.short);
       said = rw (not_any (decimal n) number.digits, number.read, le-leb n 4294967295 small) refl;
@@ -100,7 +102,7 @@ at_least_spells n small =
     let number = read_long n small in
     record {
       some = omega arith;
-      each = (keyword (codes "atleast") refl refl, (number.is_word, tt));
+      each = (keyword (codes "atleast") refl refl, (long_is_word n small, tt));
       no_comment = λ e. omega (arith, e);
       short = omega (arith, length-spaced (codes "atleast") (decimal n) [], number.short);
       said = rw (number.read, le-leb n 4294967295 small) refl;

@@ -4,10 +4,10 @@ use Rattle.std.proofs.lemmas.Grind.{flat_map-append}
 use Rattle.std.proofs.lemmas.List.Folds.{flat_map-map}
 use Rattle.std.specs.List.{flat_map}
 use Rattle.line_text.specs.Spelling.{spaced, text_of}
-use Rattle.number_text.specs.declared.number_call.NumberCall.{NumberCall}
+use Rattle.number_types.specs.declared.number_call.NumberCall.{NumberCall}
 use Rattle.number_text.specs.declared.number_line.NumberLine.{NumberLine}
 use Rattle.number_text.specs.declared.number_line.NumberLine.TheVariants.{Called, Max, Initial, Call, End}
-use Rattle.number_text.specs.NumberFile.{Number}
+use Rattle.number_types.specs.Number.{Number}
 use Rattle.number_text.specs.Canonical.{call_words, words_of, canonical_text}
 
 -- the text of two lists of lines

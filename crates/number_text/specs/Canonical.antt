@@ -4,12 +4,13 @@ use Rattle.std.specs.Fmt.{decimal}
 use Rattle.type_table.specs.Name.{is_name}
 use Rattle.line_text.specs.Spelling.{text_of}
 use Rattle.line_text.specs.Outcome.{outcome_of}
-use Rattle.number_text.specs.declared.number_call.NumberCall.{NumberCall}
-use Rattle.number_text.specs.declared.number_call.NumberCall.TheVariants.{Take, TakeAny, Give, GiveAny, AtLeast, Value}
+use Rattle.number_types.specs.declared.number_call.NumberCall.{NumberCall}
+use Rattle.number_types.specs.declared.number_call.NumberCall.TheVariants.{Take, TakeAny, Give, GiveAny, AtLeast, Value}
 use Rattle.number_text.specs.declared.number_line.NumberLine.{NumberLine}
 use Rattle.number_text.specs.declared.number_line.NumberLine.TheVariants.{Called, Max, Initial, Call, TooLarge, End}
 use Rattle.number_text.specs.NumberLines.{number_rules}
-use Rattle.number_text.specs.NumberFile.{Number, IsNumber, IsNumberOf, Reads}
+use Rattle.number_text.specs.NumberFile.{IsNumberOf, Reads}
+use Rattle.number_types.specs.Number.{Number, IsNumber}
 
 -- the words of a call's line
 abbrev pub call_words : NumberCall → List (List ℕ)

@@ -3,11 +3,10 @@ use Rattle.std.specs.Prelude.{◌≡◌, ℕ, List, [], ◌∷◌, ◌++◌, sli
 use Rattle.std.specs.List.{flat_map}
 use Rattle.line_text.specs.Outcome.{fault_on, outcome_of}
 use Rattle.line_text.specs.declared.fault.FaultKind.{FaultKind}
-use Rattle.number_text.specs.declared.number_call.NumberCall.TheVariants.{Take, TakeAny, Give, GiveAny, AtLeast, Value}
+use Rattle.number_types.specs.declared.number_call.NumberCall.TheVariants.{Take, Give, AtLeast}
 use Rattle.number_text.specs.declared.number_line.NumberLine.{NumberLine}
 use Rattle.number_text.specs.declared.number_line.NumberLine.TheVariants.{Called, Max, Initial, Call, End}
 use Rattle.number_text.specs.NumberLines.{number_rules}
-use Rattle.number_text.specs.NumberFile.{Number}
 
 -- the lines of a credit in cents, which has each kind of line
 abbrev pub credit_text : List (List ℕ)
@@ -34,33 +33,6 @@ credit_lines =
     ∷ Call (AtLeast 1000000000)
     ∷ End
     ∷ []
-
--- the number that they describe
-abbrev pub credit : Number
-credit = record {
-  name = codes "credit";
-  max = 4294967295;
-  initial = 0;
-  calls = Take 5 ∷ Take 4294967295 ∷ Give 5 ∷ AtLeast 1000000000 ∷ [];
-}
-
--- a stock of 0 to 5, all of whose amounts are listed
-abbrev pub five : Number
-five = record {
-  name = codes "five";
-  max = 5;
-  initial = 3;
-  calls = Take 2 ∷ Give 1 ∷ AtLeast 5 ∷ [];
-}
-
--- a purse of 0 to 9, of which any amount may be taken and given, 3 by a line of its own
-abbrev pub purse : Number
-purse = record {
-  name = codes "purse";
-  max = 9;
-  initial = 0;
-  calls = Take 3 ∷ TakeAny ∷ GiveAny ∷ Value ∷ [];
-}
 
 -- the bytes of lines, each ended by a LF
 abbrev pub ended : List (List ℕ) → List ℕ

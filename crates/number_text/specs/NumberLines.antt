@@ -3,26 +3,18 @@ use Rattle.std.specs.Prelude.{◌≡◌, ℕ, ◌<◌, ◌≤◌, Bool, true, fa
 use Rattle.std.specs.List.{filter_map, list_all}
 use Rattle.std.specs.Str.{bytes_eq}
 use Rattle.line_text.specs.Rules.{Rules}
-use Rattle.line_text.specs.LineTests.{pair_below}
 use Rattle.line_text.specs.Shapes.{◌>>=◌, word, exactly, name_at, is_key}
 use Rattle.line_text.specs.declared.fault.FaultKind.{FaultKind}
 use Rattle.line_text.specs.declared.fault.FaultKind.TheVariants.{UnknownWord}
 use Rattle.line_text.specs.declared.section.Section.{Section}
 use Rattle.line_text.specs.LongNumbers.{long_number_at}
-use Rattle.number_text.specs.declared.number_call.NumberCall.{NumberCall}
-use Rattle.number_text.specs.declared.number_call.NumberCall.TheVariants.{Take, TakeAny, Give, GiveAny, AtLeast, Value}
+use Rattle.number_types.specs.Calls.{most_number, most_calls, call_rank, amount_of, is_within, are_ascending}
+use Rattle.number_types.specs.declared.number_call.NumberCall.{NumberCall}
+use Rattle.number_types.specs.declared.number_call.NumberCall.TheVariants.{Take, TakeAny, Give, GiveAny, AtLeast, Value}
 use Rattle.number_text.specs.declared.number_line.Counted.{Counted}
 use Rattle.number_text.specs.declared.number_line.Counted.TheVariants as of
 use Rattle.number_text.specs.declared.number_line.NumberLine.{NumberLine}
 use Rattle.number_text.specs.declared.number_line.NumberLine.TheVariants.{Called, Max, Initial, Call, TooLarge, End}
-
--- the greatest number that there is
-abbrev pub most_number : ℕ
-most_number = 4294967295
-
--- the most lines of calls
-abbrev pub most_calls : ℕ
-most_calls = 32
 
 -- ---- what a line says
 
@@ -81,15 +73,7 @@ line_of words =
 
 -- ---- the sections
 
--- the rank of the section of a call
-abbrev pub call_rank : NumberCall → ℕ
-call_rank (Take k) = 3
-call_rank TakeAny = 4
-call_rank (Give k) = 5
-call_rank GiveAny = 6
-call_rank (AtLeast k) = 7
-call_rank Value = 8
-
+-- the rank of the section of a counted line
 abbrev pub counted_rank : Counted → ℕ
 counted_rank of.Max = 1
 counted_rank of.Initial = 2
@@ -138,34 +122,6 @@ call_in _ = None
 -- the calls in the order of their lines
 abbrev pub calls_of : List NumberLine → List NumberCall
 calls_of lines = filter_map call_in lines
-
--- ---- calls
-
--- the amount that a call lists, and 0 of one that lists none
-abbrev pub amount_of : NumberCall → ℕ
-amount_of (Take k) = k
-amount_of (Give k) = k
-amount_of (AtLeast k) = k
-amount_of _ = 0
-
--- an amount is 1 to the greatest value
-abbrev pub is_amount : ℕ → ℕ → Bool
-is_amount max k = nat_le 1 k && nat_le k max
-
-abbrev pub is_within : ℕ → NumberCall → Bool
-is_within max (Take k) = is_amount max k
-is_within max (Give k) = is_amount max k
-is_within max (AtLeast k) = is_amount max k
-is_within max _ = true
-
--- the order of calls: by section, then by amount
-abbrev pub is_below : NumberCall → NumberCall → Bool
-is_below c d = pair_below (call_rank c, amount_of c) (call_rank d, amount_of d)
-
--- each call is below all those after it
-abbrev pub are_ascending : List NumberCall → Bool
-are_ascending [] = true
-are_ascending (c ∷ cs) = list_all (is_below c) cs && are_ascending cs
 
 -- ---- the tests of a line after others
 

@@ -2,12 +2,10 @@
 
 ghost use Rattle.std.specs.Prelude.{◌≡◌, ◌++◌, Some, slice_get, IfOk, OnOk, ◌∷◌, []};
 ghost use Rattle.number_text.specs.NumberLines.{AreNumberLines, calls_of};
-ghost use Rattle.number_text.specs.NumberFile.{Number, IsNumber, IsNumberOf};
+ghost use Rattle.number_text.specs.NumberFile.{IsNumberOf};
 
-use crate::number_call::NumberCall;
-use crate::number_file::NumberFile;
 use crate::number_line::NumberLine;
-use crate::rows::rows_of;
+use number_types::{NumberCall, NumberFile, number_with};
 use std::alloc::{AllocError, Global};
 use type_table::Name;
 
@@ -21,21 +19,6 @@ pub fn number_of(alloc: Global, lines: &[NumberLine]) -> Result<NumberFile, Allo
     let max = max_of(lines);
     let initial = initial_of(lines);
     number_with(alloc, name, max, initial, calls)
-}
-
-/// The number of these parts.
-pub fn number_with(
-    alloc: Global,
-    name: Name,
-    max: u32,
-    initial: u32,
-    calls: Vec<NumberCall>,
-) -> Result<NumberFile, AllocError>
-    requires { let parts : Number = record { name = name; max = max; initial = initial; calls = calls.items } in IsNumber parts }
-    ensures { let parts : Number = record { name = name; max = max; initial = initial; calls = calls.items } in IfOk result (λ number. number ≡ parts) }
-{
-    let rows = rows_of(alloc, &calls)?;
-    Ok(NumberFile::new(name, max, initial, calls, rows))
 }
 
 fn name_of(lines: &[NumberLine]) -> Name

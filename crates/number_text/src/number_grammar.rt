@@ -1,11 +1,12 @@
 //! The grammar of number files: what a line says, and its tests after the lines before it.
 
 ghost use Rattle.std.specs.Prelude.{◌≡◌, ◌<◌, ◌≤◌, [], ◌∷◌, length, map};
-ghost use Rattle.number_text.specs.NumberLines.{number_rules, line_with, number_line, called_of, numbered_of, says_any, any_or_numbered, bare_of, call_rank, counted_rank, max_of, calls_of, amount_in, is_amount, is_within};
+ghost use Rattle.number_types.specs.Calls.{call_rank, is_within};
+ghost use Rattle.number_text.specs.NumberLines.{number_rules, line_with, number_line, called_of, numbered_of, says_any, any_or_numbered, bare_of, counted_rank, max_of, calls_of, amount_in};
 
-use crate::number_call::NumberCall;
 use crate::number_line::{Counted, NumberLine};
 use line_text::{FaultKind, Grammar, Section, exactly, is_key, long_number_at, name_at, word};
+use number_types::{NumberCall, is_amount};
 use std::alloc::{AllocError, Global};
 
 /// The most lines of calls.
@@ -190,13 +191,6 @@ fn is_within(max: u32, call: NumberCall) -> bool
         NumberCall::Take(k) | NumberCall::Give(k) | NumberCall::AtLeast(k) => is_amount(max, k),
         NumberCall::TakeAny | NumberCall::GiveAny | NumberCall::Value => true,
     }
-}
-
-/// Whether an amount is 1 to the greatest value.
-pub fn is_amount(max: u32, k: u32) -> bool
-    ensures { result ≡ is_amount max k }
-{
-    1 <= k && k <= max
 }
 
 /// The amount that a line lists.

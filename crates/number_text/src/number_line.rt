@@ -1,4 +1,4 @@
-use crate::number_call::NumberCall;
+use number_types::NumberCall;
 use type_table::Name;
 
 /// What a line of a number file says.

@@ -1,10 +1,10 @@
 ghost use Rattle.number_text.specs.NumberFile.{Reads};
 
 use crate::build::number_of;
-use crate::number_file::NumberFile;
 use crate::number_grammar::NumberGrammar;
 use crate::number_line::NumberLine;
 use line_text::{FaultKind, TextFault, accepted_in_order, read_items};
+use number_types::NumberFile;
 use std::alloc::Global;
 
 /// The number of a text, or the text's first fault.

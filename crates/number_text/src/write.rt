@@ -7,9 +7,8 @@ ghost use Rattle.outputs.specs.Out.{Puts};
 ghost use Rattle.number_text.specs.Canonical.{call_words, words_of, canonical_text, IsReadBack};
 
 use crate::laws::canonical_is_read;
-use crate::number_call::NumberCall;
-use crate::number_file::NumberFile;
 use crate::number_line::NumberLine;
+use number_types::{NumberCall, NumberFile};
 use outputs::{Out, OutFault, items_in_turn, put_line, texts_in_turn};
 
 /// Writes the canonical text of a number. What is read from the text is the same number. It takes no

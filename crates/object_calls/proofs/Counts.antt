@@ -6,13 +6,13 @@ use Rattle.std.proofs.lemmas.Bool.{cases_Bool, cases_eq, false≢true, eq-eqb, n
 use Rattle.std.proofs.lemmas.List.{take_all}
 use Rattle.std.proofs.lemmas.List.Filters.{length-filter_both, length-filter_more}
 use Rattle.std.proofs.lemmas.Option.{slice_get-get_or, get_or_from_slice_get}
-use Rattle.object_calls.specs.Ends.{is_at, count_at}
+use Rattle.object_calls.specs.Ends.{is_at, times_in}
 use Rattle.object_calls.proofs.Places.{next_is_at, visited_with, visited_now, visited_cases}
 
 -- ---- counting
 
 -- no more than there are places
-pub count_at-bound : (x : ℕ) (places : List ℕ) → count_at x places ≤ length places
+pub count_at-bound : (x : ℕ) (places : List ℕ) → times_in x places ≤ length places
 count_at-bound x places = omega (arith, length-filter_both (λ y. y == x) (λ y. not (y == x)) (λ y. refl) places)
 
 -- what is among them is counted
@@ -24,20 +24,20 @@ some_counted test (x ∷ xs) some =
       | inr fails ↦ rw fails (some_counted test xs (rw fails at some))
     ]
 
-module _ (places counts : List ℕ) (i : ℕ) (i_in : i < length places) (h : (x : ℕ) → x < 256 → get_or counts x 0 ≡ count_at x (take i places)) where
+module _ (places counts : List ℕ) (i : ℕ) (i_in : i < length places) (h : (x : ℕ) → x < 256 → get_or counts x 0 ≡ times_in x (take i places)) where
   -- one place more is counted
-  pub counts_more : get_or places i 0 < length counts → (x : ℕ) → x < 256 → get_or (set counts (get_or places i 0) (get_or counts (get_or places i 0) 0 + 1)) x 0 ≡ count_at x (take (i + 1) places)
+  pub counts_more : get_or places i 0 < length counts → (x : ℕ) → x < 256 → get_or (set counts (get_or places i 0) (get_or counts (get_or places i 0) 0 + 1)) x 0 ≡ times_in x (take (i + 1) places)
   counts_more y_in x low =
       let y : ℕ = get_or places i 0 in
-      let one : count_at x (take (i + 1) places) ≡ count_at x (take i places) + cond (y == x) 1 0 = length-filter_more (λ z. z == x) places i 0 i_in in
-      let was : get_or counts x 0 ≡ count_at x (take i places) = h x low in
+      let one : times_in x (take (i + 1) places) ≡ times_in x (take i places) + cond (y == x) 1 0 = length-filter_more (λ z. z == x) places i 0 i_in in
+      let was : get_or counts x 0 ≡ times_in x (take i places) = h x low in
       elim (cases_eq x y) [
         | inl same ↦
-            let here : count_at x (take (i + 1) places) ≡ count_at x (take i places) + 1 = one ∙ ap (λ b. count_at x (take i places) + cond b 1 0) (eq-eqb y x (sym same)) in
+            let here : times_in x (take (i + 1) places) ≡ times_in x (take i places) + 1 = one ∙ ap (λ b. times_in x (take i places) + cond b 1 0) (eq-eqb y x (sym same)) in
             let written : get_or (set counts y (get_or counts y 0 + 1)) y 0 ≡ get_or counts y 0 + 1 = get_or-set_same counts y (get_or counts y 0 + 1) 0 y_in in
             ap (λ z. get_or (set counts y (get_or counts y 0 + 1)) z 0) same ∙ written ∙ ap (λ z. get_or counts z 0 + 1) (sym same) ∙ ap (λ n. n + 1) was ∙ sym here
         | inr other ↦
-            let none : count_at x (take (i + 1) places) ≡ count_at x (take i places) + 0 = one ∙ ap (λ b. count_at x (take i places) + cond b 1 0) (ne_eqb y x (λ same. other (sym same))) in
+            let none : times_in x (take (i + 1) places) ≡ times_in x (take i places) + 0 = one ∙ ap (λ b. times_in x (take i places) + cond b 1 0) (ne_eqb y x (λ same. other (sym same))) in
             let left : get_or (set counts y (get_or counts y 0 + 1)) x 0 ≡ get_or counts x 0 = get_or-set_other counts y x (get_or counts y 0 + 1) 0 other in
             omega (arith, none, left, was)
       ]
@@ -47,19 +47,19 @@ module _ (places counts : List ℕ) (i : ℕ) (i_in : i < length places) (h : (x
   counts_fit x low = omega (arith, h x low, count_at-bound x (take i places), length-take i places)
 
 -- all are counted
-pub counts_all : (places counts : List ℕ) → 256 ≤ length counts → ((x : ℕ) → x < 256 → get_or counts x 0 ≡ count_at x (take (length places) places)) → (x : ℕ) → x < 256 → slice_get counts x ≡ Some (count_at x places)
+pub counts_all : (places counts : List ℕ) → 256 ≤ length counts → ((x : ℕ) → x < 256 → get_or counts x 0 ≡ times_in x (take (length places) places)) → (x : ℕ) → x < 256 → slice_get counts x ≡ Some (times_in x places)
 counts_all places counts long h x low =
-    slice_get-get_or counts x 0 (omega (arith, long, low)) ∙ ap Some (h x low ∙ ap (count_at x) (take_all (length places) places (omega arith)))
+    slice_get-get_or counts x 0 (omega (arith, long, low)) ∙ ap Some (h x low ∙ ap (times_in x) (take_all (length places) places (omega arith)))
 
 -- ---- visits
 
 -- of a place that was visited nothing is left, of another its whole count
 pub record AreLeft (places : List ℕ) (i : ℕ) (counts : List ℕ) : Type 0 where
   pub visited : (x : ℕ) → x < 256 → is_at (take i places) x → get_or counts x 0 ≡ 0
-  pub others : (x : ℕ) → x < 256 → (is_at (take i places) x → ⊥) → get_or counts x 0 ≡ count_at x places
+  pub others : (x : ℕ) → x < 256 → (is_at (take i places) x → ⊥) → get_or counts x 0 ≡ times_in x places
 
-pub left_whole : (places counts : List ℕ) → ((x : ℕ) → x < 256 → slice_get counts x ≡ Some (count_at x places)) → AreLeft places 0 counts
-left_whole places counts whole = record { visited = λ x low at. absurd (false≢true at); others = λ x low isnt. get_or_from_slice_get counts x (count_at x places) 0 (whole x low) }
+pub left_whole : (places counts : List ℕ) → ((x : ℕ) → x < 256 → slice_get counts x ≡ Some (times_in x places)) → AreLeft places 0 counts
+left_whole places counts whole = record { visited = λ x low at. absurd (false≢true at); others = λ x low isnt. get_or_from_slice_get counts x (times_in x places) 0 (whole x low) }
 
 module _ (places : List ℕ) (i : ℕ) (i_in : i < length places) (counts : List ℕ) (h : AreLeft places i counts) (y_low : get_or places i 0 < 256) where
   -- where something is left it is the first visit
@@ -73,8 +73,8 @@ module _ (places : List ℕ) (i : ℕ) (i_in : i < length places) (counts : List
       elim (cases_Bool (list_any (λ z. z == y) (take i places))) [
         | inl at ↦ at
         | inr isnt ↦
-            let whole : get_or counts y 0 ≡ count_at y places = h.others y y_low (λ at. false≢true (sym isnt ∙ at)) in
-            let some : 0 < count_at y places = some_counted (λ z. z == y) places (next_is_at places i i_in) in
+            let whole : get_or counts y 0 ≡ times_in y places = h.others y y_low (λ at. false≢true (sym isnt ∙ at)) in
+            let some : 0 < times_in y places = some_counted (λ z. z == y) places (next_is_at places i i_in) in
             absurd (omega (arith, none, whole, some))
       ]
 

@@ -3,20 +3,20 @@ use Rattle.std.proofs.Common.{◌≡◌, ℕ, ◌≤◌, [], ◌∷◌, length, 
 use Rattle.std.proofs.lemmas.Bool.{false≢true}
 use Rattle.type_table.specs.Limits.{most_ops}
 use Rattle.type_table.specs.Table.{call_of, first_op}
-use Rattle.number_text.specs.declared.number_call.NumberCall.TheVariants as calls
+use Rattle.number_types.specs.declared.number_call.NumberCall.TheVariants as calls
 use Rattle.std.specs.List.{position}
 use Rattle.type_table.specs.Operation.{operation_at}
-use Rattle.number_text.specs.NumberLines.{most_number}
-use Rattle.number_text.specs.Named.{answers}
-use Rattle.number_text.specs.Examples.{purse}
-use Rattle.number_text.specs.Operations.{row_name, number_table}
-use Rattle.number_text.proofs.FirstNamed.{first_again}
-use Rattle.number_text.proofs.NamedCalls.{first_by_name}
-use Rattle.number_text.proofs.PurseExamples.{purse_is}
+use Rattle.number_types.specs.Calls.{most_number}
+use Rattle.number_types.specs.Named.{answers}
+use Rattle.number_types.specs.Examples.{purse}
+use Rattle.number_types.specs.Operations.{row_name, number_table}
+use Rattle.number_types.proofs.FirstNamed.{first_again}
+use Rattle.number_types.proofs.NamedCalls.{first_by_name}
+use Rattle.number_types.proofs.PurseExamples.{purse_is}
 use Rattle.object_calls.specs.Calls.{HasOperations, IsCall, IsCallTable}
 use Rattle.object_calls.specs.Collected.{AreCallsOf}
-use Rattle.object_calls.specs.Examples.{bit, read, flip, bit_calls, value}
-use Rattle.object_calls.proofs.Collecting.{known_is_added, first_is_added, begun}
+use Rattle.object_calls.specs.Examples.{bit, read, flip, bit_calls, purse_value_call}
+use Rattle.object_calls.proofs.CollectedCalls.{known_is_added, first_is_added, begun}
 use Rattle.object_calls.proofs.NumberCalls.{line_word, line_is_call, many_ops}
 use Rattle.object_calls.proofs.Tabled.{names_of, none_collected, is_call_table}
 
@@ -62,14 +62,14 @@ calls_missing h = false≢true (h.numbered (codes "flip") 1 refl)
 -- ---- a number
 
 -- `value` is first found with the amount 0
-value_first : first_op (number_table purse) (call_of (number_table purse) value.first) ≡ Some value.first
-value_first = first_again (number_table purse) (row_name calls.Value) value.first (first_by_name purse purse_is calls.Value tt 3 calls.Value refl refl)
+value_first : first_op (number_table purse) (call_of (number_table purse) purse_value_call.first) ≡ Some purse_value_call.first
+value_first = first_again (number_table purse) (row_name calls.Value) purse_value_call.first (first_by_name purse purse_is calls.Value tt 3 calls.Value refl refl)
 
-pub value_call : IsCall (number_table purse) value
-value_call = line_is_call purse value value.first refl value_first (line_word 6 (lit< tt))
+pub value_call : IsCall (number_table purse) purse_value_call
+value_call = line_is_call purse purse_value_call purse_value_call.first refl value_first (line_word 6 (lit< tt))
 
 -- its word has both places of its line
-pub value_half : IsCall (number_table purse) (record { first = value.first; operations = 64 }) → ⊥
+pub value_half : IsCall (number_table purse) (record { first = purse_value_call.first; operations = 64 }) → ⊥
 value_half h = false≢true (h.line (many_ops purse) 7 (lit< tt))
 
 -- each amount of `take any` that isn't listed has a call of its own

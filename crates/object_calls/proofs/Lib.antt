@@ -1,5 +1,5 @@
 pub mod FirstPlaces
-pub mod Collecting
+pub mod CollectedCalls
 pub mod Tabled
 pub mod Examples
 pub mod Places
@@ -9,9 +9,9 @@ pub mod Counts
 pub mod Struck
 pub mod Bits
 pub mod NumberCalls
-pub mod Asking
+pub mod LookUps
 pub mod FirstThrough
 pub mod Held
-pub mod Searching
+pub mod AnswerSearch
 pub mod OneAnswer
 pub mod WithoutReply

@@ -8,10 +8,10 @@ use Rattle.std.proofs.lemmas.Nat.Bits.{bit_at_mask_below, bit_at_mask_inside, bi
 use Rattle.type_table.specs.Limits.{most_ops}
 use Rattle.type_table.specs.Operation.{place_of}
 use Rattle.type_table.specs.Table.{call_of, first_op}
-use Rattle.number_text.specs.NumberFile.{Number, IsNumber}
-use Rattle.number_text.specs.Operations.{op_at, op_count, names_or_none, number_table}
-use Rattle.number_text.proofs.FirstNamed.{first_named}
-use Rattle.number_text.proofs.LinePlaces.{place_from}
+use Rattle.number_types.specs.Number.{Number, IsNumber}
+use Rattle.number_types.specs.Operations.{op_at, op_count, names_or_none, number_table}
+use Rattle.number_types.proofs.FirstNamed.{first_named}
+use Rattle.number_types.proofs.LinePlaces.{place_from}
 use Rattle.object_calls.specs.Calls.{HasLine, IsCall}
 use Rattle.object_calls.specs.declared.call.Call.{Call}
 

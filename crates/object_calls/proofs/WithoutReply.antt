@@ -8,16 +8,16 @@ use Rattle.type_table.specs.Limits.{most_ops}
 use Rattle.type_table.specs.Operation.{operation_at, place_of, amount_of, operation-again}
 use Rattle.type_table.specs.Table.{Table, call_of, first_op, has_op, is_same_call}
 use Rattle.type_table.specs.declared.op.Op.{Op}
-use Rattle.number_text.specs.Called.{IsOneLegal, NumbersAnswer}
-use Rattle.number_text.specs.NumberFile.{Number, IsNumber}
-use Rattle.number_text.specs.Operations.{number_table, NumberHasTable}
-use Rattle.number_text.proofs.FirstNamed.{first_named}
-use Rattle.number_text.proofs.FirstOfLine.{IsAtLine, IsFirstWith, first_even, legal_at_line, first_with}
-use Rattle.table_checker.proofs.TableOps.{op_below}
+use Rattle.number_types.specs.Called.{IsOneLegal, NumbersAnswer}
+use Rattle.number_types.specs.Number.{Number, IsNumber}
+use Rattle.number_types.specs.Operations.{number_table, NumberHasTable}
+use Rattle.number_types.proofs.FirstNamed.{first_named}
+use Rattle.number_types.proofs.FirstOfLine.{IsAtLine, IsFirstWith, first_even, legal_at_line, first_with}
+use Rattle.declared_types.proofs.TableOps.{op_below}
 use Rattle.object_trait.specs.Meaning.{Meaning, view_of}
 use Rattle.object_trait.specs.Steps.{IsLegalFor, TellsKept, stopper}
-use Rattle.object_calls.specs.Answers.{busy_with, answer_of}
-use Rattle.object_calls.proofs.Asking.{legal_at}
+use Rattle.object_calls.specs.Answers.{busy_answer, answer_of}
+use Rattle.object_calls.proofs.LookUps.{legal_at}
 use Rattle.object_calls.proofs.OneAnswer.{reply_or_busy, one_answer}
 
 -- the name of the call of an operation
@@ -32,8 +32,8 @@ IsFirstOp T c = first_op T (call_of T c) ≡ Some c
 -- what is promised of what is found
 abbrev pub IsFound : Meaning → ℕ → ℕ → Option ℕ → Option ℕ → Type 0
 IsFound m t place holder result =
-    (d : ℕ) → IsFirstOp m.checked.file.table d → place_of d ≡ place → answer_of m t d ≡ busy_with holder
-    → (c : ℕ) × (result ≡ Some c) × IsFirstOp m.checked.file.table c × (answer_of m t c ≡ busy_with holder)
+    (d : ℕ) → IsFirstOp m.checked.file.table d → place_of d ≡ place → answer_of m t d ≡ busy_answer holder
+    → (c : ℕ) × (result ≡ Some c) × IsFirstOp m.checked.file.table c × (answer_of m t c ≡ busy_answer holder)
 
 -- ---- of a table
 
@@ -44,12 +44,12 @@ at_place T d place few first placed = omega (arith, placed, few, op_below T d (f
 -- ---- of a number
 
 -- who is waited for
-busy_by : (k u : ℕ) (who : Option ℕ) → reply_or_busy k who ≡ busy_with (Some u) → who ≡ Some u
+busy_by : (k u : ℕ) (who : Option ℕ) → reply_or_busy k who ≡ busy_answer (Some u) → who ≡ Some u
 busy_by k u None is = cc
 busy_by k u (Some w) is = let same : w ≡ u = cc in ap Some same
 
 -- `None` is no answer of a call of which an operation is legal
-not_none : (k : ℕ) (who : Option ℕ) → reply_or_busy k who ≡ busy_with None → ⊥
+not_none : (k : ℕ) (who : Option ℕ) → reply_or_busy k who ≡ busy_answer None → ⊥
 not_none k None is = cc
 not_none k (Some u) is = cc
 
@@ -77,7 +77,7 @@ module _ (tables : NumberHasTable) (law : NumbersAnswer) (m : Meaning) (t : ℕ)
 
   module _ (place u : ℕ) (small : place < 256) (even : place % 2 ≡ 0) (kept : Option ℕ) (tells : TellsKept m t place u kept) where
     -- a call that waits for u does so by its legal operation
-    waits : (d : ℕ) → IsFirstOp m.checked.file.table d → answer_of m t d ≡ busy_with (Some u)
+    waits : (d : ℕ) → IsFirstOp m.checked.file.table d → answer_of m t d ≡ busy_answer (Some u)
         → (k : ℕ) × IsOneLegal m.checked.file.table (view_of m t) d k × IsAtLine d k × (stopper m t k ≡ Some u)
     waits d first answers =
         let one = one_legal d first in
@@ -87,7 +87,7 @@ module _ (tables : NumberHasTable) (law : NumbersAnswer) (m : Meaning) (t : ℕ)
         (k, one.1, line, busy_by k u (stopper m t k) (sym one.2 ∙ answers))
 
     -- where it has an amount, u keeps t from one
-    amount_kept : (d n : ℕ) → IsFirstOp m.checked.file.table d → place_of d ≡ place → answer_of m t d ≡ busy_with (Some u) → amount_of d ≡ Some n → is_some kept ≡ true
+    amount_kept : (d n : ℕ) → IsFirstOp m.checked.file.table d → place_of d ≡ place → answer_of m t d ≡ busy_answer (Some u) → amount_of d ≡ Some n → is_some kept ≡ true
     amount_kept d n first placed answers told =
         let found = waits d first answers in
         let k = found.0 in
@@ -113,7 +113,7 @@ module _ (tables : NumberHasTable) (law : NumbersAnswer) (m : Meaning) (t : ℕ)
     pub listed_finds : kept ≡ None → IsFound m t place (Some u) (Some place)
     listed_finds none d first placed answers = go (amount_of d) refl
       where
-        go : (told : Option ℕ) → amount_of d ≡ told → (c : ℕ) × (Some place ≡ Some c) × IsFirstOp m.checked.file.table c × (answer_of m t c ≡ busy_with (Some u))
+        go : (told : Option ℕ) → amount_of d ≡ told → (c : ℕ) × (Some place ≡ Some c) × IsFirstOp m.checked.file.table c × (answer_of m t c ≡ busy_answer (Some u))
         go None told = (d, ap Some (sym placed ∙ ap (operation_at (place_of d)) (sym told) ∙ operation-again d), first, answers)
         go (Some n) told = absurd (false≢true (sym (ap is_some none) ∙ amount_kept d n first placed answers told))
 

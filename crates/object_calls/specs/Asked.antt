@@ -12,12 +12,12 @@ abbrev pub beside : ℕ → ℕ → ℕ
 beside operation place = operation_at place (amount_of operation)
 
 -- what is looked at are operations of the table: those beside the asked one, at the places of its word
-abbrev pub AreInside : Table → Call → Type 0
-AreInside T asked = (place : ℕ) → place < 64 → bit_at asked.operations place ≡ 1 → beside asked.first place < length T.ops
+abbrev pub AreLookedAt : Table → Call → Type 0
+AreLookedAt T asked = (place : ℕ) → place < 64 → bit_at asked.operations place ≡ 1 → beside asked.first place < length T.ops
 
 -- whichever operations of the call c are legal for t have the amount of the asked one, and places of its word; and what is looked at and is
 -- legal for t is of that call
-pub record IsAsked (m : Meaning) (t c : ℕ) (asked : Call) : Type 0 where
+pub record IsAskedCall (m : Meaning) (t c : ℕ) (asked : Call) : Type 0 where
   pub same : call_of m.checked.file.table asked.first ≡ call_of m.checked.file.table c
   pub covers :
       (k : ℕ) → is_same_call m.checked.file.table k c ≡ true → IsLegalFor m t k

@@ -9,9 +9,9 @@ use Rattle.object_calls.specs.declared.call.NamedCall.{NamedCall}
 abbrev pub has_name : List (List ℕ) → List ℕ → ℕ → Bool
 has_name names name k = nat_lt k (length names) && bytes_eq (slice_index_or names k []) name
 
--- the place of the call with this name
-abbrev pub place_of : List NamedCall → List ℕ → Option ℕ
-place_of calls name = position (λ n. bytes_eq n.name name) calls
+-- the index of the call with this name
+abbrev pub call_index : List NamedCall → List ℕ → Option ℕ
+call_index calls name = position (λ n. bytes_eq n.name name) calls
 
 -- a call has a name, its number is its first operation, and its word has the bit of each of its operations, and no other
 pub record IsCallOf (names : List (List ℕ)) (n : NamedCall) : Type 0 where
@@ -22,5 +22,5 @@ pub record IsCallOf (names : List (List ℕ)) (n : NamedCall) : Type 0 where
 -- each of these is a call, no two have the same name, and no other name is an operation's
 pub record AreCallsOf (names : List (List ℕ)) (calls : List NamedCall) : Type 0 where
   pub each : (i : ℕ) (n : NamedCall) → slice_get calls i ≡ Some n → IsCallOf names n
-  pub once : (i : ℕ) (n : NamedCall) → slice_get calls i ≡ Some n → place_of calls n.name ≡ Some i
-  pub all : (name : List ℕ) → place_of calls name ≡ None → position (λ other. bytes_eq other name) names ≡ None
+  pub once : (i : ℕ) (n : NamedCall) → slice_get calls i ≡ Some n → call_index calls n.name ≡ Some i
+  pub all : (name : List ℕ) → call_index calls name ≡ None → position (λ other. bytes_eq other name) names ≡ None

@@ -10,8 +10,8 @@ use Rattle.object_calls.specs.declared.end.End.TheVariants.{Commit, Abort}
 abbrev pub is_at : List ℕ → ℕ → Type 0
 is_at places x = list_any (λ y. y == x) places ≡ true
 
-abbrev pub count_at : ℕ → List ℕ → ℕ
-count_at x places = length (filter (λ y. y == x) places)
+abbrev pub times_in : ℕ → List ℕ → ℕ
+times_in x places = length (filter (λ y. y == x) places)
 
 -- at these places something is changed, and nothing at any other
 pub record ChangesAt {A : Type 0} (places : List ℕ) (change : ℕ → A → A → Type 0) (old new : List A) : Type 0 where
@@ -20,10 +20,10 @@ pub record ChangesAt {A : Type 0} (places : List ℕ) (change : ℕ → A → A 
   pub others : (x : ℕ) → (is_at places x → ⊥) → slice_get new x ≡ slice_get old x
 
 -- what an end of a transaction makes of an object
-abbrev pub IsEnd : End → Meaning → ℕ → Meaning → Type 0
-IsEnd Commit = IsCommit
-IsEnd Abort = IsAbort
+abbrev pub EndsObject : End → Meaning → ℕ → Meaning → Type 0
+EndsObject Commit = IsCommit
+EndsObject Abort = IsAbort
 
 -- at each of these places t has this many operations to be struck
 abbrev pub HasLast : ℕ → List ℕ → List Meaning → Type 0
-HasLast t places ms = (x : ℕ) (m : Meaning) → slice_get ms x ≡ Some m → count_at x places ≤ length (open_of t m.log)
+HasLast t places ms = (x : ℕ) (m : Meaning) → slice_get ms x ≡ Some m → times_in x places ≤ length (open_of t m.log)

@@ -32,5 +32,5 @@ abbrev pub bit_calls : List NamedCall
 bit_calls = record { name = codes "read"; call = read } ∷ record { name = codes "flip"; call = flip } ∷ []
 
 -- of the purse of `number_text` the call `value`: it is the fourth, so its line has the places 6 and 7
-abbrev pub value : Call
-value = record { first = operation_at 6 (Some 0); operations = 192 }
+abbrev pub purse_value_call : Call
+purse_value_call = record { first = operation_at 6 (Some 0); operations = 192 }

@@ -3,17 +3,17 @@
 ghost use Rattle.std.specs.Prelude.{◌≡◌, All, ◌≤◌, ◌<◌, ◌++◌, [], ◌∷◌, ℕ, List, length, Some, IsSome, IfOk, IfSome, OnOk};
 ghost use Rattle.type_table.specs.Table.{first_op};
 ghost use Rattle.std.specs.Option.{option_map};
-ghost use Rattle.table_checker.specs.Declarations.{table_of};
+ghost use Rattle.declared_types.specs.Declarations.{table_of};
 ghost use Rattle.object_calls.specs.Calls.{by_name, by_number, IsCall, IsNamedCall, HoldsCalls};
-ghost use Rattle.number_text.specs.Operations.{number_table};
-ghost use Rattle.object_calls.specs.Collected.{place_of, AreCallsOf};
+ghost use Rattle.number_types.specs.Operations.{number_table};
+ghost use Rattle.object_calls.specs.Collected.{call_index, AreCallsOf};
 
 use crate::call::{Call, NamedCall};
 use crate::number_calls::{call_by_name, call_by_number};
-use number_text::NumberFile;
+use declared_types::{Declaration, DeclaredType};
+use number_types::NumberFile;
 use std::alloc::{AllocError, Global};
 use std::marker::Model;
-use table_checker::{Declaration, DeclaredType};
 use type_table::{Name, Operation, TypeTable};
 
 /// The calls of a type, each once.
@@ -166,7 +166,7 @@ fn add_named(calls: &mut Vec<NamedCall>, number: &NumberFile, name: Name) -> Res
 
 /// The place of the call with this name.
 fn place_of(calls: &[NamedCall], name: Name) -> Option<usize>
-    ensures { result ≡ place_of calls.now name }
+    ensures { result ≡ call_index calls.now name }
 {
     calls.iter().position(|known| known.name == name)
 }

@@ -1,7 +1,7 @@
 //! The end of a transaction at the objects where it has operations.
 
 ghost use Rattle.std.specs.Prelude.{◌<◌, All, length, map};
-ghost use Rattle.object_calls.specs.Ends.{ChangesAt, IsEnd};
+ghost use Rattle.object_calls.specs.Ends.{ChangesAt, EndsObject};
 
 use object_trait::Recovery;
 
@@ -18,7 +18,7 @@ pub enum End {
 #[inline(always)]
 pub fn end_at<R: Recovery>(objects: &mut Vec<R>, places: &[u8], t: u32, how: End)
     requires { All (λ x. x < length objects.old.items) places.now }
-    ensures { ChangesAt places.now (λ x m n. IsEnd how m t n) (map R.meaning objects.old.items) (map R.meaning objects.new.items) }
+    ensures { ChangesAt places.now (λ x m n. EndsObject how m t n) (map R.meaning objects.old.items) (map R.meaning objects.new.items) }
 {
     let mut visited = [false; 256];
     for place in places {
@@ -33,7 +33,7 @@ pub fn end_at<R: Recovery>(objects: &mut Vec<R>, places: &[u8], t: u32, how: End
 /// Ends t at one object.
 #[inline(always)]
 fn end_one<R: Recovery>(object: &mut R, t: u32, how: End)
-    ensures { IsEnd how (R.meaning object.old) t (R.meaning object.new) }
+    ensures { EndsObject how (R.meaning object.old) t (R.meaning object.new) }
 {
     match how {
         End::Commit => object.commit(t),

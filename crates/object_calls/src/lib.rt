@@ -5,17 +5,15 @@
 mod answer;
 mod call;
 mod call_table;
-mod choosing;
 mod end;
 mod lowest;
 mod number_calls;
 mod strike;
 mod unreplied;
 
-pub use answer::Answer;
+pub use answer::{Answer, busy_with, choose};
 pub use call::{Call, NamedCall};
 pub use call_table::CallTable;
-pub use choosing::{busy_with, choose};
 pub use end::{End, end_at};
 pub use strike::strike_at;
 pub use unreplied::call_unreplied;

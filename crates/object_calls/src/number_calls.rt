@@ -4,11 +4,11 @@ ghost use Rattle.std.specs.Prelude.{◌≡◌, ◌<◌, ℕ, List, Some, IsSome,
 ghost use Rattle.std.specs.Option.{option_map};
 ghost use Rattle.type_table.specs.Operation.{place_of};
 ghost use Rattle.type_table.specs.Table.{first_op, call_of};
-ghost use Rattle.number_text.specs.Operations.{number_table};
+ghost use Rattle.number_types.specs.Operations.{number_table};
 ghost use Rattle.object_calls.specs.Calls.{IsCall, HasLine};
 
 use crate::call::Call;
-use number_text::NumberFile;
+use number_types::NumberFile;
 use type_table::Operation;
 
 /// The call with this name.

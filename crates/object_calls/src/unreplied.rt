@@ -3,12 +3,12 @@
 ghost use Rattle.std.specs.Prelude.{◌≡◌, ℕ, Some, IfSome};
 ghost use Rattle.type_table.specs.Operation.{operation_at, place_of};
 ghost use Rattle.type_table.specs.Table.{call_of, first_op};
-ghost use Rattle.number_text.specs.Operations.{number_table};
-ghost use Rattle.object_calls.specs.Answers.{busy_with, answer_of};
+ghost use Rattle.number_types.specs.Operations.{number_table};
+ghost use Rattle.object_calls.specs.Answers.{busy_answer, answer_of};
 
-use number_text::{NumberFile, number_has_table, numbers_answer};
+use declared_types::Declaration;
+use number_types::{NumberFile, number_has_table, numbers_answer};
 use object_trait::Recovery;
-use table_checker::Declaration;
 use type_table::Operation;
 
 /// Of the calls whose first operation has this place one for which t is answered `Busy` with this holder, or `None` where
@@ -21,9 +21,9 @@ pub fn call_unreplied<R: Recovery>(
 ) -> Option<Operation>
     ensures place { IfSome result (λ c. place_of c ≡ place) }
     ensures found { (d : ℕ) → first_op (R.meaning object.now).checked.file.table (call_of (R.meaning object.now).checked.file.table d) ≡ Some d → place_of d ≡ place
-        → answer_of (R.meaning object.now) t d ≡ busy_with holder
+        → answer_of (R.meaning object.now) t d ≡ busy_answer holder
         → (c : ℕ) × (result ≡ Some c) × (first_op (R.meaning object.now).checked.file.table (call_of (R.meaning object.now).checked.file.table c) ≡ Some c)
-        × (answer_of (R.meaning object.now) t c ≡ busy_with holder) }
+        × (answer_of (R.meaning object.now) t c ≡ busy_answer holder) }
 {
     match object.declared().declaration() {
         Declaration::Table(file) => {
@@ -46,9 +46,9 @@ fn number_unreplied<R: Recovery>(
     requires { (R.meaning object.now).checked.file.table ≡ number_table number.now }
     ensures place { IfSome result (λ c. place_of c ≡ place) }
     ensures found { (d : ℕ) → first_op (R.meaning object.now).checked.file.table (call_of (R.meaning object.now).checked.file.table d) ≡ Some d → place_of d ≡ place
-        → answer_of (R.meaning object.now) t d ≡ busy_with holder
+        → answer_of (R.meaning object.now) t d ≡ busy_answer holder
         → (c : ℕ) × (result ≡ Some c) × (first_op (R.meaning object.now).checked.file.table (call_of (R.meaning object.now).checked.file.table c) ≡ Some c)
-        × (answer_of (R.meaning object.now) t c ≡ busy_with holder) }
+        × (answer_of (R.meaning object.now) t c ≡ busy_answer holder) }
 {
     number_has_table();
     numbers_answer();

@@ -6,11 +6,11 @@ ghost use Rattle.type_table.specs.Operation.{operation_at, place_of};
 ghost use Rattle.type_table.specs.Table.{call_of, first_op};
 ghost use Rattle.object_trait.specs.Examples.{held, counter_at};
 ghost use Rattle.object_calls.specs.Answers.{answer_of};
-ghost use Rattle.object_calls.specs.Ends.{count_at};
+ghost use Rattle.object_calls.specs.Ends.{times_in};
 ghost use Rattle.object_calls.specs.Calls.{HasOperations, IsCall, by_name, by_number, IsCallTable};
-ghost use Rattle.object_calls.specs.Examples.{bit, read, flip, bit_calls, value};
-ghost use Rattle.number_text.specs.Examples.{purse};
-ghost use Rattle.number_text.specs.Operations.{number_table};
+ghost use Rattle.object_calls.specs.Examples.{bit, read, flip, bit_calls, purse_value_call};
+ghost use Rattle.number_types.specs.Examples.{purse};
+ghost use Rattle.number_types.specs.Operations.{number_table};
 
 use crate::answer::Answer;
 use type_table::Kind;
@@ -27,9 +27,9 @@ pub fn no_operation_is_legal()
 {}
 
 pub fn places_are_counted()
-    ensures twice { count_at 3 (3 ∷ 1 ∷ 3 ∷ []) ≡ 2 }
-    ensures once { count_at 1 (3 ∷ 1 ∷ 3 ∷ []) ≡ 1 }
-    ensures never { count_at 2 (3 ∷ 1 ∷ 3 ∷ []) ≡ 0 }
+    ensures twice { times_in 3 (3 ∷ 1 ∷ 3 ∷ []) ≡ 2 }
+    ensures once { times_in 1 (3 ∷ 1 ∷ 3 ∷ []) ≡ 1 }
+    ensures never { times_in 2 (3 ∷ 1 ∷ 3 ∷ []) ≡ 0 }
 {}
 
 pub fn calls_are_found_by_name()
@@ -63,8 +63,8 @@ pub fn calls_of_a_bit()
 {}
 
 pub fn a_call_of_the_purse()
-    ensures call { IsCall (number_table purse) value }
-    ensures half_a_line { IsCall (number_table purse) (record { first = value.first; operations = 64 }) → ⊥ }
+    ensures call { IsCall (number_table purse) purse_value_call }
+    ensures half_a_line { IsCall (number_table purse) (record { first = purse_value_call.first; operations = 64 }) → ⊥ }
 {}
 
 /// A place tells a call of a table. Of a number it tells the line alone: `take:4` and `take:5` are both at the place 2.

@@ -1,7 +1,7 @@
 -- What was checked is covered.
 use Rattle.type_table.specs.declared.kind.Kind.{Kind}
 use Rattle.type_table.specs.declared.kind.Kind.TheVariants.{Undo, Intentions, Escrow}
-use Rattle.type_text.specs.declared.type_file.TypeFile.{TypeFile}
+use Rattle.declared_types.specs.declared.type_file.TypeFile.{TypeFile}
 use Rattle.table_checker.specs.Checked.{Checked}
 use Rattle.table_checker.specs.Laws.{CoversType, CoversTypeStrongly, YesCovers, StrongYesCovers}
 use Rattle.object_trait.specs.Object.{CoversBy, CoversStronglyBy, object_of}

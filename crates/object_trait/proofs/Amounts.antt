@@ -6,19 +6,19 @@ use Rattle.type_table.specs.Table.{Table, IsTable, next}
 use Rattle.type_table.specs.Run.{IsLegal}
 use Rattle.type_table.proofs.Legal.{nothing_legal}
 use Rattle.object_trait.specs.Meaning.{Meaning, view_of}
-use Rattle.object_trait.specs.Steps.{IsKeptAt, TellsKept}
+use Rattle.object_trait.specs.Steps.{IsKeptByAmount, TellsKept}
 
 -- ---- what is told
 
 -- an amount, from which one is kept
-pub told-some : (m : Meaning) (t place u n : ℕ) → IsKeptAt m t place u n → TellsKept m t place u (Some n)
+pub told-some : (m : Meaning) (t place u n : ℕ) → IsKeptByAmount m t place u n → TellsKept m t place u (Some n)
 told-some m t place u n is = record {
-  kept = λ j same. let both : n ≡ j = cc in subst (IsKeptAt m t place u) both is;
+  kept = λ j same. let both : n ≡ j = cc in subst (IsKeptByAmount m t place u) both is;
   all = λ _ _. refl;
 }
 
 -- or none, where one is kept from none
-pub told-none : (m : Meaning) (t place u : ℕ) → ((n : ℕ) → IsKeptAt m t place u n → ⊥) → TellsKept m t place u None
+pub told-none : (m : Meaning) (t place u : ℕ) → ((n : ℕ) → IsKeptByAmount m t place u n → ⊥) → TellsKept m t place u None
 told-none m t place u none = record { kept = λ j same. absurd cc; all = λ n is. absurd (none n is) }
 
 -- ---- of a table

@@ -14,7 +14,7 @@ use Rattle.escrow_laws.specs.Laws.{FreshIsFirm, FirmAfterApply, FirmAfterCommit,
 use Rattle.type_table.specs.declared.kind.Kind.TheVariants.{Escrow}
 use Rattle.object_trait.specs.Object.{Object}
 use Rattle.object_trait.specs.Strike.{keep_first}
-use Rattle.object_trait.specs.Meaning.{ops_of, is_open_of, open_of, own_of, run_log}
+use Rattle.object_trait.specs.Meaning.{log_ops, is_open_of, open_of, own_of, run_log}
 use Rattle.object_trait.specs.Sound.{IsSoundEscrow}
 use Rattle.object_trait.specs.Steps.{IsOfAnotherOpen, above, stops_by, IsEscrowCommit, IsIntentionsStrike}
 use Rattle.object_trait.specs.Laws.{KeepsFirst}
@@ -122,7 +122,7 @@ escrow-struck strikes keeps_first o base log t n new_base new_log sound strike =
       firm = strikes o.table o.amounts base (own_of log) (own_of (keep_first (is_open_of t) n log)) sound.firm
           (λ u. elim (cases_Bool (eqb u t)) [
             | inl same ↦ (
-              ops_of (drop n (open_of t log)),
+              log_ops (drop n (open_of t log)),
               rw (eqb-true u t same, (keeps_first (is_open_of t) n log).0, ← ops-append (take n (open_of t log)) (drop n (open_of t log)), take-append-drop n (open_of t log)) refl,
             )
             | inr other ↦ ([], rw (filter-keep_first (is_open_of t) (is_open_of u) (open-apart t u other) n log, append-nil (own_of log u)) refl)

@@ -13,7 +13,7 @@ use Rattle.type_table.proofs.Elements.{each-push, each-filter, differ_turned}
 use Rattle.type_table.proofs.Legal.{legal-front, forward-turned}
 use Rattle.object_trait.specs.Object.{Object}
 use Rattle.object_trait.specs.Orders.{Pairs}
-use Rattle.object_trait.specs.Meaning.{ops_of, is_open_of, open_of, run_log}
+use Rattle.object_trait.specs.Meaning.{log_ops, is_open_of, open_of, run_log}
 use Rattle.object_trait.specs.Sound.{IsLocked, IsSoundIntentions}
 use Rattle.object_trait.specs.Steps.{IsOfAnotherOpen, IsIntentionsCommit, IsIntentionsStrike}
 use Rattle.object_trait.specs.Laws.{KeepsFirst, CommuteFrom}
@@ -46,15 +46,15 @@ filter-itself mine (e ∷ V) =
 -- ---- a further operation
 
 -- the operations of u's open entries, where the last entry isn't one of them
-without_last : (o : Object) (base : ℕ) (u : ℕ) (log : List LogEntry) (entry : LogEntry) → is_open_of u entry ≡ false → IsLegal o.table (Some base) (ops_of (open_of u log)) →
-    IsLegal o.table (Some base) (ops_of (open_of u (log ++ entry ∷ [])))
+without_last : (o : Object) (base : ℕ) (u : ℕ) (log : List LogEntry) (entry : LogEntry) → is_open_of u entry ≡ false → IsLegal o.table (Some base) (log_ops (open_of u log)) →
+    IsLegal o.table (Some base) (log_ops (open_of u (log ++ entry ∷ [])))
 without_last o base u log entry isnt legal = rw (filter-append (is_open_of u) log (entry ∷ []), isnt, append-nil) legal
 
 -- and where it is one of them
 with_last : RunsAlong → (o : Object) (base : ℕ) (u : ℕ) (log : List LogEntry) (entry : LogEntry) → is_open_of u entry ≡ true → IsLegal o.table (run_log o base (open_of u log)) (entry.op ∷ []) →
-    IsLegal o.table (Some base) (ops_of (open_of u (log ++ entry ∷ [])))
+    IsLegal o.table (Some base) (log_ops (open_of u (log ++ entry ∷ [])))
 with_last along o base u log entry is legal =
-    rw (filter-append (is_open_of u) log (entry ∷ []), is, ops-append (open_of u log) (entry ∷ [])) (push-legal along o.table (Some base) (ops_of (open_of u log)) (entry.op ∷ []) legal)
+    rw (filter-append (is_open_of u) log (entry ∷ []), is, ops-append (open_of u log) (entry ∷ [])) (push-legal along o.table (Some base) (log_ops (open_of u log)) (entry.op ∷ []) legal)
 
 -- deferred update stays sound by a further operation
 pub intentions-applied : RunsAlong → (o : Object) (base : ℕ) (log : List LogEntry) (t k : ℕ) → IsSoundIntentions o base log → IsLegal o.table (run_log o base (open_of t log)) (k ∷ []) →
@@ -91,25 +91,25 @@ between o covers t u differ a b locked = record {
 
 -- each operation of t commutes forward with each of u
 ops_between : (o : Object) → Covers Intentions o.table o.set o.conflicts → (t u : ℕ) → eqb u t ≡ false → (log : List LogEntry) → Pairs (IsLocked o) log →
-    (p q : ℕ) → Contains (ops_of (open_of t log)) p → Contains (ops_of (open_of u log)) q → CommuteForward o.table o.set p q
+    (p q : ℕ) → Contains (log_ops (open_of t log)) p → Contains (log_ops (open_of u log)) q → CommuteForward o.table o.set p q
 ops_between o covers t u differ log locked p q p_in q_in =
     let C : ℕ → ℕ → Type 0 = CommuteForward o.table o.set in
     let pairs : Pairs (IsBetween (is_open_of t) (is_open_of u) (λ x y. C x.op y.op)) log = pairs-weaker (between o covers t u differ) log locked in
     let entries = each_between (λ x y. C x.op y.op) (is_open_of t) (is_open_of u) (open-apart t u differ) log pairs in
-    each_two-at C (ops_of (open_of t log)) (ops_of (open_of u log)) (each_two-map C (λ (e : LogEntry). e.op) (open_of t log) (open_of u log) entries) p q p_in q_in
+    each_two-at C (log_ops (open_of t log)) (log_ops (open_of u log)) (each_two-map C (λ (e : LogEntry). e.op) (open_of t log) (open_of u log) entries) p q p_in q_in
 
 -- the open operations of two transactions, in either order
 pub opens-commute : ListsForward → (o : Object) → Covers Intentions o.table o.set o.conflicts → (base : ℕ) (log : List LogEntry) (t u : ℕ) → eqb u t ≡ false → IsSoundIntentions o base log →
-    CommuteFrom o.table base (ops_of (open_of t log)) (ops_of (open_of u log))
+    CommuteFrom o.table base (log_ops (open_of t log)) (log_ops (open_of u log))
 opens-commute forward o covers base log t u differ sound =
-    forward o.table o.set base (ops_of (open_of t log)) (ops_of (open_of u log)) covers.closed sound.inside (ops_between o covers t u differ log sound.locked) (sound.legal t) (sound.legal u)
+    forward o.table o.set base (log_ops (open_of t log)) (log_ops (open_of u log)) covers.closed sound.inside (ops_between o covers t u differ log sound.locked) (sound.legal t) (sound.legal u)
 
 -- u's operations are legal from a state that is equieffective to that after t's
 behind-commit : RunsAlong → ListsForward → (o : Object) → Covers Intentions o.table o.set o.conflicts → (base : ℕ) (log : List LogEntry) (t u new_base : ℕ) → eqb u t ≡ false → IsSoundIntentions o base log →
-    AreEqui o.table (Some new_base) (run_log o base (open_of t log)) → IsLegal o.table (Some new_base) (ops_of (open_of u log))
+    AreEqui o.table (Some new_base) (run_log o base (open_of t log)) → IsLegal o.table (Some new_base) (log_ops (open_of u log))
 behind-commit along forward o covers base log t u new_base differ sound reached =
     let both = opens-commute forward o covers base log t u differ sound in
-    reached.1 (ops_of (open_of u log)) (rw (along o.table (Some base) (ops_of (open_of t log)) (ops_of (open_of u log))) at both.0)
+    reached.1 (log_ops (open_of u log)) (rw (along o.table (Some base) (log_ops (open_of t log)) (log_ops (open_of u log))) at both.0)
 
 -- deferred update stays sound by a commit
 pub intentions-committed : RunsAlong → ListsForward → (o : Object) → Covers Intentions o.table o.set o.conflicts → (base : ℕ) (log : List LogEntry) (t new_base : ℕ) (new_log : List LogEntry) →
@@ -130,9 +130,9 @@ intentions-committed along forward o covers base log t new_base new_log sound co
 -- ---- strike
 
 -- the front of t's operations
-front_of : (o : Object) (base : ℕ) (V : List LogEntry) (n : ℕ) → IsLegal o.table (Some base) (ops_of V) → IsLegal o.table (Some base) (ops_of (take n V))
+front_of : (o : Object) (base : ℕ) (V : List LogEntry) (n : ℕ) → IsLegal o.table (Some base) (log_ops V) → IsLegal o.table (Some base) (log_ops (take n V))
 front_of o base V n legal =
-    legal-front o.table (Some base) (ops_of (take n V)) (ops_of (drop n V)) (rw (← ops-append (take n V) (drop n V), take-append-drop n V) legal)
+    legal-front o.table (Some base) (log_ops (take n V)) (log_ops (drop n V)) (rw (← ops-append (take n V) (drop n V), take-append-drop n V) legal)
 
 -- deferred update stays sound by a strike
 pub intentions-struck : KeepsFirst LogEntry → (o : Object) (base : ℕ) (log : List LogEntry) (t n new_base : ℕ) (new_log : List LogEntry) → IsSoundIntentions o base log →

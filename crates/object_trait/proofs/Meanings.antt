@@ -10,7 +10,7 @@ use Rattle.type_table.proofs.Elements.{differ_turned}
 use Rattle.table_checker.specs.Checked.{Checked}
 use Rattle.object_trait.specs.Object.{Object, CoversBy, object_of}
 use Rattle.object_trait.specs.Strike.{keep_first}
-use Rattle.object_trait.specs.Meaning.{object, ops_of, is_open_of, open_of, view_by}
+use Rattle.object_trait.specs.Meaning.{object, log_ops, is_open_of, open_of, view_by}
 use Rattle.object_trait.specs.Sound.{IsSoundBy}
 use Rattle.object_trait.specs.Steps.{IsOfAnotherOpen, stops_by, IsCommitBy, IsStrikeBy}
 use Rattle.object_trait.specs.Laws.{PartsSort, KeepsFirst, StruckPart, SortsLook, StruckLogIsLegal, CommuteFrom, OpensCommute, FreshIsSound, SoundAfterApply, SoundAfterCommit, SoundAfterStrike}
@@ -22,7 +22,7 @@ use Rattle.object_trait.proofs.Intentions.{intentions-applied, opens-commute, in
 
 -- the struck log is legal: the kind is update in place
 struck_by : PartsSort LogEntry → StruckPart LogEntry → SortsLook LogEntry → (kind : Kind) → kind ≡ Undo → (o : Object) → CoversBy kind o →
-    (base : ℕ) (log : List LogEntry) (t n : ℕ) → IsSoundBy kind o base log → IsLegal o.table (Some base) (ops_of (keep_first (is_open_of t) n log))
+    (base : ℕ) (log : List LogEntry) (t n : ℕ) → IsSoundBy kind o base log → IsLegal o.table (Some base) (log_ops (keep_first (is_open_of t) n log))
 struck_by parts strike sorts Undo e o covers base log t n sound = struck-legal parts strike sorts o covers base log t n sound
 struck_by parts strike sorts Intentions e o covers base log t n sound = absurd (cc)
 struck_by parts strike sorts Escrow e o covers base log t n sound = absurd (cc)
@@ -33,7 +33,7 @@ struck_log-legal parts strike sorts = λ m t n covers undo sound. struck_by part
 
 -- two transactions' operations commute: the kind is deferred update
 opens_by : ListsForward → (kind : Kind) → kind ≡ Intentions → (o : Object) → CoversBy kind o → (base : ℕ) (log : List LogEntry) (t u : ℕ) → eqb u t ≡ false →
-    IsSoundBy kind o base log → CommuteFrom o.table base (ops_of (open_of t log)) (ops_of (open_of u log))
+    IsSoundBy kind o base log → CommuteFrom o.table base (log_ops (open_of t log)) (log_ops (open_of u log))
 opens_by forward Undo e o covers base log t u differ sound = absurd (cc)
 opens_by forward Escrow e o covers base log t u differ sound = absurd (cc)
 opens_by forward Intentions e o covers base log t u differ sound = opens-commute forward o covers base log t u differ sound

@@ -7,7 +7,7 @@ use Rattle.std.proofs.lemmas.List.{length-map, get_or-map}
 use Rattle.std.proofs.lemmas.List.Elements.{All-from_recursion}
 use Rattle.type_table.proofs.Elements.{differ_turned}
 use Rattle.object_trait.specs.Orders.{Pairs}
-use Rattle.object_trait.specs.Rows.{AreOrdered, place_of, IsAt, shown_of, with_row, without_row}
+use Rattle.object_trait.specs.Rows.{RowsAscend, row_index, IsRowAt, shown_of, with_row, without_row}
 
 -- ---- numbers in their order
 
@@ -46,7 +46,7 @@ module _ {E : Type 0} (by : E → ℕ) where
   -- ---- the place of a row
 
   -- it is that of a row, or after all of them
-  pub place-within : (t : ℕ) (rows : List E) → place_of by t rows ≤ length rows
+  pub place-within : (t : ℕ) (rows : List E) → row_index by t rows ≤ length rows
   place-within t [] = omega arith
   place-within t (row ∷ rows) =
       let rest = place-within t rows in
@@ -56,7 +56,7 @@ module _ {E : Type 0} (by : E → ℕ) where
       ]
 
   -- those of earlier transactions come first
-  pub parted : (t : ℕ) (rows : List E) → AreOrdered by rows → IsPartitionedBy (λ row. ltb (by row) t) rows
+  pub parted : (t : ℕ) (rows : List E) → RowsAscend by rows → IsPartitionedBy (λ row. ltb (by row) t) rows
   parted t [] ordered i j d most within holds = absurd (omega (arith, within))
   parted t (row ∷ rows) ordered zero zero d most within holds = holds
   parted t (row ∷ rows) ordered zero (suc j) d most within holds =
@@ -70,7 +70,7 @@ module _ {E : Type 0} (by : E → ℕ) where
   parted t (row ∷ rows) ordered (suc i) (suc j) d most within holds = parted t rows ordered.1 i j d (omega (arith, most)) (omega (arith, within)) holds
 
   -- and end at t's place
-  pub place-found : (t : ℕ) (rows : List E) (i : ℕ) → i ≤ length rows → IsPartitionPoint (λ row. ltb (by row) t ≡ true) (λ row. ltb (by row) t ≡ false) rows i → i ≡ place_of by t rows
+  pub place-found : (t : ℕ) (rows : List E) (i : ℕ) → i ≤ length rows → IsPartitionPoint (λ row. ltb (by row) t ≡ true) (λ row. ltb (by row) t ≡ false) rows i → i ≡ row_index by t rows
   place-found t [] i few point = omega (arith, few)
   place-found t (row ∷ rows) zero few point = rw (point.1 0 row (omega arith) (omega arith)) refl
   place-found t (row ∷ rows) (suc i) few point =
@@ -84,7 +84,7 @@ module _ {E : Type 0} (by : E → ℕ) where
   unlisted-later t [] later = refl
   unlisted-later t (row ∷ rows) later = rw (differ_turned (by row) t (not-same t (by row) later.0)) (unlisted-later t rows later.1)
 
-  pub unlisted : (t : ℕ) (rows : List E) → AreOrdered by rows → (IsAt by t (place_of by t rows) rows → ⊥) → list_any (λ row. eqb (by row) t) rows ≡ false
+  pub unlisted : (t : ℕ) (rows : List E) → RowsAscend by rows → (IsRowAt by t (row_index by t rows) rows → ⊥) → list_any (λ row. eqb (by row) t) rows ≡ false
   unlisted t [] ordered none = refl
   unlisted t (row ∷ rows) ordered none =
       elim (cases_Bool (ltb (by row) t)) [
@@ -99,7 +99,7 @@ module _ {E : Type 0} (by : E → ℕ) where
   -- ---- a row is put in its place, or taken out
 
   -- a write to the place
-  pub put_there : (w : E) (rows : List E) → IsAt by (by w) (place_of by (by w) rows) rows → set rows (place_of by (by w) rows) w ≡ with_row by w rows
+  pub put_there : (w : E) (rows : List E) → IsRowAt by (by w) (row_index by (by w) rows) rows → set rows (row_index by (by w) rows) w ≡ with_row by w rows
   put_there w [] here = let within = here.0 in absurd (omega (arith, within))
   put_there w (row ∷ rows) here =
       elim (cases_Bool (ltb (by row) (by w))) [
@@ -112,7 +112,7 @@ module _ {E : Type 0} (by : E → ℕ) where
       ]
 
   -- a row put there, before those of later transactions
-  pub put_before : (w : E) (rows : List E) → (IsAt by (by w) (place_of by (by w) rows) rows → ⊥) → insert rows (place_of by (by w) rows) w ≡ with_row by w rows
+  pub put_before : (w : E) (rows : List E) → (IsRowAt by (by w) (row_index by (by w) rows) rows → ⊥) → insert rows (row_index by (by w) rows) w ≡ with_row by w rows
   put_before w [] none = refl
   put_before w (row ∷ rows) none =
       elim (cases_Bool (ltb (by row) (by w))) [
@@ -134,7 +134,7 @@ module _ {E : Type 0} (by : E → ℕ) where
   stay-later t (row ∷ rows) later = rw (differ_turned (by row) t (not-same t (by row) later.0)) (ap (λ rest. row ∷ rest) (stay-later t rows later.1))
 
   -- the place taken out
-  pub drop_there : (t : ℕ) (rows : List E) → AreOrdered by rows → IsAt by t (place_of by t rows) rows → remove rows (place_of by t rows) ≡ without_row by t rows
+  pub drop_there : (t : ℕ) (rows : List E) → RowsAscend by rows → IsRowAt by t (row_index by t rows) rows → remove rows (row_index by t rows) ≡ without_row by t rows
   drop_there t [] ordered here = let within = here.0 in absurd (omega (arith, within))
   drop_there t (row ∷ rows) ordered here =
       elim (cases_Bool (ltb (by row) t)) [
@@ -148,7 +148,7 @@ module _ {E : Type 0} (by : E → ℕ) where
       ]
 
   -- and none, where it isn't the transaction's
-  pub drop_nowhere : (t : ℕ) (rows : List E) → AreOrdered by rows → (IsAt by t (place_of by t rows) rows → ⊥) → rows ≡ without_row by t rows
+  pub drop_nowhere : (t : ℕ) (rows : List E) → RowsAscend by rows → (IsRowAt by t (row_index by t rows) rows → ⊥) → rows ≡ without_row by t rows
   drop_nowhere t [] ordered none = refl
   drop_nowhere t (row ∷ rows) ordered none =
       elim (cases_Bool (ltb (by row) t)) [
@@ -199,7 +199,7 @@ module _ {E : Type 0} (by : E → ℕ) where
         | inr isnt ↦ rw isnt (before-dropped n test rows each.1)
       ]
 
-  pub ordered-put : (w : E) (rows : List E) → AreOrdered by rows → AreOrdered by (with_row by w rows)
+  pub ordered-put : (w : E) (rows : List E) → RowsAscend by rows → RowsAscend by (with_row by w rows)
   ordered-put w [] ordered = (tt, tt)
   ordered-put w (row ∷ rows) ordered =
       elim (cases_Bool (eqb (by row) (by w))) [
@@ -214,7 +214,7 @@ module _ {E : Type 0} (by : E → ℕ) where
         ]
       ]
 
-  pub ordered-dropped : (test : E → Bool) (rows : List E) → AreOrdered by rows → AreOrdered by (filter test rows)
+  pub ordered-dropped : (test : E → Bool) (rows : List E) → RowsAscend by rows → RowsAscend by (filter test rows)
   ordered-dropped test [] ordered = tt
   ordered-dropped test (row ∷ rows) ordered =
       elim (cases_Bool (test row)) [
@@ -231,7 +231,7 @@ module _ {E S : Type 0} (by : E → ℕ) (show : E → S) (none : S) where
   shown-later t (row ∷ rows) later = rw (differ_turned (by row) t (not-same t (by row) later.0)) (shown-later t rows later.1)
 
   -- in its place is the transaction's, if it has one
-  pub shown_there : (t : ℕ) (rows : List E) (d : E) → IsAt by t (place_of by t rows) rows → show (get_or rows (place_of by t rows) d) ≡ shown_of by show none t rows
+  pub shown_there : (t : ℕ) (rows : List E) (d : E) → IsRowAt by t (row_index by t rows) rows → show (get_or rows (row_index by t rows) d) ≡ shown_of by show none t rows
   shown_there t [] d here = let within = here.0 in absurd (omega (arith, within))
   shown_there t (row ∷ rows) d here =
       elim (cases_Bool (ltb (by row) t)) [
@@ -243,7 +243,7 @@ module _ {E S : Type 0} (by : E → ℕ) (show : E → S) (none : S) where
       ]
 
   -- else it has none
-  pub shown_nowhere : (t : ℕ) (rows : List E) → AreOrdered by rows → (IsAt by t (place_of by t rows) rows → ⊥) → shown_of by show none t rows ≡ none
+  pub shown_nowhere : (t : ℕ) (rows : List E) → RowsAscend by rows → (IsRowAt by t (row_index by t rows) rows → ⊥) → shown_of by show none t rows ≡ none
   shown_nowhere t [] ordered nowhere = refl
   shown_nowhere t (row ∷ rows) ordered nowhere =
       elim (cases_Bool (ltb (by row) t)) [

@@ -8,13 +8,13 @@ use Rattle.type_table.specs.Table.{Table}
 use Rattle.type_table.specs.Run.{run, IsLegal}
 use Rattle.type_table.specs.Laws.{RunsAlong}
 use Rattle.type_table.proofs.Elements.{differ_turned, each-weaker, filter-all}
-use Rattle.object_trait.specs.Meaning.{ops_of, is_open_of, open_of}
+use Rattle.object_trait.specs.Meaning.{log_ops, is_open_of, open_of}
 use Rattle.object_trait.specs.declared.log_entry.LogEntry.{LogEntry}
 
 -- ---- operations
 
 -- the operations of a log put together
-pub ops-append : (V W : List LogEntry) → ops_of (V ++ W) ≡ ops_of V ++ ops_of W
+pub ops-append : (V W : List LogEntry) → log_ops (V ++ W) ≡ log_ops V ++ log_ops W
 ops-append V W = map-append (λ (e : LogEntry). e.op) V W
 
 -- one more operation, which is legal in the state after the list

@@ -6,7 +6,7 @@ use Rattle.type_table.specs.Run.{run, IsLegal, Looks, AreEqui}
 use Rattle.type_table.specs.StateSet.{IsClosed}
 use Rattle.type_table.specs.Laws.{IsExtended, LooksExtends, EquiExtends}
 use Rattle.type_table.proofs.Legal.{from_state, is_there, legal_there, legal_here, related_here}
-use Rattle.object_trait.specs.Orders.{Sorts, same, swap, under, chain, Parts, none, stay, goes}
+use Rattle.object_trait.specs.Orders.{Sorts, same, swap, under, chain, SplitsInto, none, stay, goes}
 use Rattle.object_trait.specs.Laws.{PartsSort, SortsLook, SortsEqui}
 
 -- ---- two parts
@@ -17,7 +17,7 @@ sorts_behind b [] B each = same
 sorts_behind b (a ∷ A) B each = chain (swap each.0) (under (sorts_behind b A B each.1))
 
 -- a list of two parts sorts into the one that stays and then the other
-parts_behind : {E : Type 0} {free : E → E → Bool} (V A B : List E) → Parts free V A B → Sorts free V (A ++ B)
+parts_behind : {E : Type 0} {free : E → E → Bool} (V A B : List E) → SplitsInto free V A B → Sorts free V (A ++ B)
 parts_behind _ _ _ none = same
 parts_behind (_ ∷ V) (_ ∷ A) B (stay p) = under (parts_behind V A B p)
 parts_behind (b ∷ V) A (_ ∷ B) (goes each p) = chain (under (parts_behind V A B p)) (sorts_behind b A B each)

@@ -3,7 +3,7 @@ use Rattle.std.proofs.Common.{◌≡◌, ℕ, zero, suc, ◌≤◌, Bool, true, 
 use Rattle.std.specs.List.{filter, AllByRecursion}
 use Rattle.std.proofs.lemmas.Bool.{cases_Bool}
 use Rattle.type_table.proofs.Elements.{each-weaker}
-use Rattle.object_trait.specs.Orders.{Pairs, Parts, none, stay, goes}
+use Rattle.object_trait.specs.Orders.{Pairs, SplitsInto, none, stay, goes}
 use Rattle.object_trait.specs.Strike.{keep_first}
 use Rattle.object_trait.specs.Laws.{KeepsFirst, StruckPart}
 
@@ -121,7 +121,7 @@ others_each P (e ∷ V) K (_ ∷ S) (struck is s) p = others_each P V K S s p.1
 
 -- what is struck may move after what is kept
 strike_parts : {E : Type 0} {free : E → E → Bool} {mine : E → Bool} (n : ℕ) (V K S : List E) → Struck mine n V K S →
-    Pairs (λ a b. mine a ≡ true → mine b ≡ false → free a b ≡ true) V → Parts free V K S
+    Pairs (λ a b. mine a ≡ true → mine b ≡ false → free a b ≡ true) V → SplitsInto free V K S
 strike_parts _ _ _ _ ended p = none
 strike_parts n (e ∷ V) (_ ∷ K) S (other isnt s) p = stay (strike_parts n V K S s p.1)
 strike_parts _ (e ∷ V) (_ ∷ K) S (kept {n = n} is s) p = stay (strike_parts n V K S s p.1)

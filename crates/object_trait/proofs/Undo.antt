@@ -10,7 +10,7 @@ use Rattle.type_table.proofs.Elements.{each-weaker, differ_turned}
 use Rattle.type_table.proofs.Legal.{legal-front, legal-behind}
 use Rattle.object_trait.specs.Object.{Object}
 use Rattle.object_trait.specs.Strike.{keep_first}
-use Rattle.object_trait.specs.Meaning.{ops_of, is_open_of, run_log}
+use Rattle.object_trait.specs.Meaning.{log_ops, is_open_of, run_log}
 use Rattle.object_trait.specs.Sound.{IsLocked, IsInOrder, IsSoundUndo}
 use Rattle.object_trait.specs.Steps.{IsOfAnotherOpen, IsSettled, marked}
 use Rattle.object_trait.specs.Laws.{PartsSort, StruckPart, SortsLook}
@@ -33,7 +33,7 @@ undo-applied along o base log t k sound legal free =
     let entry : LogEntry = record { by = t; op = k; done = false } in
     record {
       inside = sound.inside;
-      legal = rw (ops-append log (entry ∷ [])) (push-legal along o.table (Some base) (ops_of log) (k ∷ []) legal);
+      legal = rw (ops-append log (entry ∷ [])) (push-legal along o.table (Some base) (log_ops log) (k ∷ []) legal);
       in_order = pairs-push IsInOrder log entry sound.in_order (each-weaker (λ a _ _ _. refl) log free);
       locked = pairs-push (IsLocked o) log entry sound.locked (locked-applied o t k log free);
     }
@@ -44,8 +44,8 @@ undo-applied along o base log t k sound legal free =
 settled : RunsAlong → EndsInside → (o : Object) → Covers Undo o.table o.set o.conflicts → (base : ℕ) (log : List LogEntry) (new_base : ℕ) (new_log : List LogEntry) →
     IsSoundUndo o base log → IsSettled o base log new_base new_log → IsSoundUndo o new_base new_log
 settled along ends o covers base log new_base new_log sound s = record {
-  inside = ends o.table o.set base new_base (ops_of s.moved) covers.closed sound.inside s.reached;
-  legal = legal-behind along o.table (Some base) (ops_of s.moved) (ops_of new_log) new_base s.reached (rw (s.front, ops-append s.moved new_log) at sound.legal);
+  inside = ends o.table o.set base new_base (log_ops s.moved) covers.closed sound.inside s.reached;
+  legal = legal-behind along o.table (Some base) (log_ops s.moved) (log_ops new_log) new_base s.reached (rw (s.front, ops-append s.moved new_log) at sound.legal);
   in_order = pairs-behind IsInOrder s.moved new_log (rw s.front at sound.in_order);
   locked = pairs-behind (IsLocked o) s.moved new_log (rw s.front at sound.locked);
 }
@@ -53,7 +53,7 @@ settled along ends o covers base log new_base new_log sound s = record {
 -- ---- commit
 
 -- marks change no operation
-ops-marked : (t : ℕ) (log : List LogEntry) → ops_of (map (marked t) log) ≡ ops_of log
+ops-marked : (t : ℕ) (log : List LogEntry) → log_ops (map (marked t) log) ≡ log_ops log
 ops-marked t [] = refl
 ops-marked t (e ∷ log) = ap (λ rest. e.op ∷ rest) (ops-marked t log)
 
@@ -101,14 +101,14 @@ mine-passes o t a b locked order mine isnt =
 
 -- a sound log of which only the first n open entries of t are left is legal: the others can be moved to its end
 pub struck-legal : PartsSort LogEntry → StruckPart LogEntry → SortsLook LogEntry → (o : Object) → Covers Undo o.table o.set o.conflicts →
-    (base : ℕ) (log : List LogEntry) (t n : ℕ) → IsSoundUndo o base log → IsLegal o.table (Some base) (ops_of (keep_first (is_open_of t) n log))
+    (base : ℕ) (log : List LogEntry) (t n : ℕ) → IsSoundUndo o base log → IsLegal o.table (Some base) (log_ops (keep_first (is_open_of t) n log))
 struck-legal parts strike sorts o covers base log t n sound =
     let mine : LogEntry → Bool = is_open_of t in
     let left : List LogEntry = keep_first mine n log in
     let gone : List LogEntry = drop n (filter mine log) in
     let sorted = parts (passes o) log left gone (strike (passes o) mine n log (pairs-both (mine-passes o t) log sound.locked sound.in_order)) in
     let looks = sorts o.table o.set (λ e. e.op) (passes o) base log (left ++ gone) covers.closed sound.inside (passes-commute o covers) sorted sound.legal in
-    legal-front o.table (Some base) (ops_of left) (ops_of gone) (rw (ops-append left gone) at looks.0)
+    legal-front o.table (Some base) (log_ops left) (log_ops gone) (rw (ops-append left gone) at looks.0)
 
 -- update in place stays sound by a strike
 pub undo-struck : RunsAlong → EndsInside → PartsSort LogEntry → StruckPart LogEntry → SortsLook LogEntry → (o : Object) → Covers Undo o.table o.set o.conflicts →

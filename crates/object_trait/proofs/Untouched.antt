@@ -8,7 +8,7 @@ use Rattle.type_table.specs.declared.kind.Kind.{Kind}
 use Rattle.type_table.specs.declared.kind.Kind.TheVariants.{Undo, Intentions, Escrow}
 use Rattle.table_checker.specs.Checked.{Checked}
 use Rattle.object_trait.specs.Object.{Object, object_of}
-use Rattle.object_trait.specs.Meaning.{Meaning, object, ops_of, is_open_of, open_of, run_log, state_by, view_by}
+use Rattle.object_trait.specs.Meaning.{Meaning, object, log_ops, is_open_of, open_of, run_log, state_by, view_by}
 use Rattle.object_trait.specs.Sound.{IsSoundBy}
 use Rattle.object_trait.specs.Steps.{IsSettled, marked, IsCommitBy, IsStrikeBy, ShowsTheSame}
 use Rattle.object_trait.specs.Laws.{UntouchedStays, UntouchedShowsTheSame}
@@ -68,7 +68,7 @@ none_open t (e ∷ moved) log done =
 -- a run over done entries that moved into base
 settled-run : RunsAlong → (o : Object) (base : ℕ) (log : List LogEntry) (new_base : ℕ) (new_log : List LogEntry) → IsSettled o base log new_base new_log → run_log o new_base new_log ≡ run_log o base log
 settled-run along o base log new_base new_log s =
-    ap (λ from. run o.table from (ops_of new_log)) (sym s.reached) ∙ sym (along o.table (Some base) (ops_of s.moved) (ops_of new_log)) ∙ ap (run o.table (Some base)) (sym (ops-append s.moved new_log))
+    ap (λ from. run o.table from (log_ops new_log)) (sym s.reached) ∙ sym (along o.table (Some base) (log_ops s.moved) (log_ops new_log)) ∙ ap (run o.table (Some base)) (sym (ops-append s.moved new_log))
     ∙ ap (run_log o base) (sym s.front)
 
 -- what is shown of a base and a log

@@ -17,8 +17,8 @@ abbrev pub held : ℕ → ℕ → LogEntry
 held t k = record { by = t; op = k; done = false }
 
 -- a done one
-abbrev pub past : ℕ → ℕ → LogEntry
-past t k = record { by = t; op = k; done = true }
+abbrev pub done_entry : ℕ → ℕ → LogEntry
+done_entry t k = record { by = t; op = k; done = true }
 
 -- the counter under a kind of recovery
 abbrev pub counter_at : Kind → ℕ → List LogEntry → Meaning

@@ -8,9 +8,9 @@ use Rattle.type_table.specs.Commute.{CommutesBackward, CommutesBackwardBothWays}
 use Rattle.type_table.specs.declared.kind.Kind.TheVariants.{Undo, Intentions}
 use Rattle.table_checker.specs.Checked.{Checked, IsChecked, IsStrong}
 use Rattle.object_trait.specs.Object.{IsCovered, IsCoveredStrongly, object_of}
-use Rattle.object_trait.specs.Orders.{Pairs, Sorts, Parts}
+use Rattle.object_trait.specs.Orders.{Pairs, Sorts, SplitsInto}
 use Rattle.object_trait.specs.Strike.{keep_first}
-use Rattle.object_trait.specs.Meaning.{Meaning, object, ops_of, is_open_of, open_of}
+use Rattle.object_trait.specs.Meaning.{Meaning, object, log_ops, is_open_of, open_of}
 use Rattle.object_trait.specs.Sound.{IsSound}
 use Rattle.object_trait.specs.Steps.{IsFresh, open_transactions, MayApply, applied, IsCommit, Keeps, ShowsTheSame}
 use Rattle.object_trait.specs.declared.log_entry.LogEntry.{LogEntry}
@@ -19,7 +19,7 @@ use Rattle.object_trait.specs.declared.log_entry.LogEntry.{LogEntry}
 
 -- in two parts of which one may move after the other, it can be moved to the end, neighbour by neighbour
 abbrev pub PartsSort : Type 0 → Type 0
-PartsSort E = (free : E → E → Bool) (V A B : List E) → Parts free V A B → Sorts free V (A ++ B)
+PartsSort E = (free : E → E → Bool) (V A B : List E) → SplitsInto free V A B → Sorts free V (A ++ B)
 
 -- what `keep_first` keeps: the first n of mine, and all others, in their order
 abbrev pub KeepsFirst : Type 0 → Type 0
@@ -45,7 +45,7 @@ KeepsOthers E =
 abbrev pub StruckPart : Type 0 → Type 0
 StruckPart E =
     (free : E → E → Bool) (mine : E → Bool) (n : ℕ) (V : List E) → Pairs (λ a b. mine a ≡ true → mine b ≡ false → free a b ≡ true) V
-    → Parts free V (keep_first mine n V) (drop n (filter mine V))
+    → SplitsInto free V (keep_first mine n V) (drop n (filter mine V))
 
 -- where neighbours that are exchanged commute backward (b, the later one, is requested and moves before a), what a list sorts
 -- into is legal where the list is, and the list's end looks like the other's
@@ -86,7 +86,7 @@ CommuteFrom T s v w = IsLegal T (Some s) (v ++ w) × IsLegal T (Some s) (w ++ v)
 abbrev pub OpensCommute : Type 0
 OpensCommute =
     (m : Meaning) (t u : ℕ) → IsCovered (object m) → m.checked.kind ≡ Intentions → IsSound m → (t == u) ≡ false
-    → CommuteFrom (object m).table m.base (ops_of (open_of t m.log)) (ops_of (open_of u m.log))
+    → CommuteFrom (object m).table m.base (log_ops (open_of t m.log)) (log_ops (open_of u m.log))
 
 -- a new object's meaning is sound
 abbrev pub FreshIsSound : Type 0

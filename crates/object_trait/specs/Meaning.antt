@@ -17,8 +17,8 @@ abbrev pub object : Meaning → Object
 object m = object_of m.checked
 
 -- the operations of a log
-abbrev pub ops_of : List LogEntry → List ℕ
-ops_of log = map (λ e. e.op) log
+abbrev pub log_ops : List LogEntry → List ℕ
+log_ops log = map (λ e. e.op) log
 
 -- an entry of t that isn't done
 abbrev pub is_open_of : ℕ → LogEntry → Bool
@@ -34,11 +34,11 @@ open_of t log = filter (is_open_of t) log
 
 -- what each transaction did
 abbrev pub own_of : List LogEntry → ℕ → List ℕ
-own_of log t = ops_of (open_of t log)
+own_of log t = log_ops (open_of t log)
 
 -- the state after the operations of a log
 abbrev pub run_log : Object → ℕ → List LogEntry → Option ℕ
-run_log o base log = run o.table (Some base) (ops_of log)
+run_log o base log = run o.table (Some base) (log_ops log)
 
 -- the object's state: with update in place that after the whole log, with deferred update and in escrow base
 abbrev pub state_by : Kind → Object → ℕ → List LogEntry → Option ℕ

@@ -15,7 +15,7 @@ pub data Sorts {E : Type 0} (free : E → E → Bool) : List E → List E → Ty
   chain : {U V W : List E} → Sorts free U V → Sorts free V W → Sorts free U W
 
 -- V is two lists, shuffled: one whose elements stay, and one whose elements may each move after those of the first that come after it
-pub data Parts {E : Type 0} (free : E → E → Bool) : List E → List E → List E → Type 0 where
-  none : Parts free [] [] []
-  stay : {a : E} {V A B : List E} → Parts free V A B → Parts free (a ∷ V) (a ∷ A) B
-  goes : {b : E} {V A B : List E} → AllByRecursion (λ a. free b a ≡ true) A → Parts free V A B → Parts free (b ∷ V) A (b ∷ B)
+pub data SplitsInto {E : Type 0} (free : E → E → Bool) : List E → List E → List E → Type 0 where
+  none : SplitsInto free [] [] []
+  stay : {a : E} {V A B : List E} → SplitsInto free V A B → SplitsInto free (a ∷ V) (a ∷ A) B
+  goes : {b : E} {V A B : List E} → AllByRecursion (λ a. free b a ≡ true) A → SplitsInto free V A B → SplitsInto free (b ∷ V) A (b ∷ B)

@@ -4,25 +4,25 @@ use Rattle.std.specs.Prelude.{◌≡◌, ℕ, suc, ◌<◌, nat_lt, List, length
 use Rattle.object_trait.specs.Orders.{Pairs}
 
 -- whose rows they are
-abbrev pub owners : {E : Type 0} → (E → ℕ) → List E → List ℕ
-owners by rows = map by rows
+abbrev pub row_owners : {E : Type 0} → (E → ℕ) → List E → List ℕ
+row_owners by rows = map by rows
 
 -- each is of an earlier transaction than those after it
-abbrev pub AreOrdered : {E : Type 0} → (E → ℕ) → List E → Type 0
-AreOrdered by rows = Pairs (λ a b. a < b) (map by rows)
+abbrev pub RowsAscend : {E : Type 0} → (E → ℕ) → List E → Type 0
+RowsAscend by rows = Pairs (λ a b. a < b) (map by rows)
 
--- whose row is at a place, 0 where there is none
+-- whose row is at an index, 0 where there is none
 abbrev pub owner_at : {E : Type 0} → (E → ℕ) → List E → ℕ → ℕ
 owner_at by rows at = slice_index_or (map by rows) at 0
 
--- t's place among the rows: after those of earlier transactions
-abbrev pub place_of : {E : Type 0} → (E → ℕ) → ℕ → List E → ℕ
-place_of by t [] = 0
-place_of by t (row ∷ rows) = if nat_lt (by row) t then suc (place_of by t rows) else 0
+-- t's index among the rows: after those of earlier transactions
+abbrev pub row_index : {E : Type 0} → (E → ℕ) → ℕ → List E → ℕ
+row_index by t [] = 0
+row_index by t (row ∷ rows) = if nat_lt (by row) t then suc (row_index by t rows) else 0
 
--- t's row is at this place
-abbrev pub IsAt : {E : Type 0} → (E → ℕ) → ℕ → ℕ → List E → Type 0
-IsAt by t at rows = (at < length rows) × (owner_at by rows at ≡ t)
+-- t's row is at this index
+abbrev pub IsRowAt : {E : Type 0} → (E → ℕ) → ℕ → ℕ → List E → Type 0
+IsRowAt by t at rows = (at < length rows) × (owner_at by rows at ≡ t)
 
 -- what t's row shows, or this where it has no row
 abbrev pub shown_of : {E S : Type 0} → (E → ℕ) → (E → S) → S → ℕ → List E → S

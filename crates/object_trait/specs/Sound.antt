@@ -7,7 +7,7 @@ use Rattle.type_table.specs.declared.kind.Kind.{Kind}
 use Rattle.type_table.specs.declared.kind.Kind.TheVariants.{Undo, Intentions, Escrow}
 use Rattle.object_trait.specs.Object.{Object}
 use Rattle.object_trait.specs.Orders.{Pairs}
-use Rattle.object_trait.specs.Meaning.{Meaning, object, ops_of, open_of, own_of}
+use Rattle.object_trait.specs.Meaning.{Meaning, object, log_ops, open_of, own_of}
 use Rattle.object_trait.specs.declared.log_entry.LogEntry.{LogEntry}
 
 -- an open entry conflicts with nothing that another transaction did after it
@@ -21,7 +21,7 @@ IsInOrder entry later = entry.done ≡ false → (later.by == entry.by) ≡ true
 -- update in place: the whole log is legal from base
 pub record IsSoundUndo (o : Object) (base : ℕ) (log : List LogEntry) : Type 0 where
   pub inside : o.set base ≡ true
-  pub legal : IsLegal o.table (Some base) (ops_of log)
+  pub legal : IsLegal o.table (Some base) (log_ops log)
   pub in_order : Pairs IsInOrder log
   pub locked : Pairs (IsLocked o) log
 
@@ -29,7 +29,7 @@ pub record IsSoundUndo (o : Object) (base : ℕ) (log : List LogEntry) : Type 0 
 pub record IsSoundIntentions (o : Object) (base : ℕ) (log : List LogEntry) : Type 0 where
   pub inside : o.set base ≡ true
   pub all_open : AllByRecursion (λ e. e.done ≡ false) log
-  pub legal : (t : ℕ) → IsLegal o.table (Some base) (ops_of (open_of t log))
+  pub legal : (t : ℕ) → IsLegal o.table (Some base) (log_ops (open_of t log))
   pub locked : Pairs (IsLocked o) log
 
 -- escrow: all entries are open, and those of each transaction are legal whatever the others do

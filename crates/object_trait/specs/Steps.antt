@@ -55,13 +55,13 @@ abbrev pub stopper : Meaning → ℕ → ℕ → Option ℕ
 stopper m t k = option_map (λ e. e.by) (find (λ e. not (e.by == t) && stops m t k e) (filter (λ e. not e.done) m.log))
 
 -- u keeps t from an operation with this amount at the place or at the next, which is legal for t
-abbrev pub IsKeptAt : Meaning → ℕ → ℕ → ℕ → ℕ → Type 0
-IsKeptAt m t place u n = (k : ℕ) × ((k ≡ operation_at place (Some n)) ⊎ (k ≡ operation_at (place + 1) (Some n))) × IsLegalFor m t k × (stopper m t k ≡ Some u)
+abbrev pub IsKeptByAmount : Meaning → ℕ → ℕ → ℕ → ℕ → Type 0
+IsKeptByAmount m t place u n = (k : ℕ) × ((k ≡ operation_at place (Some n)) ⊎ (k ≡ operation_at (place + 1) (Some n))) × IsLegalFor m t k × (stopper m t k ≡ Some u)
 
 -- what is found is such an amount, and where there is one some is found
 pub record TellsKept (m : Meaning) (t place u : ℕ) (found : Option ℕ) : Type 0 where
-  pub kept : (n : ℕ) → found ≡ Some n → IsKeptAt m t place u n
-  pub all : (n : ℕ) → IsKeptAt m t place u n → is_some found ≡ true
+  pub kept : (n : ℕ) → found ≡ Some n → IsKeptByAmount m t place u n
+  pub all : (n : ℕ) → IsKeptByAmount m t place u n → is_some found ≡ true
 
 -- the caller's condition: k is legal for t and conflicts with no entry of another open transaction, and the log has room
 pub record MayApply (m : Meaning) (t k : ℕ) : Type 0 where

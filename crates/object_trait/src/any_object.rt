@@ -3,8 +3,8 @@
 ghost use Rattle.std.specs.Prelude.{◌≡◌};
 
 use crate::recovery::Recovery;
+use declared_types::DeclaredType;
 use std::alloc::AllocError;
-use table_checker::DeclaredType;
 use type_table::Operation;
 
 /// An object of any kind of recovery, boxed by the caller. Its meaning is that of the object in the

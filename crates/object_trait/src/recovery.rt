@@ -2,12 +2,12 @@
 
 ghost use Rattle.std.specs.Prelude.{◌≡◌, ◌↔◌, ◌<◌, ◌≤◌, ◌%◌, true, Some, length, OnOk, OnErr};
 ghost use Rattle.table_checker.specs.Checked.{IsChecked};
-ghost use Rattle.table_checker.specs.Declarations.{file_of, IsDeclaredFor};
+ghost use Rattle.declared_types.specs.Declarations.{file_of, IsDeclaredFor};
 ghost use Rattle.object_trait.specs.Meaning.{Meaning, state_of, view_of, open_of};
 ghost use Rattle.object_trait.specs.Steps.{IsLegalFor, TellsKept, open_transactions, IsFresh, stopper, MayApply, applied, IsCommit, IsStrike, IsAbort};
 
+use declared_types::DeclaredType;
 use std::alloc::AllocError;
-use table_checker::DeclaredType;
 use type_table::Operation;
 
 /// An object that many transactions share, with its way of recovering from aborts.
@@ -50,9 +50,9 @@ pub trait Recovery: Send + Drop {
         requires legal { IsLegalFor (meaning self.now) t k }
         ensures { result ≡ stopper (meaning self.now) t k };
 
-    /// An amount from whose operation at this place, or at the next one, u keeps t, where that operation is
-    /// legal for t; None where there is none. The place is the first one of a number's line: the next one is
-    /// that of the other reply.
+    /// Whether u keeps t from an operation of a number's line. This place is the first one of the line, the next
+    /// one is that of the other reply. The answer is an amount: at one of the two places the operation with this
+    /// amount is legal for t, and u keeps t from it. None says that there is no such amount.
     fn amount_kept(&self, t: u32, place: u8, u: u32) -> Option<u32>
         requires { place % 2 ≡ 0 }
         ensures { TellsKept (meaning self.now) t place u result };

@@ -7,7 +7,7 @@ ghost use Rattle.object_trait.specs.Strike.{keep_first};
 ghost use Rattle.object_trait.specs.Meaning.{state_of, view_of};
 ghost use Rattle.object_trait.specs.Sound.{IsSound};
 ghost use Rattle.object_trait.specs.Steps.{IsLegalFor, open_transactions, MayApply, IsCommit, IsStrike, IsAbort, IsIntentionsCommit, ShowsTheSame};
-ghost use Rattle.object_trait.specs.Examples.{held, past, counter_at, two_ups, up_and_down, down_on_up, two_alike};
+ghost use Rattle.object_trait.specs.Examples.{held, done_entry, counter_at, two_ups, up_and_down, down_on_up, two_alike};
 
 use crate::laws::untouched_shows_the_same;
 use type_table::Kind;
@@ -21,7 +21,7 @@ pub fn a_strike_keeps_the_first_of_mine()
 
 /// A transaction with two open entries is listed once, and one whose entries are done not at all.
 pub fn open_transactions_are_listed_once()
-    ensures { open_transactions (held 1 0 ∷ held 2 0 ∷ held 1 1 ∷ past 3 0 ∷ []) ≡ 2 ∷ 1 ∷ [] }
+    ensures { open_transactions (held 1 0 ∷ held 2 0 ∷ held 1 1 ∷ done_entry 3 0 ∷ []) ≡ 2 ∷ 1 ∷ [] }
 {}
 
 /// With update in place each transaction sees the state after the whole log, also one that did nothing.
@@ -59,9 +59,9 @@ pub fn what_commutes_may_be_applied()
 /// A commit in place marks the entries, and may move done ones at the front of the log into the base.
 /// A done entry after an open one stays.
 pub fn a_commit_in_place_may_settle()
-    ensures stays { IsCommit two_ups 1 (counter_at Kind.Undo 0 (past 1 0 ∷ held 2 0 ∷ [])) }
+    ensures stays { IsCommit two_ups 1 (counter_at Kind.Undo 0 (done_entry 1 0 ∷ held 2 0 ∷ [])) }
     ensures settles { IsCommit two_ups 1 (counter_at Kind.Undo 1 (held 2 0 ∷ [])) }
-    ensures behind { IsCommit two_ups 2 (counter_at Kind.Undo 0 (held 1 0 ∷ past 2 0 ∷ [])) }
+    ensures behind { IsCommit two_ups 2 (counter_at Kind.Undo 0 (held 1 0 ∷ done_entry 2 0 ∷ [])) }
 {}
 
 /// A deferred commit runs the transaction's entries on the base, and one with none changes nothing.
@@ -74,8 +74,8 @@ pub fn a_deferred_commit_runs_its_entries()
 /// The commit of a transaction without entries may move a done entry into the base, in place, which
 /// shows the same. Deferred it leaves the base, also for another state that no operation distinguishes from it.
 pub fn a_commit_without_entries_shows_the_same()
-    ensures in_place { IsCommit (counter_at Kind.Undo 0 (past 1 0 ∷ held 2 0 ∷ [])) 3 (counter_at Kind.Undo 1 (held 2 0 ∷ [])) }
-    ensures the_same { ShowsTheSame (counter_at Kind.Undo 0 (past 1 0 ∷ held 2 0 ∷ [])) (counter_at Kind.Undo 1 (held 2 0 ∷ [])) }
+    ensures in_place { IsCommit (counter_at Kind.Undo 0 (done_entry 1 0 ∷ held 2 0 ∷ [])) 3 (counter_at Kind.Undo 1 (held 2 0 ∷ [])) }
+    ensures the_same { ShowsTheSame (counter_at Kind.Undo 0 (done_entry 1 0 ∷ held 2 0 ∷ [])) (counter_at Kind.Undo 1 (held 2 0 ∷ [])) }
     ensures alike { AreEqui two_alike.table (Some 0) (Some 1) }
     ensures stays { IsIntentionsCommit two_alike 0 [] 1 0 [] }
     ensures moves { IsIntentionsCommit two_alike 0 [] 1 1 [] → ⊥ }

@@ -3,7 +3,7 @@ use Rattle.std.proofs.Common.{◌≡◌, ℕ, ◌<◌, List, length, Some, arith
 use Rattle.std.specs.Prelude.{slice_get}
 use Rattle.std.proofs.lemmas.Option.{slice_get_within}
 use Rattle.type_table.proofs.Elements.{element_at}
-use Rattle.table_checker.specs.declared.declared_type.Declaration.{Declaration}
+use Rattle.declared_types.specs.declared.declared_type.Declaration.{Declaration}
 use Rattle.table_checker.specs.Checked.{Checked, IsChecked}
 use Rattle.store_text.specs.declared.line.ObjectLine.{ObjectLine}
 use Rattle.object_types.specs.Types.{AreTypesOf}

@@ -8,13 +8,13 @@ use Rattle.std.proofs.lemmas.Option.{slice_get-get_or, slice_get-map, slice_get_
 use Rattle.type_table.specs.declared.kind.Kind.{Kind}
 use Rattle.type_table.proofs.Elements.{take-found}
 use Rattle.type_table.specs.declared.kind.Kind.TheVariants.{Escrow}
-use Rattle.number_text.specs.NumberFile.{Number}
-use Rattle.table_checker.specs.declared.declared_type.Declaration.{Declaration}
-use Rattle.table_checker.specs.declared.declared_type.Declaration.TheVariants.{Number as Numbers}
+use Rattle.number_types.specs.Number.{Number}
+use Rattle.declared_types.specs.declared.declared_type.Declaration.{Declaration}
+use Rattle.declared_types.specs.declared.declared_type.Declaration.TheVariants.{Number as Numbers}
 use Rattle.table_checker.specs.Checked.{Checked, IsChecked}
-use Rattle.table_checker.specs.Declarations.{number_file}
+use Rattle.declared_types.specs.Declarations.{number_file}
 use Rattle.store_text.specs.declared.line.ObjectLine.{ObjectLine}
-use Rattle.object_types.specs.Types.{AreTypesOf, IsAccepted, IsCheckedFor, IsFaultAt, IsFirstFault, IsRefusedFor, IsTypeOf, value_of}
+use Rattle.object_types.specs.Types.{AreTypesOf, HasAcceptedType, IsCheckedFor, IsFaultAt, IsFirstObjectFault, IsRefusedFor, IsTypeOf, value_of}
 use Rattle.object_types.specs.declared.object_fault.ObjectFault.{ObjectFault}
 use Rattle.object_types.specs.declared.object_fault.ObjectFault.TheVariants.{NoType, NeedsEscrow, Refused, NoMemory}
 use Rattle.object_types.proofs.Pairs.{each_has, each_push, one_more}
@@ -58,14 +58,14 @@ refused_at declared x o declaration (Err NoMemory) there refused = tt
 
 -- the objects before one are accepted
 accepted_before : (declared : List Declaration) (objects : List ObjectLine) (x : ℕ) (types : List Checked) → AreTypesOf declared (take x objects) types
-    → (y : ℕ) (p : ObjectLine) → slice_get (take x objects) y ≡ Some p → IsAccepted declared p
+    → (y : ℕ) (p : ObjectLine) → slice_get (take x objects) y ≡ Some p → HasAcceptedType declared p
 accepted_before declared objects x types known y p got =
     let has = each_has (IsTypeOf declared) (take x objects) types known.as_many known.each y p got in
     (has.0, has.2)
 
 -- the first object without a type
 pub first_fault : (declared : List Declaration) (objects : List ObjectLine) (x : ℕ) (o : ObjectLine) (types : List Checked) (fault : ObjectFault) → slice_get objects x ≡ Some o
-    → AreTypesOf declared (take x objects) types → IsFaultAt declared x o fault → IsFirstFault IsAccepted declared objects fault
+    → AreTypesOf declared (take x objects) types → IsFaultAt declared x o fault → IsFirstObjectFault HasAcceptedType declared objects fault
 first_fault declared objects x o types (NoType y place) there known at =
     record { x = x; o = o; there = there; before = accepted_before declared objects x types known; at = at }
 first_fault declared objects x o types (NeedsEscrow y) there known at =

@@ -2,10 +2,10 @@
 use Rattle.std.specs.Prelude.{ℕ, List, [], ◌∷◌}
 use Rattle.type_table.specs.declared.kind.Kind.{Kind}
 use Rattle.type_table.specs.declared.kind.Kind.TheVariants.{Undo}
-use Rattle.number_text.specs.Examples.{five}
+use Rattle.number_types.specs.Examples.{five}
 use Rattle.table_checker.specs.Examples.{counter_file, one_way_file}
-use Rattle.table_checker.specs.declared.declared_type.Declaration.{Declaration}
-use Rattle.table_checker.specs.declared.declared_type.Declaration.TheVariants.{Table, Number as Numbers}
+use Rattle.declared_types.specs.declared.declared_type.Declaration.{Declaration}
+use Rattle.declared_types.specs.declared.declared_type.Declaration.TheVariants.{Table, Number as Numbers}
 use Rattle.store_text.specs.declared.line.ObjectLine.{ObjectLine}
 
 -- the counter of two and the one-way type, in this order
@@ -21,5 +21,5 @@ abbrev pub of_kind : Kind → ℕ → ObjectLine
 of_kind kind place = record { kind = kind; file = place }
 
 -- one with update in place
-abbrev pub at_place : ℕ → ObjectLine
-at_place place = of_kind Undo place
+abbrev pub line_in_place : ℕ → ObjectLine
+line_in_place place = of_kind Undo place

@@ -2,9 +2,9 @@
 use Rattle.std.specs.Prelude.{◌≡◌, ℕ, List, Some, None, length, take, slice_get}
 use Rattle.type_table.specs.declared.kind.Kind.{Kind}
 use Rattle.table_checker.specs.Checked.{Checked, IsChecked}
-use Rattle.table_checker.specs.Declarations.{file_of, IsDeclaredFor}
+use Rattle.declared_types.specs.Declarations.{file_of, IsDeclaredFor}
 use Rattle.table_checker.specs.Refusal.{IsFirstReason}
-use Rattle.table_checker.specs.declared.declared_type.Declaration.{Declaration}
+use Rattle.declared_types.specs.declared.declared_type.Declaration.{Declaration}
 use Rattle.std.specs.Arc.{arc_value}
 use Rattle.std.specs.declared.sync.Arc.{Arc}
 use Rattle.store_text.specs.declared.line.ObjectLine.{ObjectLine}
@@ -35,12 +35,12 @@ pub record AreTypesOf (declared : List Declaration) (objects : List ObjectLine) 
 -- ---- objects without types
 
 -- the object's type is accepted
-abbrev pub IsAccepted : List Declaration → ObjectLine → Type 0
-IsAccepted declared o = (c : Checked) × IsTypeOf declared o c
+abbrev pub HasAcceptedType : List Declaration → ObjectLine → Type 0
+HasAcceptedType declared o = (c : Checked) × IsTypeOf declared o c
 
 -- the object's place is that of a type
-abbrev pub HasPlace : List Declaration → ObjectLine → Type 0
-HasPlace declared o = (declaration : Declaration) × (slice_get declared o.file ≡ Some declaration)
+abbrev pub HasDeclaration : List Declaration → ObjectLine → Type 0
+HasDeclaration declared o = (declaration : Declaration) × (slice_get declared o.file ≡ Some declaration)
 
 -- a number is named with another kind than escrow; or the declaration may be for the kind, and isn't accepted; or memory was refused
 abbrev pub IsRefusedFor : Kind → Declaration → ℕ → ObjectFault → Type 0
@@ -68,13 +68,13 @@ pub record IsFirstWith (IsGood : List Declaration → ObjectLine → Type 0) (de
   pub at : IsFaultAt declared x o fault
 
 -- the first object that has none, or memory was refused
-abbrev pub IsFirstFault : (List Declaration → ObjectLine → Type 0) → List Declaration → List ObjectLine → ObjectFault → Type 0
-IsFirstFault IsGood declared objects NoMemory = Unit {0}
-IsFirstFault IsGood declared objects fault = IsFirstWith IsGood declared objects fault
+abbrev pub IsFirstObjectFault : (List Declaration → ObjectLine → Type 0) → List Declaration → List ObjectLine → ObjectFault → Type 0
+IsFirstObjectFault IsGood declared objects NoMemory = Unit {0}
+IsFirstObjectFault IsGood declared objects fault = IsFirstWith IsGood declared objects fault
 
 -- object x names this place, which isn't that of a type, and the places of the objects before it are
 abbrev pub IsUnplacedAt : List Declaration → List ObjectLine → ℕ → ℕ → Type 0
-IsUnplacedAt declared objects x place = IsFirstWith HasPlace declared objects (NoType x place)
+IsUnplacedAt declared objects x place = IsFirstWith HasDeclaration declared objects (NoType x place)
 
 -- an object names no type
 abbrev pub IsUnplaced : List Declaration → List ObjectLine → Type 0

@@ -1,17 +1,17 @@
 //! The checked types of objects, one after another.
 
 ghost use Rattle.std.specs.Prelude.{◌≡◌, true, Some, map, IfOk, IfErr, IfSome, slice_get};
-ghost use Rattle.table_checker.specs.declared.declared_type.Declaration.{Declaration as AnyDeclaration};
-ghost use Rattle.object_types.specs.Types.{AreTypesOf, IsTypeOf, IsFirstFault, IsAccepted, IsFaultAt, IsCheckedFor, IsRefusedFor, value_of};
+ghost use Rattle.declared_types.specs.declared.declared_type.Declaration.{Declaration as AnyDeclaration};
+ghost use Rattle.object_types.specs.Types.{AreTypesOf, IsTypeOf, IsFirstObjectFault, HasAcceptedType, IsFaultAt, IsCheckedFor, IsRefusedFor, value_of};
 
 use crate::object_fault::ObjectFault;
-use number_text::NumberFile;
+use declared_types::{Declaration, DeclaredType, TypeFile};
+use number_types::NumberFile;
 use std::alloc::Global;
 use std::sync::Arc;
 use store_text::ObjectLine;
-use table_checker::{CheckedType, Declaration, DeclaredType, check, check_number};
+use table_checker::{CheckedType, check, check_number};
 use type_table::Kind;
-use type_text::TypeFile;
 
 /// The checked types of some objects, in their order. Objects of one kind at one place share theirs.
 ///
@@ -25,7 +25,7 @@ pub fn accept_types(
     objects: &[ObjectLine],
 ) -> Result<Vec<Arc<CheckedType>>, ObjectFault>
     ensures accepted { IfOk result (λ types. AreTypesOf declared.now objects.now (map value_of types.items)) }
-    ensures refused { IfErr result (IsFirstFault IsAccepted declared.now objects.now) }
+    ensures refused { IfErr result (IsFirstObjectFault HasAcceptedType declared.now objects.now) }
 {
     let mut types = Vec::new(alloc);
     for (x, object) in objects.iter().enumerate() {

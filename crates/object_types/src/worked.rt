@@ -2,24 +2,24 @@
 #![tactic(auto)]
 
 ghost use Rattle.std.specs.Prelude.{[], ◌∷◌};
-ghost use Rattle.object_types.specs.Types.{HasPlace, IsFaultAt, IsUnplacedAt};
+ghost use Rattle.object_types.specs.Types.{HasDeclaration, IsFaultAt, IsUnplacedAt};
 ghost use Rattle.type_table.specs.declared.kind.Kind.TheVariants.{Undo, Escrow};
-ghost use Rattle.object_types.specs.Examples.{with_a_number, two_types, at_place, of_kind};
+ghost use Rattle.object_types.specs.Examples.{with_a_number, two_types, line_in_place, of_kind};
 
 use crate::object_fault::ObjectFault;
 
 /// One object's place is that of the second of two types, another's is after them.
 pub fn an_object_names_a_place()
-    ensures place { HasPlace two_types (at_place 1) }
-    ensures no_place { HasPlace two_types (at_place 2) → ⊥ }
+    ensures place { HasDeclaration two_types (line_in_place 1) }
+    ensures no_place { HasDeclaration two_types (line_in_place 2) → ⊥ }
 {}
 
 /// The second object and the third name no type. The fault is that of the second.
 pub fn the_first_object_has_the_fault()
-    ensures first { IsUnplacedAt two_types (at_place 1 ∷ at_place 2 ∷ at_place 3 ∷ []) 1 2 }
-    ensures later { IsUnplacedAt two_types (at_place 1 ∷ at_place 2 ∷ at_place 3 ∷ []) 2 3 → ⊥ }
-    ensures elsewhere { IsFaultAt two_types 1 (at_place 2) (ObjectFault.NoType 0 2) → ⊥ }
-    ensures there { IsFaultAt two_types 1 (at_place 1) (ObjectFault.NoType 1 1) → ⊥ }
+    ensures first { IsUnplacedAt two_types (line_in_place 1 ∷ line_in_place 2 ∷ line_in_place 3 ∷ []) 1 2 }
+    ensures later { IsUnplacedAt two_types (line_in_place 1 ∷ line_in_place 2 ∷ line_in_place 3 ∷ []) 2 3 → ⊥ }
+    ensures elsewhere { IsFaultAt two_types 1 (line_in_place 2) (ObjectFault.NoType 0 2) → ⊥ }
+    ensures there { IsFaultAt two_types 1 (line_in_place 1) (ObjectFault.NoType 1 1) → ⊥ }
 {}
 
 /// A number needs escrow where an object of another kind names it, and a table never does.

@@ -1,11 +1,12 @@
 ghost use Rattle.std.specs.Prelude.{◌≡◌};
 
+use declared_types::DeclaredType;
 use escrow_manager::EscrowManager;
 use intentions_manager::IntentionsManager;
 use object_trait::{Recovery, Renew};
 use std::alloc::{AllocError, Global};
 use std::sync::Arc;
-use table_checker::{CheckedType, DeclaredType};
+use table_checker::CheckedType;
 use type_table::{Kind, Operation};
 use undo_manager::UndoManager;
 

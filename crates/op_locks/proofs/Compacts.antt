@@ -8,7 +8,7 @@ use Rattle.std.proofs.lemmas.List.{drop_more, drop-set-lt, take_more_set, take-s
 use Rattle.std.proofs.lemmas.List.Elements.{All-head, All-same, All-drop}
 use Rattle.object_trait.specs.Strike.{keep_first}
 use mir.Val.{bool_byte}
-use Rattle.op_locks.specs.Locks.{is_by, stays as does_stay, HasBits}
+use Rattle.op_locks.specs.Locks.{is_held_by, stays_held, HasBits}
 use Rattle.op_locks.proofs.Words.{HasBits-push}
 use Rattle.op_locks.specs.declared.held.Held.{Held}
 
@@ -26,7 +26,7 @@ keep_first-goes mine e V is_mine = rw is_mine refl
 
 -- ys began as xs. In its first places is what stays of xs before i, where `left` of t's may stay from i on
 pub record Compacts (t first : ℕ) (xs ys : List Held) (left count word i : ℕ) : Type 0 where
-  pub front : take count ys ++ keep_first (is_by t) left (drop i xs) ≡ keep_first (is_by t) first xs
+  pub front : take count ys ++ keep_first (is_held_by t) left (drop i xs) ≡ keep_first (is_held_by t) first xs
   pub rest : drop i ys ≡ drop i xs
   pub behind : count ≤ i
   pub long : length ys ≡ length xs
@@ -53,12 +53,12 @@ module _ (t first : ℕ) (xs ys : List Held) (left count word i : ℕ) (e d : He
       All-head P e (drop (i + 1) xs) (All-same P (e ∷ drop (i + 1) xs) (drop i xs) (sym next) (All-drop P i xs below))
 
   -- it stays, and moves to the front
-  stays : (n : ℕ) → e.op < 64 → keep_first (is_by t) left (e ∷ drop (i + 1) xs) ≡ e ∷ keep_first (is_by t) n (drop (i + 1) xs) →
+  stays : (n : ℕ) → e.op < 64 → keep_first (is_held_by t) left (e ∷ drop (i + 1) xs) ≡ e ∷ keep_first (is_held_by t) n (drop (i + 1) xs) →
       Compacts t first xs (set ys count e) n (count + 1) (bit_or word (1 * 2 ^ e.op % 2 ^ 64)) (i + 1)
   stays n below kept =
       let more : take (count + 1) (set ys count e) ≡ take count ys ++ e ∷ [] = take_more_set ys count e (omega (arith, h.behind, i_in)) in
-      let K : List Held = keep_first (is_by t) n (drop (i + 1) xs) in
-      let whole : take count ys ++ keep_first (is_by t) left (drop i xs) ≡ take count ys ++ e ∷ K = ap (λ V. take count ys ++ V) (ap (keep_first (is_by t) left) next ∙ kept) in
+      let K : List Held = keep_first (is_held_by t) n (drop (i + 1) xs) in
+      let whole : take count ys ++ keep_first (is_held_by t) left (drop i xs) ≡ take count ys ++ e ∷ K = ap (λ V. take count ys ++ V) (ap (keep_first (is_held_by t) left) next ∙ kept) in
       record {
         front = ap (λ V. V ++ K) more ∙ append_assoc (take count ys) (e ∷ []) K ∙ sym whole ∙ h.front;
         rest = drop-set-lt (i + 1) ys count e (omega (arith, h.behind)) ∙ rest_more;
@@ -67,19 +67,19 @@ module _ (t first : ℕ) (xs ys : List Held) (left count word i : ℕ) (e d : He
         bits = rw more (HasBits-push word (take count ys) e below h.bits);
       }
 
-  pub Compacts-stays : e.op < 64 → is_by t e ≡ true → 0 < left → Compacts t first xs (set ys count e) (left - 1) (count + 1) (bit_or word (1 * 2 ^ e.op % 2 ^ 64)) (i + 1)
-  Compacts-stays below mine some = stays (left - 1) below (keep_first-stays (is_by t) left e (drop (i + 1) xs) mine some)
+  pub Compacts-stays : e.op < 64 → is_held_by t e ≡ true → 0 < left → Compacts t first xs (set ys count e) (left - 1) (count + 1) (bit_or word (1 * 2 ^ e.op % 2 ^ 64)) (i + 1)
+  Compacts-stays below mine some = stays (left - 1) below (keep_first-stays (is_held_by t) left e (drop (i + 1) xs) mine some)
 
-  pub Compacts-other : e.op < 64 → is_by t e ≡ false → Compacts t first xs (set ys count e) left (count + 1) (bit_or word (1 * 2 ^ e.op % 2 ^ 64)) (i + 1)
-  Compacts-other below other = stays left below (keep_first-other (is_by t) left e (drop (i + 1) xs) other)
+  pub Compacts-other : e.op < 64 → is_held_by t e ≡ false → Compacts t first xs (set ys count e) left (count + 1) (bit_or word (1 * 2 ^ e.op % 2 ^ 64)) (i + 1)
+  Compacts-other below other = stays left below (keep_first-other (is_held_by t) left e (drop (i + 1) xs) other)
 
   -- it goes, and is written where the next one that stays will be
-  Compacts-goes : e.op < 64 → is_by t e ≡ true → left ≡ 0 → Compacts t first xs (set ys count e) 0 (count + 0) (bit_or word (0 * 2 ^ e.op % 2 ^ 64)) (i + 1)
+  Compacts-goes : e.op < 64 → is_held_by t e ≡ true → left ≡ 0 → Compacts t first xs (set ys count e) 0 (count + 0) (bit_or word (0 * 2 ^ e.op % 2 ^ 64)) (i + 1)
   Compacts-goes below mine none =
       let here : count + 0 ≡ count = omega arith in
       let same : take (count + 0) (set ys count e) ≡ take count ys = ap (λ n. take n (set ys count e)) here ∙ take-set ys count e in
-      let K : List Held = keep_first (is_by t) 0 (drop (i + 1) xs) in
-      let gone : keep_first (is_by t) left (drop i xs) ≡ K = ap (λ n. keep_first (is_by t) n (drop i xs)) none ∙ ap (keep_first (is_by t) 0) next ∙ keep_first-goes (is_by t) e (drop (i + 1) xs) mine in
+      let K : List Held = keep_first (is_held_by t) 0 (drop (i + 1) xs) in
+      let gone : keep_first (is_held_by t) left (drop i xs) ≡ K = ap (λ n. keep_first (is_held_by t) n (drop i xs)) none ∙ ap (keep_first (is_held_by t) 0) next ∙ keep_first-goes (is_held_by t) e (drop (i + 1) xs) mine in
       let none_set : 0 * 2 ^ e.op % 2 ^ 64 ≡ 0 = omega arith in
       let word_is : bit_or word (0 * 2 ^ e.op % 2 ^ 64) ≡ word = ap (bit_or word) none_set ∙ or_zero_r word in
       record {
@@ -91,11 +91,11 @@ module _ (t first : ℕ) (xs ys : List Held) (left count word i : ℕ) (e d : He
       }
 
   -- it stays or goes
-  pub Compacts-next : e.op < 64 → (more bit own : ℕ) (stay : Bool) → stay ≡ does_stay t left e → more ≡ bool_byte stay → bit ≡ bool_byte stay → own ≡ bool_byte (is_by t e) →
+  pub Compacts-next : e.op < 64 → (more bit own : ℕ) (stay : Bool) → stay ≡ stays_held t left e → more ≡ bool_byte stay → bit ≡ bool_byte stay → own ≡ bool_byte (is_held_by t e) →
       Compacts t first xs (set ys count e) (left - own) (count + more) (bit_or word (bit * 2 ^ e.op % 2 ^ 64)) (i + 1)
   Compacts-next below more bit own stay stay_is more_is bit_is own_is =
       let same : more ≡ bit = more_is ∙ sym bit_is in
-      elim (cases_Bool (is_by t e)) [
+      elim (cases_Bool (is_held_by t e)) [
         | inr other ↦
             let one : bit ≡ 1 = bit_is ∙ ap bool_byte (stay_is ∙ ap (λ b. not b || nat_lt 0 left) other) in
             let less : left - own ≡ left = omega (arith, own_is ∙ ap bool_byte other) in
@@ -115,10 +115,10 @@ module _ (t first : ℕ) (xs ys : List Held) (left count word i : ℕ) (e d : He
 
 -- it stays or goes where none of t's may stay
 pub Compacts-other_next : (t first : ℕ) (xs ys : List Held) (count word i : ℕ) (e d : Held) → Compacts t first xs ys 0 count word i → i < length ys → e ≡ get_or ys i d → e.op < 64 →
-    (more bit : ℕ) (stay : Bool) → stay ≡ does_stay t 0 e → more ≡ bool_byte stay → bit ≡ bool_byte stay →
+    (more bit : ℕ) (stay : Bool) → stay ≡ stays_held t 0 e → more ≡ bool_byte stay → bit ≡ bool_byte stay →
     Compacts t first xs (set ys count e) 0 (count + more) (bit_or word (bit * 2 ^ e.op % 2 ^ 64)) (i + 1)
 Compacts-other_next t first xs ys count word i e d h i_in is below more bit stay stay_is more_is bit_is =
-    let own : ℕ = bool_byte (is_by t e) in
+    let own : ℕ = bool_byte (is_held_by t e) in
     let none : 0 - own ≡ 0 = omega arith in
     subst (λ left. Compacts t first xs (set ys count e) left (count + more) (bit_or word (bit * 2 ^ e.op % 2 ^ 64)) (i + 1)) none
     (Compacts-next t first xs ys 0 count word i e d h i_in is below more bit own stay stay_is more_is bit_is refl)

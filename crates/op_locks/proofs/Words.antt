@@ -7,7 +7,7 @@ use Rattle.std.proofs.lemmas.List.Elements.{All-push, All-weaker}
 use Rattle.std.proofs.lemmas.Nat.Bits.{bit_at_set_same, bit_at_set_other}
 use Rattle.type_table.specs.ConflictTable.{conflicts}
 use Rattle.type_table.proofs.Elements.{find_none, bits_apart}
-use Rattle.op_locks.specs.Locks.{is_by, blocks, blocker, HasBits}
+use Rattle.op_locks.specs.Locks.{is_held_by, blocks, blocking_holder, HasBits}
 use Rattle.op_locks.specs.declared.held.Held.{Held}
 
 -- e's operation has a bit in the word, which is set
@@ -36,10 +36,10 @@ HasBits-push word held e below bits =
 
 -- where the row of k and the word have no bit in common, nobody keeps another from k
 pub nobody_blocks : (rows : List (List Bool)) (t k row word : ℕ) (held : List Held) →
-    ((q : ℕ) → q < length rows → eqb (bit_at row q) 1 ≡ conflicts rows k q) → bit_and row word ≡ 0 → All (λ e. e.op < length rows) held → HasBits word held → blocker rows t k held ≡ None
+    ((q : ℕ) → q < length rows → eqb (bit_at row q) 1 ≡ conflicts rows k q) → bit_and row word ≡ 0 → All (λ e. e.op < length rows) held → HasBits word held → blocking_holder rows t k held ≡ None
 nobody_blocks rows t k row word held shows apart within bits =
     ap (option_map (λ e. e.by))
     (find_none (blocks rows t k) held
     (λ i d i_in. let e : Held = get_or held i d in
     let clear = bits_apart row word e.op apart (bits i d i_in).1 in
-    and_right (not (is_by t e)) (conflicts rows k e.op) (sym (shows e.op (within i d i_in)) ∙ ap (λ b. eqb b 1) clear)))
+    and_right (not (is_held_by t e)) (conflicts rows k e.op) (sym (shows e.op (within i d i_in)) ∙ ap (λ b. eqb b 1) clear)))

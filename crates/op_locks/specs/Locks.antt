@@ -12,28 +12,28 @@ pub record Locks : Type 0 where
   pub room : ℕ
 
 -- t holds it
-abbrev pub is_by : ℕ → Held → Bool
-is_by t e = e.by == t
+abbrev pub is_held_by : ℕ → Held → Bool
+is_held_by t e = e.by == t
 
 -- another than t holds it, and k, requested, conflicts with it
 abbrev pub blocks : List (List Bool) → ℕ → ℕ → Held → Bool
-blocks rows t k e = not (is_by t e) && conflicts rows k e.op
+blocks rows t k e = not (is_held_by t e) && conflicts rows k e.op
 
 -- the holder of the earliest that does
-abbrev pub blocker : List (List Bool) → ℕ → ℕ → List Held → Option ℕ
-blocker rows t k held = option_map (λ e. e.by) (find (blocks rows t k) held)
+abbrev pub blocking_holder : List (List Bool) → ℕ → ℕ → List Held → Option ℕ
+blocking_holder rows t k held = option_map (λ e. e.by) (find (blocks rows t k) held)
 
 -- how many operations t holds
-abbrev pub count_of : ℕ → List Held → ℕ
-count_of t held = length (filter (is_by t) held)
+abbrev pub held_count : ℕ → List Held → ℕ
+held_count t held = length (filter (is_held_by t) held)
 
 -- what others than t hold
-abbrev pub without : ℕ → List Held → List Held
-without t held = filter (λ e. not (is_by t e)) held
+abbrev pub held_without : ℕ → List Held → List Held
+held_without t held = filter (λ e. not (is_held_by t e)) held
 
 -- an entry stays where this many of t's may
-abbrev pub stays : ℕ → ℕ → Held → Bool
-stays t left e = not (is_by t e) || nat_lt 0 left
+abbrev pub stays_held : ℕ → ℕ → Held → Bool
+stays_held t left e = not (is_held_by t e) || nat_lt 0 left
 
 -- ---- as a word of 64 bits
 

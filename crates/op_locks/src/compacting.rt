@@ -2,7 +2,7 @@
 
 ghost use Rattle.std.specs.Prelude.{◌≡◌, ◌≤◌, ◌<◌, All, length, take};
 ghost use Rattle.object_trait.specs.Strike.{keep_first};
-ghost use Rattle.op_locks.specs.Locks.{is_by, HasBits, stays};
+ghost use Rattle.op_locks.specs.Locks.{is_held_by, HasBits, stays_held};
 
 use crate::held::Held;
 
@@ -18,7 +18,7 @@ pub struct Kept {
 pub fn compact(held: &mut [Held], t: u32, first: usize) -> Kept
     requires { All (λ e. e.op < 64) held.old }
     ensures within { result.count ≤ length held.old }
-    ensures list { take result.count held.new ≡ keep_first (is_by t) first held.old }
+    ensures list { take result.count held.new ≡ keep_first (is_held_by t) first held.old }
     ensures word { HasBits result.word (take result.count held.new) }
 {
     if first == 0 {
@@ -32,7 +32,7 @@ pub fn compact(held: &mut [Held], t: u32, first: usize) -> Kept
 fn compact_both(held: &mut [Held], t: u32, first: usize) -> Kept
     requires { All (λ e. e.op < 64) held.old }
     ensures within { result.count ≤ length held.old }
-    ensures list { take result.count held.new ≡ keep_first (is_by t) first held.old }
+    ensures list { take result.count held.new ≡ keep_first (is_held_by t) first held.old }
     ensures word { HasBits result.word (take result.count held.new) }
 {
     let mut left = first;
@@ -53,7 +53,7 @@ fn compact_both(held: &mut [Held], t: u32, first: usize) -> Kept
 fn compact_others(held: &mut [Held], t: u32) -> Kept
     requires { All (λ e. e.op < 64) held.old }
     ensures within { result.count ≤ length held.old }
-    ensures list { take result.count held.new ≡ keep_first (is_by t) 0 held.old }
+    ensures list { take result.count held.new ≡ keep_first (is_held_by t) 0 held.old }
     ensures word { HasBits result.word (take result.count held.new) }
 {
     let mut count = 0;
@@ -70,7 +70,7 @@ fn compact_others(held: &mut [Held], t: u32) -> Kept
 
 /// Whether an entry stays, where this many of t's may.
 fn stays(entry: Held, t: u32, left: usize) -> bool
-    ensures { result ≡ stays t left entry }
+    ensures { result ≡ stays_held t left entry }
 {
     entry.by != t || left > 0
 }

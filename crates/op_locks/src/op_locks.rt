@@ -1,5 +1,5 @@
 ghost use Rattle.std.specs.Prelude.{◌≡◌, ◌≤◌, ◌<◌, ◌+◌, ◌++◌, ◌∷◌, [], All, length, IsOk, OnOk, OnErr};
-ghost use Rattle.op_locks.specs.Locks.{blocker, is_by, without};
+ghost use Rattle.op_locks.specs.Locks.{blocking_holder, is_held_by, held_without};
 ghost use Rattle.object_trait.specs.Strike.{keep_first};
 
 use crate::compacting::compact;
@@ -47,7 +47,7 @@ impl OpLocks {
     pub fn blocker(&self, table: &ConflictTable, t: u32, k: u8) -> Option<u32>
         requires requested { k < length table.now }
         requires held { All (λ e. e.op < length table.now) self.now.held }
-        ensures { result ≡ blocker table.now t k self.now.held }
+        ensures { result ≡ blocking_holder table.now t k self.now.held }
     {
         if table.row(k) & self.word == 0 {
             return None;
@@ -88,7 +88,7 @@ impl OpLocks {
 
     /// Takes out all that the transaction t holds. The rest keeps its order.
     pub fn release(&mut self, t: u32)
-        ensures list { self.new.held ≡ without t self.old.held }
+        ensures list { self.new.held ≡ held_without t self.old.held }
         ensures room { self.old.room ≤ self.new.room }
     {
         keeps_none::<Held>();
@@ -97,7 +97,7 @@ impl OpLocks {
 
     /// Leaves the first n of what the transaction t holds. The rest keeps its order.
     pub fn release_behind(&mut self, t: u32, n: u32)
-        ensures list { self.new.held ≡ keep_first (is_by t) n self.old.held }
+        ensures list { self.new.held ≡ keep_first (is_held_by t) n self.old.held }
         ensures room { self.old.room ≤ self.new.room }
     {
         self.keep(t, n as usize);
@@ -105,7 +105,7 @@ impl OpLocks {
 
     // Takes out all that t holds but the first of it, as many as `first` says.
     fn keep(&mut self, t: u32, first: usize)
-        ensures list { self.new.held ≡ keep_first (is_by t) first self.old.held }
+        ensures list { self.new.held ≡ keep_first (is_held_by t) first self.old.held }
         ensures room { self.old.room ≤ self.new.room }
     {
         let kept = compact(self.held.as_mut_slice(), t, first);

@@ -5,7 +5,7 @@ use Rattle.std.specs.List.{swap_remove, take-map}
 use Rattle.std.proofs.lemmas.Bool.{cases_eq, cases_lt, eq-eqb, ne_eqb}
 use Rattle.std.proofs.lemmas.List.{get_or-map, get_or_default, get_or_past, get_or_push, get_or_append_left, get_or-set_same, get_or-set_other, length-map, length_push, map-set, map-append}
 use Rattle.std.proofs.Math.Seq.{map-set_same}
-use Rattle.open_transactions.specs.Transactions.{row, is_open}
+use Rattle.open_transactions.specs.Transactions.{row, has_row}
 use Rattle.open_transactions.specs.InSlots.{slot_of, looked, shown_rows, IsPlaced}
 use Rattle.open_transactions.proofs.Looked.{at, looked-set, looked-more, slot-began}
 use Rattle.open_transactions.proofs.Ended.{without, moved_to, length-without, looked-ended, placed-ended}
@@ -63,7 +63,7 @@ module _ {ended : ℕ} (index numbers : List ℕ) (placed : IsPlaced ended index
 -- ---- rows
 
 -- an open transaction began
-pub open-began : {R : Type 0} (rows : List (Option R)) (t : ℕ) → is_open rows t ≡ true → t < length rows
+pub open-began : {R : Type 0} (rows : List (Option R)) (t : ℕ) → has_row rows t ≡ true → t < length rows
 open-began {R} rows t opened =
     elim (cases_lt t (length rows)) [
       | inl began ↦ began
@@ -90,7 +90,7 @@ module _ {S R : Type 0} {ended : ℕ} (number : S → ℕ) (shown : S → R) (sl
   row-at t = ap (λ r. get_or r t None) (sym rows_are) ∙ at ended None (map row_of slots) index t (omega (arith, placed.few, len-numbers, len-rows))
 
   -- an open transaction has a slot
-  open-slot : (t : ℕ) → is_open rows t ≡ true → slot_of ended index t < length slots
+  open-slot : (t : ℕ) → has_row rows t ≡ true → slot_of ended index t < length slots
   open-slot t opened =
       elim (cases_lt (slot_of ended index t) (length slots)) [
         | inl inside ↦ inside
@@ -99,22 +99,22 @@ module _ {S R : Type 0} {ended : ℕ} (number : S → ℕ) (shown : S → R) (sl
       ]
 
   -- and is open where it has one
-  slot-open : (t : ℕ) → slot_of ended index t < length slots → is_open rows t ≡ true
+  slot-open : (t : ℕ) → slot_of ended index t < length slots → has_row rows t ≡ true
   slot-open t inside = ap is_some (row-at t) ∙ some-row slots (slot_of ended index t) inside
     where
       some-row : (slots : List S) (k : ℕ) → k < length slots → is_some (get_or (map row_of slots) k None) ≡ true
       some-row [] k below = absurd (omega arith)
       some-row (slot ∷ rest) k below = ap is_some (get_or-map row_of (slot ∷ rest) k slot None below)
 
-  pub open-told : (t : ℕ) → slot_of ended index t ≢ ended → is_open rows t ≡ true
+  pub open-told : (t : ℕ) → slot_of ended index t ≢ ended → has_row rows t ≡ true
   open-told t slotted = slot-open t (omega (arith, placed.slot t slotted, len-numbers))
 
   -- one without a slot isn't
-  pub ended-told : (t : ℕ) → slot_of ended index t ≡ ended → is_open rows t ≡ false
+  pub ended-told : (t : ℕ) → slot_of ended index t ≡ ended → has_row rows t ≡ false
   ended-told t over = ap is_some (row-at t ∙ get_or_past (map row_of slots) (slot_of ended index t) None (omega (arith, over, placed.few, len-numbers, len-rows)))
 
   -- so the slot says it
-  pub open-tested : (t k : ℕ) → k ≡ slot_of ended index t → not (eqb k ended) ≡ is_open rows t
+  pub open-tested : (t k : ℕ) → k ≡ slot_of ended index t → not (eqb k ended) ≡ has_row rows t
   open-tested t k read =
       elim (cases_eq k ended) [
         | inl over ↦ ap not (eq-eqb k ended over) ∙ sym (ended-told t (sym read ∙ over))
@@ -129,7 +129,7 @@ module _ {S R : Type 0} {ended : ℕ} (number : S → ℕ) (shown : S → R) (sl
 
   -- ---- k is the slot that was read for an open transaction t, where d would have been read past the end
 
-  module _ (t k d : ℕ) (opened : is_open rows t ≡ true) (read : k ≡ get_or index t d) where
+  module _ (t k d : ℕ) (opened : has_row rows t ≡ true) (read : k ≡ get_or index t d) where
     inside : slot_of ended index t < length slots
     inside = open-slot t opened
 

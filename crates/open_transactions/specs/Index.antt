@@ -7,6 +7,6 @@ pub record Index : Type 0 where
   pub room : ℕ
 
 -- as many of these slots in front, and no more, are of transactions that ended
-pub record HaveEnded (count : ℕ) (slots : List ℕ) : Type 0 where
+pub record HaveEndedInFront (count : ℕ) (slots : List ℕ) : Type 0 where
   pub front : take count slots ≡ replicate count 65535
   pub next : slice_index_or slots count 0 ≢ 65535

@@ -5,20 +5,20 @@ use Rattle.open_transactions.specs.Transactions.{Row, count_open}
 use Rattle.open_transactions.specs.InSlots.{looked, shown_rows, IsPlaced}
 
 -- the number of an open transaction
-abbrev pub number_of : OpenTransaction → ℕ
-number_of slot = slot.number
+abbrev pub transaction_number : OpenTransaction → ℕ
+transaction_number slot = slot.number
 
 -- its row
-abbrev pub row_of : OpenTransaction → Row
-row_of slot = record { worker = slot.worker; places = slot.places.items }
+abbrev pub open_row : OpenTransaction → Row
+open_row slot = record { worker = slot.worker; places = slot.places.items }
 
 -- for how many more places it has room
 abbrev pub room_of : OpenTransaction → ℕ
 room_of slot = slot.places.capacity - length slot.places.items
 
 -- the rows that slots show
-abbrev pub rows_of : List OpenTransaction → List ℕ → List (Option Row)
-rows_of slots index = shown_rows row_of slots index
+abbrev pub open_rows : List OpenTransaction → List ℕ → List (Option Row)
+open_rows slots index = shown_rows open_row slots index
 
 -- the room that slots show
 abbrev pub rooms_of : List OpenTransaction → List ℕ → List ℕ
@@ -27,6 +27,6 @@ rooms_of slots index = looked 0 (map room_of slots) index
 -- what is known of each table of transactions: 65,535 is in place of a slot where one ended
 pub record AreSlots (slots : List OpenTransaction) (index : List ℕ) : Type 0 where
   pub few : length slots ≤ 1024
-  pub placed : IsPlaced 65535 index (map number_of slots)
-  pub counted : count_open (rows_of slots index) ≡ length slots
+  pub placed : IsPlaced 65535 index (map transaction_number slots)
+  pub counted : count_open (open_rows slots index) ≡ length slots
   pub begun : length index ≤ 4294967295

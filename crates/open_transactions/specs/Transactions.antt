@@ -19,8 +19,8 @@ abbrev pub row : {R : Type 0} → List (Option R) → ℕ → Option R
 row rows t = slice_index_or rows t None
 
 -- the transaction began and hasn't ended
-abbrev pub is_open : {R : Type 0} → List (Option R) → ℕ → Bool
-is_open rows t = is_some (row rows t)
+abbrev pub has_row : {R : Type 0} → List (Option R) → ℕ → Bool
+has_row rows t = is_some (row rows t)
 
 -- how many transactions are open
 abbrev pub count_open : List (Option Row) → ℕ
@@ -32,9 +32,9 @@ worker_of None = 0
 worker_of (Some r) = r.worker
 
 -- the places of a row, and none where there is none
-abbrev pub places_of : Option Row → List ℕ
-places_of None = []
-places_of (Some r) = r.places
+abbrev pub objects_of_row : Option Row → List ℕ
+objects_of_row None = []
+objects_of_row (Some r) = r.places
 
 -- a transaction at its begin
 abbrev pub begun_by : ℕ → Row

@@ -32,10 +32,10 @@ impl Model for OpenTransactions {
 
     ghost Value = { Transactions };
 
-    ghost use Rattle.open_transactions.specs.Slots.{rows_of, rooms_of, AreSlots};
+    ghost use Rattle.open_transactions.specs.Slots.{open_rows, rooms_of, AreSlots};
 
     ghost view = { λ a. record {
-      rows = rows_of a.slots.items a.index.slots;
+      rows = open_rows a.slots.items a.index.slots;
       room_to_begin = min a.index.room (vec_capacity a.slots - vec_len a.slots);
       room_to_push = rooms_of a.slots.items a.index.slots;
     } };
@@ -44,7 +44,7 @@ impl Model for OpenTransactions {
 }
 
 impl OpenTransactions {
-    ghost use Rattle.open_transactions.specs.Transactions.{row, is_open, count_open, worker_of, places_of, begun_by, pushed, kept, changed};
+    ghost use Rattle.open_transactions.specs.Transactions.{row, has_row, count_open, worker_of, objects_of_row, begun_by, pushed, kept, changed};
 
     /// None yet. It takes no memory.
     pub fn new(alloc: Global) -> OpenTransactions
@@ -67,8 +67,8 @@ impl OpenTransactions {
     /// A number before which all have ended: that of the oldest open one, or how many began where none is.
     pub fn oldest(&self) -> u32
         ensures within { result ≤ length self.now.rows }
-        ensures ended { (t : ℕ) → t < result → is_open self.now.rows t ≡ false }
-        ensures oldest { result < length self.now.rows → is_open self.now.rows result ≡ true }
+        ensures ended { (t : ℕ) → t < result → has_row self.now.rows t ≡ false }
+        ensures oldest { result < length self.now.rows → has_row self.now.rows result ≡ true }
     {
         self.index.oldest()
     }
@@ -85,14 +85,14 @@ impl OpenTransactions {
     /// Whether t began and hasn't ended.
     #[inline(always)]
     pub fn is_open(&self, t: u32) -> bool
-        ensures { result ≡ is_open self.now.rows t }
+        ensures { result ≡ has_row self.now.rows t }
     {
         self.index.slot(t) != ENDED
     }
 
     /// The worker that began t.
     pub fn worker(&self, t: u32) -> u8
-        requires { is_open self.now.rows t ≡ true }
+        requires { has_row self.now.rows t ≡ true }
         ensures { result ≡ worker_of (row self.now.rows t) }
     {
         let slot = self.index.open_slot(t) as usize;
@@ -102,8 +102,8 @@ impl OpenTransactions {
     /// The places of the operations of t that survive, in order of execution.
     #[inline(always)]
     pub fn places(&self, t: u32) -> &[u8]
-        requires { is_open self.now.rows t ≡ true }
-        ensures { result.now ≡ places_of (row self.now.rows t) }
+        requires { has_row self.now.rows t ≡ true }
+        ensures { result.now ≡ objects_of_row (row self.now.rows t) }
     {
         let slot = self.index.open_slot(t) as usize;
         self.slots[slot].places.as_slice()
@@ -144,7 +144,7 @@ impl OpenTransactions {
     /// Makes room for one more place of t.
     #[inline(always)]
     pub fn reserve_place(&mut self, t: u32) -> Result<(), AllocError>
-        requires { is_open self.old.rows t ≡ true }
+        requires { has_row self.old.rows t ≡ true }
         ensures rows { self.new.rows ≡ self.old.rows }
         ensures room { OnOk result (0 < slice_index self.new.room_to_push t) }
     {
@@ -155,7 +155,7 @@ impl OpenTransactions {
     /// One more operation of t, at the place x. It takes no memory.
     #[inline(always)]
     pub fn push_place(&mut self, t: u32, x: u8)
-        requires still_open { is_open self.old.rows t ≡ true }
+        requires still_open { has_row self.old.rows t ≡ true }
         requires room { 0 < slice_index self.old.room_to_push t }
         ensures { self.new.rows ≡ changed self.old.rows t (pushed x) }
     {
@@ -165,7 +165,7 @@ impl OpenTransactions {
 
     /// Keeps the first n operations of t, or all where it has fewer. It takes no memory.
     pub fn keep_places(&mut self, t: u32, n: u32)
-        requires { is_open self.old.rows t ≡ true }
+        requires { has_row self.old.rows t ≡ true }
         ensures { self.new.rows ≡ changed self.old.rows t (kept n) }
     {
         let slot = self.index.open_slot(t) as usize;
@@ -175,7 +175,7 @@ impl OpenTransactions {
     /// Ends t. It takes no memory.
     #[inline(always)]
     pub fn end(&mut self, t: u32)
-        requires { is_open self.old.rows t ≡ true }
+        requires { has_row self.old.rows t ≡ true }
         ensures rows { self.new.rows ≡ slice_set self.old.rows t None }
         ensures count { count_open self.new.rows + 1 ≡ count_open self.old.rows }
     {

@@ -1,10 +1,10 @@
 ghost use Rattle.std.specs.Prelude.{◌≡◌, ◌≢◌, ◌+◌, ◌<◌, ◌≤◌, [], ◌∷◌, ◌++◌, ℕ, length, set, drop, vec_len, vec_capacity, OnOk, slice_index_or};
-ghost use Rattle.open_transactions.specs.Index.{HaveEnded};
+ghost use Rattle.open_transactions.specs.Index.{HaveEndedInFront};
 
 use std::alloc::{AllocError, Global};
 use std::marker::Model;
 
-/// In place of a slot: the transaction ended.
+/// In position of a slot: the transaction ended.
 pub const ENDED: u16 = u16::MAX;
 
 // for how many more there is room at least where memory was taken, so that a small store takes it once
@@ -72,9 +72,9 @@ impl SlotIndex {
     pub fn slot(&self, t: u32) -> u16
         ensures { result ≡ slice_index_or self.now.slots t 65535 }
     {
-        // of one that was cut off this wraps to a place after the last
-        let place = t.wrapping_sub(self.cut) as usize;
-        match self.slots.get(place) {
+        // of one that was cut off this wraps to a position after the last
+        let position = t.wrapping_sub(self.cut) as usize;
+        match self.slots.get(position) {
             Some(slot) => *slot,
             None => ENDED,
         }
@@ -86,8 +86,8 @@ impl SlotIndex {
         requires { slice_index_or self.now.slots t 65535 ≢ 65535 }
         ensures { result ≡ slice_index_or self.now.slots t 65535 }
     {
-        let place = (t - self.cut) as usize;
-        self.slots[place]
+        let position = (t - self.cut) as usize;
+        self.slots[position]
     }
 
     /// Makes room for one more.
@@ -139,8 +139,8 @@ impl SlotIndex {
         ensures slots { self.new.slots ≡ set self.old.slots t slot }
         ensures room { self.new.room ≡ self.old.room }
     {
-        let place = (t - self.cut) as usize;
-        self.slots[place] = slot;
+        let position = (t - self.cut) as usize;
+        self.slots[position] = slot;
     }
 
     /// t, which is open, ends. It takes no memory.
@@ -149,15 +149,15 @@ impl SlotIndex {
         requires { slice_index_or self.old.slots t 65535 ≢ 65535 }
         ensures { self.new.slots ≡ set self.old.slots t 65535 }
     {
-        let place = (t - self.cut) as usize;
-        self.slots[place] = ENDED;
+        let position = (t - self.cut) as usize;
+        self.slots[position] = ENDED;
     }
 }
 
 /// How many ended before the oldest open one of these began.
 fn count_ended(slots: &[u16]) -> u32
     requires { length slots.now ≤ 4294967295 }
-    ensures { HaveEnded result slots.now }
+    ensures { HaveEndedInFront result slots.now }
 {
     let mut count = 0;
     for &slot in slots {

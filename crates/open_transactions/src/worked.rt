@@ -1,22 +1,22 @@
 //! Worked examples of the definitions: each function does nothing, and its contract is the example.
 
 ghost use Rattle.std.specs.Prelude.{◌≡◌, ◌++◌, true, false, [], ◌∷◌, None, Some, slice_set};
-ghost use Rattle.open_transactions.specs.Transactions.{row, is_open, count_open, worker_of, places_of, begun_by, pushed, kept, changed};
+ghost use Rattle.open_transactions.specs.Transactions.{row, has_row, count_open, worker_of, objects_of_row, begun_by, pushed, kept, changed};
 ghost use Rattle.open_transactions.specs.Examples.{three};
 
 pub fn open_ones_are_told()
-    ensures with_places { is_open three 0 ≡ true }
-    ensures ended { is_open three 1 ≡ false }
-    ensures without_places { is_open three 2 ≡ true }
-    ensures never_began { is_open three 3 ≡ false }
+    ensures with_places { has_row three 0 ≡ true }
+    ensures ended { has_row three 1 ≡ false }
+    ensures without_places { has_row three 2 ≡ true }
+    ensures never_began { has_row three 3 ≡ false }
     ensures count { count_open three ≡ 2 }
 {}
 
 pub fn rows_are_told()
     ensures worker { worker_of (row three 0) ≡ 4 }
     ensures other_worker { worker_of (row three 2) ≡ 1 }
-    ensures places { places_of (row three 0) ≡ 7 ∷ 2 ∷ [] }
-    ensures no_places { places_of (row three 2) ≡ [] }
+    ensures places { objects_of_row (row three 0) ≡ 7 ∷ 2 ∷ [] }
+    ensures no_places { objects_of_row (row three 2) ≡ [] }
 {}
 
 pub fn places_change()

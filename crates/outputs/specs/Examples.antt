@@ -4,7 +4,7 @@ use Rattle.outputs.specs.declared.gathered.Gathered.{Gathered}
 use Rattle.outputs.specs.Gathered.{under}
 
 -- the output under it took these bytes; these were gathered, and this many of them handed on
-pub record Has (took gathered : List ℕ) (passed : ℕ) (g : Gathered (List ℕ)) : Type 0 where
+pub record HasGathered (took gathered : List ℕ) (passed : ℕ) (g : Gathered (List ℕ)) : Type 0 where
   pub took_is : under g ≡ took
   pub gathered_is : g.bytes.items ≡ gathered
   pub passed_is : g.passed ≡ passed

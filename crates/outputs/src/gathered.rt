@@ -5,8 +5,8 @@ ghost use Rattle.std.specs.Result.{result_err};
 ghost use Rattle.std.specs.Io.KnownBytes.{Appends, Keeps};
 ghost use Rattle.outputs.specs.Numbers.{numbers_line};
 
+use crate::number_line::{LONGEST, spell_line};
 use crate::out::{Failed, Out, OutFault};
-use crate::spelling::{LONGEST, spell_line};
 use std::alloc::{AllocError, Global};
 
 /// A piece has at least this many bytes, but for the last.

@@ -4,16 +4,16 @@
 
 mod gathered;
 mod laws;
+mod number_line;
 mod out;
+mod pieces;
 mod sink;
-mod spelling;
-mod writing;
 
 pub use gathered::Gathered;
 pub use laws::{items_in_turn, texts_in_turn};
+pub use number_line::{LONGEST, spell_line};
 pub use out::{Failed, Out, OutFault};
+pub use pieces::{put, put_all, put_line};
 pub use sink::Sink;
-pub use spelling::{LONGEST, spell_line};
-pub use writing::{put, put_all, put_line};
 
 pub mod worked;

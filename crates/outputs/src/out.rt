@@ -4,7 +4,7 @@ ghost use Rattle.outputs.specs.Numbers.{numbers_line};
 ghost use Rattle.outputs.specs.Out.{Puts, fault_after};
 ghost use Rattle.outputs.specs.declared.out.OutFault.{OutFault};
 
-use crate::spelling::{LONGEST, spell_line};
+use crate::number_line::{LONGEST, spell_line};
 use thiserror::Error;
 
 /// What stopped an output.

@@ -1,6 +1,6 @@
 //! Operations that weren't struck, and where they lead.
 
-use table_checker::DeclaredType;
+use declared_types::DeclaredType;
 use type_table::Operation;
 
 /// An operation that wasn't struck.

@@ -1,7 +1,7 @@
 //! Who keeps a transaction from an operation of a number in escrow, computed slowly from a list.
 
 use crate::living::{Living, run_at, stepped};
-use table_checker::DeclaredType;
+use declared_types::DeclaredType;
 use type_table::Operation;
 
 /// How far a transaction's operations go below and above the number where they begin.

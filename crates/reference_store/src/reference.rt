@@ -3,12 +3,13 @@
 use crate::asked::{Ask, Told, as_told};
 use crate::living::{Living, run_at, stepped};
 use crate::numbers::Number;
+use declared_types::DeclaredType;
 use object_trait::{Event, EventKind};
 use serial_order::Refusal;
 use std::alloc::{AllocError, Global};
 use std::sync::Arc;
 use store::Answer;
-use table_checker::{CheckedType, DeclaredType};
+use table_checker::CheckedType;
 use type_table::{ConflictTable, Kind, Operation};
 
 /// A transaction that began.

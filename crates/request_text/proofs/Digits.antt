@@ -3,15 +3,15 @@ use Rattle.std.proofs.Common.{◌≡◌, ℕ, ◌+◌, ◌*◌, ◌^◌, ◌<◌
 use Rattle.std.specs.List.{list_all}
 use Rattle.std.proofs.lemmas.Bool.{cond-true}
 use Rattle.std.proofs.Math.Nat.{pow-le-pow_right}
-use Rattle.line_text.specs.Text.{is_digit, number_value}
-use Rattle.line_text.proofs.Numbers.{digits_pass, digit_more}
-use Rattle.request_text.specs.Numbers.{is_number, number_of, short_number}
+use Rattle.decimals.specs.Decimals.{is_digit, number_value}
+use Rattle.decimals.proofs.Digits.{digits_pass, digit_more}
+use Rattle.request_text.specs.Numbers.{is_request_number, request_number, short_number}
 
 -- digits without a leading zero are a number
-pub number_of-digits : (w : List ℕ) → 0 < length w → length w ≤ 10 → list_all is_digit w ≡ true → (ltb 1 (length w) && eqb (get_or w 0 0) 48) ≡ false → number_of w ≡ short_number (number_value w)
+pub number_of-digits : (w : List ℕ) → 0 < length w → length w ≤ 10 → list_all is_digit w ≡ true → (ltb 1 (length w) && eqb (get_or w 0 0) 48) ≡ false → request_number w ≡ short_number (number_value w)
 number_of-digits w some short digits plain =
-    let number : is_number w ≡ true = digits_pass 10 w some short digits plain in
-    cond-true (is_number w) (short_number (number_value w)) None number
+    let number : is_request_number w ≡ true = digits_pass 10 w some short digits plain in
+    cond-true (is_request_number w) (short_number (number_value w)) None number
 
 -- one more digit, of at most ten, leaves the number below the next power of ten, and in 64 bits
 pub digit_fits : (n i d len : ℕ) → n < 10 ^ i → i < len → len ≤ 10 → d ≤ 9 → (10 * n + d < 10 ^ (i + 1)) × (10 * n + d < 2 ^ 64)

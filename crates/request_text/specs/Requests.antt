@@ -2,7 +2,7 @@
 use Rattle.std.specs.Prelude.{ℕ, Bool, ◌&&◌, nat_le, List, [], ◌∷◌, length, ◌==◌, if◌then◌else◌, Option, Some, None, Result, Ok, Err, codes}
 use Rattle.std.specs.List.{list_all, slice_split}
 use Rattle.type_table.specs.Name.{is_name}
-use Rattle.request_text.specs.Shapes.{◌>>=◌, exactly, name_at, number_at, transaction_at, is_verb}
+use Rattle.request_text.specs.Shapes.{◌>>=◌, has_words, request_name_at, number_at, transaction_at, is_verb}
 use Rattle.request_text.specs.declared.fault.RequestFault.{RequestFault}
 use Rattle.request_text.specs.declared.fault.RequestFault.TheVariants.{TooLong, NotAscii, BadTag, UnknownVerb}
 use Rattle.request_text.specs.declared.request.Asked.{Asked}
@@ -14,53 +14,53 @@ use Rattle.request_text.specs.declared.request.Request.TheVariants.{Begin, Call,
 -- a request of its verb alone
 unfoldable pub alone : List (List ℕ) → Request → Result Request RequestFault
 alone words request = do
-  done ← exactly words 1
+  done ← has_words words 1
   Ok request
 
-unfoldable pub call_of : List (List ℕ) → Result Request RequestFault
-call_of words = do
-  done ← exactly words 4
-  call ← name_at words 3
+unfoldable pub call_request_of : List (List ℕ) → Result Request RequestFault
+call_request_of words = do
+  done ← has_words words 4
+  call ← request_name_at words 3
   t ← transaction_at words 1
   x ← number_at words 2
   Ok (Call t x call)
 
 unfoldable pub would_of : List (List ℕ) → Result Request RequestFault
 would_of words = do
-  done ← exactly words 4
-  call ← name_at words 3
+  done ← has_words words 4
+  call ← request_name_at words 3
   t ← transaction_at words 1
   x ← number_at words 2
   Ok (Would t x call)
 
-unfoldable pub commit_of : List (List ℕ) → Result Request RequestFault
-commit_of words = do
-  done ← exactly words 2
+unfoldable pub commit_request_of : List (List ℕ) → Result Request RequestFault
+commit_request_of words = do
+  done ← has_words words 2
   t ← transaction_at words 1
   Ok (Commit t)
 
-unfoldable pub abort_of : List (List ℕ) → Result Request RequestFault
-abort_of words = do
-  done ← exactly words 2
+unfoldable pub abort_request_of : List (List ℕ) → Result Request RequestFault
+abort_request_of words = do
+  done ← has_words words 2
   t ← transaction_at words 1
   Ok (Abort t)
 
-unfoldable pub rollback_of : List (List ℕ) → Result Request RequestFault
-rollback_of words = do
-  done ← exactly words 3
+unfoldable pub rollback_request_of : List (List ℕ) → Result Request RequestFault
+rollback_request_of words = do
+  done ← has_words words 3
   t ← transaction_at words 1
   count ← number_at words 2
   Ok (Rollback t count)
 
 unfoldable pub kept_of : List (List ℕ) → Result Request RequestFault
 kept_of words = do
-  done ← exactly words 2
+  done ← has_words words 2
   x ← number_at words 1
   Ok (Kept x)
 
-unfoldable pub events_of : List (List ℕ) → Result Request RequestFault
-events_of words = do
-  done ← exactly words 3
+unfoldable pub events_request_of : List (List ℕ) → Result Request RequestFault
+events_request_of words = do
+  done ← has_words words 3
   from ← number_at words 1
   count ← number_at words 2
   Ok (Events from count)
@@ -71,7 +71,7 @@ question_of words =
     if is_verb words (codes "kept") then kept_of words
     else (if is_verb words (codes "objects") then alone words Objects
     else (if is_verb words (codes "types") then alone words Types
-    else (if is_verb words (codes "events") then events_of words
+    else (if is_verb words (codes "events") then events_request_of words
     else (if is_verb words (codes "stats") then alone words Stats
     else (if is_verb words (codes "end") then alone words End
     else Err UnknownVerb)))))
@@ -80,11 +80,11 @@ question_of words =
 unfoldable pub request_of : List (List ℕ) → Result Request RequestFault
 request_of words =
     if is_verb words (codes "begin") then alone words Begin
-    else (if is_verb words (codes "call") then call_of words
+    else (if is_verb words (codes "call") then call_request_of words
     else (if is_verb words (codes "would") then would_of words
-    else (if is_verb words (codes "commit") then commit_of words
-    else (if is_verb words (codes "abort") then abort_of words
-    else (if is_verb words (codes "rollback") then rollback_of words
+    else (if is_verb words (codes "commit") then commit_request_of words
+    else (if is_verb words (codes "abort") then abort_request_of words
+    else (if is_verb words (codes "rollback") then rollback_request_of words
     else question_of words)))))
 
 -- ---- a line
@@ -107,5 +107,5 @@ tagged_of [] = untagged BadTag
 tagged_of (tag ∷ words) = if is_name tag then record { tag = Some tag; request = request_of words } else untagged BadTag
 
 -- what a line without its LF asks
-abbrev pub asked_of : List ℕ → Asked
-asked_of line = if nat_le (length line) 255 then (if list_all is_ascii line then tagged_of (words_between line) else untagged NotAscii) else untagged TooLong
+abbrev pub asked_by : List ℕ → Asked
+asked_by line = if nat_le (length line) 255 then (if list_all is_ascii line then tagged_of (words_between line) else untagged NotAscii) else untagged TooLong

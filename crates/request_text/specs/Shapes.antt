@@ -2,7 +2,7 @@
 use Rattle.std.specs.Prelude.{ℕ, Bool, List, [], length, ◌==◌, if◌then◌else◌, slice_index_or, Option, Some, None, Result, Ok, Err}
 use Rattle.std.specs.Str.{bytes_eq}
 use Rattle.type_table.specs.Name.{is_name}
-use Rattle.request_text.specs.Numbers.{number_of, transaction_of}
+use Rattle.request_text.specs.Numbers.{request_number, transaction_of}
 use Rattle.request_text.specs.declared.fault.RequestFault.{RequestFault}
 use Rattle.request_text.specs.declared.fault.RequestFault.TheVariants.{BadWords, BadNumber}
 use Rattle.request_text.specs.declared.request.TransactionName.{TransactionName}
@@ -13,31 +13,31 @@ abbrev pub ◌>>=◌ : {A B : Type 0} → Result A RequestFault → (A → Resul
 (Ok x) >>= f = f x
 (Err e) >>= f = Err e
 
--- the word at a place, where there is one
-abbrev pub word : List (List ℕ) → ℕ → List ℕ
-word words place = slice_index_or words place []
+-- the word at a position, where there is one
+abbrev pub word_at : List (List ℕ) → ℕ → List ℕ
+word_at words position = slice_index_or words position []
 
 -- there are `count` words, the verb among them
-unfoldable pub exactly : List (List ℕ) → ℕ → Result (Unit {0}) RequestFault
-exactly words count = if length words == count then Ok tt else Err BadWords
+unfoldable pub has_words : List (List ℕ) → ℕ → Result (Unit {0}) RequestFault
+has_words words count = if length words == count then Ok tt else Err BadWords
 
 -- the value, or a fault where there is none
-abbrev pub or_fault : {A : Type 0} → RequestFault → Option A → Result A RequestFault
-or_fault fault None = Err fault
-or_fault fault (Some x) = Ok x
+abbrev pub or_request_fault : {A : Type 0} → RequestFault → Option A → Result A RequestFault
+or_request_fault fault None = Err fault
+or_request_fault fault (Some x) = Ok x
 
--- the name at a place
-unfoldable pub name_at : List (List ℕ) → ℕ → Result (List ℕ) RequestFault
-name_at words place = if is_name (word words place) then Ok (word words place) else Err BadWords
+-- the name at a position
+unfoldable pub request_name_at : List (List ℕ) → ℕ → Result (List ℕ) RequestFault
+request_name_at words position = if is_name (word_at words position) then Ok (word_at words position) else Err BadWords
 
--- the number at a place
+-- the number at a position
 unfoldable pub number_at : List (List ℕ) → ℕ → Result ℕ RequestFault
-number_at words place = or_fault BadNumber (number_of (word words place))
+number_at words position = or_request_fault BadNumber (request_number (word_at words position))
 
--- the transaction at a place
+-- the transaction at a position
 unfoldable pub transaction_at : List (List ℕ) → ℕ → Result TransactionName RequestFault
-transaction_at words place = or_fault BadNumber (transaction_of (word words place))
+transaction_at words position = or_request_fault BadNumber (transaction_of (word_at words position))
 
 -- whether the first word is this verb
 unfoldable pub is_verb : List (List ℕ) → List ℕ → Bool
-is_verb words verb = bytes_eq (word words 0) verb
+is_verb words verb = bytes_eq (word_at words 0) verb

@@ -1,7 +1,7 @@
 //! The requests, by their verbs.
 
 ghost use Rattle.std.specs.Prelude.{◌≡◌, map};
-ghost use Rattle.request_text.specs.Requests.{request_of, question_of, alone, call_of, would_of, commit_of, abort_of, rollback_of, kept_of, events_of};
+ghost use Rattle.request_text.specs.Requests.{request_of, question_of, alone, call_request_of, would_of, commit_request_of, abort_request_of, rollback_request_of, kept_of, events_request_of};
 
 use crate::fault::RequestFault;
 use crate::request::Request;
@@ -59,9 +59,9 @@ fn alone(words: &[&[u8]], request: Request) -> Result<Request, RequestFault>
     Ok(request)
 }
 
-#[tactic(auto, unfolding(crate::specs::Requests::call_of))]
+#[tactic(auto, unfolding(crate::specs::Requests::call_request_of))]
 fn call_of(words: &[&[u8]]) -> Result<Request, RequestFault>
-    ensures { result ≡ call_of (map (λ w. w.now) words.now) }
+    ensures { result ≡ call_request_of (map (λ w. w.now) words.now) }
 {
     exactly(words, 4)?;
     let call = name_at(words, 3)?;
@@ -81,27 +81,27 @@ fn would_of(words: &[&[u8]]) -> Result<Request, RequestFault>
     Ok(Request::Would { t, x, call })
 }
 
-#[tactic(auto, unfolding(crate::specs::Requests::commit_of))]
+#[tactic(auto, unfolding(crate::specs::Requests::commit_request_of))]
 fn commit_of(words: &[&[u8]]) -> Result<Request, RequestFault>
-    ensures { result ≡ commit_of (map (λ w. w.now) words.now) }
+    ensures { result ≡ commit_request_of (map (λ w. w.now) words.now) }
 {
     exactly(words, 2)?;
     let t = transaction_at(words, 1)?;
     Ok(Request::Commit { t })
 }
 
-#[tactic(auto, unfolding(crate::specs::Requests::abort_of))]
+#[tactic(auto, unfolding(crate::specs::Requests::abort_request_of))]
 fn abort_of(words: &[&[u8]]) -> Result<Request, RequestFault>
-    ensures { result ≡ abort_of (map (λ w. w.now) words.now) }
+    ensures { result ≡ abort_request_of (map (λ w. w.now) words.now) }
 {
     exactly(words, 2)?;
     let t = transaction_at(words, 1)?;
     Ok(Request::Abort { t })
 }
 
-#[tactic(auto, unfolding(crate::specs::Requests::rollback_of))]
+#[tactic(auto, unfolding(crate::specs::Requests::rollback_request_of))]
 fn rollback_of(words: &[&[u8]]) -> Result<Request, RequestFault>
-    ensures { result ≡ rollback_of (map (λ w. w.now) words.now) }
+    ensures { result ≡ rollback_request_of (map (λ w. w.now) words.now) }
 {
     exactly(words, 3)?;
     let t = transaction_at(words, 1)?;
@@ -118,9 +118,9 @@ fn kept_of(words: &[&[u8]]) -> Result<Request, RequestFault>
     Ok(Request::Kept { x })
 }
 
-#[tactic(auto, unfolding(crate::specs::Requests::events_of))]
+#[tactic(auto, unfolding(crate::specs::Requests::events_request_of))]
 fn events_of(words: &[&[u8]]) -> Result<Request, RequestFault>
-    ensures { result ≡ events_of (map (λ w. w.now) words.now) }
+    ensures { result ≡ events_request_of (map (λ w. w.now) words.now) }
 {
     exactly(words, 3)?;
     let from = number_at(words, 1)?;

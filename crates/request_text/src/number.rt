@@ -1,8 +1,8 @@
 //! Numbers and transactions in words.
 
 ghost use Rattle.std.specs.Prelude.{◌≡◌, ◌&&◌, ◌==◌, ◌<◌, nat_lt, length, slice_index, IfSome};
-ghost use Rattle.line_text.specs.Text.{is_digit};
-ghost use Rattle.request_text.specs.Numbers.{number_of, short_number, transaction_of, point_in};
+ghost use Rattle.decimals.specs.Decimals.{is_digit};
+ghost use Rattle.request_text.specs.Numbers.{request_number, short_number, transaction_of, point_in};
 
 use crate::request::TransactionName;
 
@@ -11,7 +11,7 @@ const MOST_DIGITS: usize = 10;
 
 /// The number of 32 bits that a word is: `0`, or decimal digits without a leading zero.
 pub fn number_of(word: &[u8]) -> Option<u32>
-    ensures { result ≡ number_of word.now }
+    ensures { result ≡ request_number word.now }
 {
     if word.is_empty() || word.len() > MOST_DIGITS || has_leading_zero(word) {
         return None;

@@ -2,7 +2,7 @@
 
 ghost use Rattle.std.specs.Prelude.{◌≡◌, map, IfOk, OnOk};
 ghost use Rattle.std.specs.List.{list_all};
-ghost use Rattle.request_text.specs.Requests.{asked_of, is_ascii, tagged_of, untagged, words_between};
+ghost use Rattle.request_text.specs.Requests.{asked_by, is_ascii, tagged_of, untagged, words_between};
 
 use crate::fault::RequestFault;
 use crate::line::request_of;
@@ -19,7 +19,7 @@ pub const LONGEST_LINE: usize = 255;
 ///
 /// Memory was refused.
 pub fn read_line(alloc: Global, line: &[u8]) -> Result<Asked, AllocError>
-    ensures { IfOk result (λ asked. asked ≡ asked_of line.now) }
+    ensures { IfOk result (λ asked. asked ≡ asked_by line.now) }
 {
     if line.len() > LONGEST_LINE {
         return Ok(untagged(RequestFault::TooLong));

@@ -1,7 +1,7 @@
 //! What the words of a request are to be.
 
 ghost use Rattle.std.specs.Prelude.{◌≡◌, map};
-ghost use Rattle.request_text.specs.Shapes.{word, exactly, number_at, transaction_at, name_at, is_verb};
+ghost use Rattle.request_text.specs.Shapes.{word_at, has_words, number_at, transaction_at, request_name_at, is_verb};
 
 use crate::fault::RequestFault;
 use crate::number::{number_of, transaction_of};
@@ -17,9 +17,9 @@ pub fn is_verb(words: &[&[u8]], verb: &str) -> bool
 }
 
 /// That there are this many words, the verb among them; else `BadWords`.
-#[tactic(auto, unfolding(crate::specs::Shapes::exactly))]
+#[tactic(auto, unfolding(crate::specs::Shapes::has_words))]
 pub fn exactly(words: &[&[u8]], count: usize) -> Result<(), RequestFault>
-    ensures { result ≡ exactly (map (λ w. w.now) words.now) count }
+    ensures { result ≡ has_words (map (λ w. w.now) words.now) count }
 {
     if words.len() == count {
         Ok(())
@@ -28,44 +28,44 @@ pub fn exactly(words: &[&[u8]], count: usize) -> Result<(), RequestFault>
     }
 }
 
-/// The name at a place, where the verb is at place 0; else `BadWords`.
-#[tactic(auto, unfolding(crate::specs::Shapes::name_at))]
-pub fn name_at(words: &[&[u8]], place: usize) -> Result<Name, RequestFault>
-    ensures { result ≡ name_at (map (λ w. w.now) words.now) place }
+/// The name at a position, where the verb is at position 0; else `BadWords`.
+#[tactic(auto, unfolding(crate::specs::Shapes::request_name_at))]
+pub fn name_at(words: &[&[u8]], position: usize) -> Result<Name, RequestFault>
+    ensures { result ≡ request_name_at (map (λ w. w.now) words.now) position }
 {
-    match Name::from_bytes(word(words, place)) {
+    match Name::from_bytes(word(words, position)) {
         Some(name) => Ok(name),
         None => Err(RequestFault::BadWords),
     }
 }
 
-/// The number at a place; else `BadNumber`.
+/// The number at a position; else `BadNumber`.
 #[tactic(auto, unfolding(crate::specs::Shapes::number_at))]
-pub fn number_at(words: &[&[u8]], place: usize) -> Result<u32, RequestFault>
-    ensures { result ≡ number_at (map (λ w. w.now) words.now) place }
+pub fn number_at(words: &[&[u8]], position: usize) -> Result<u32, RequestFault>
+    ensures { result ≡ number_at (map (λ w. w.now) words.now) position }
 {
-    match number_of(word(words, place)) {
+    match number_of(word(words, position)) {
         Some(number) => Ok(number),
         None => Err(RequestFault::BadNumber),
     }
 }
 
-/// The transaction at a place; else `BadNumber`.
+/// The transaction at a position; else `BadNumber`.
 #[tactic(auto, unfolding(crate::specs::Shapes::transaction_at))]
-pub fn transaction_at(words: &[&[u8]], place: usize) -> Result<TransactionName, RequestFault>
-    ensures { result ≡ transaction_at (map (λ w. w.now) words.now) place }
+pub fn transaction_at(words: &[&[u8]], position: usize) -> Result<TransactionName, RequestFault>
+    ensures { result ≡ transaction_at (map (λ w. w.now) words.now) position }
 {
-    match transaction_of(word(words, place)) {
+    match transaction_of(word(words, position)) {
         Some(t) => Ok(t),
         None => Err(RequestFault::BadNumber),
     }
 }
 
-/// The word at a place, which is empty where there are fewer.
-fn word<'a>(words: &[&'a [u8]], place: usize) -> &'a [u8]
-    ensures { result.now ≡ word (map (λ w. w.now) words.now) place }
+/// The word at a position, which is empty where there are fewer.
+fn word<'a>(words: &[&'a [u8]], position: usize) -> &'a [u8]
+    ensures { result.now ≡ word_at (map (λ w. w.now) words.now) position }
 {
-    match words.get(place) {
+    match words.get(position) {
         Some(word) => *word,
         None => &[],
     }

@@ -1,17 +1,17 @@
 //! Worked examples of the definitions: each function does nothing, and its contract is the example.
 
 ghost use Rattle.std.specs.Prelude.{◌≡◌, ◌∷◌, [], codes, Some, None, Ok, Err};
-ghost use Rattle.request_text.specs.Numbers.{number_of, transaction_of};
-ghost use Rattle.request_text.specs.Requests.{asked_of, untagged, words_between};
+ghost use Rattle.request_text.specs.Numbers.{request_number, transaction_of};
+ghost use Rattle.request_text.specs.Requests.{asked_by, untagged, words_between};
 ghost use Rattle.request_text.specs.declared.fault.RequestFault.TheVariants.{NotAscii, BadTag, UnknownVerb, BadWords, BadNumber};
 ghost use Rattle.request_text.specs.declared.request.Request.TheVariants.{Begin, Call};
 
 pub fn numbers_are_read()
-    ensures zero { number_of (codes "0") ≡ Some 0 }
-    ensures most { number_of (codes "4294967295") ≡ Some 4294967295 }
-    ensures too_large { number_of (codes "4294967296") ≡ None }
-    ensures leading_zero { number_of (codes "01") ≡ None }
-    ensures none { number_of (codes "") ≡ None }
+    ensures zero { request_number (codes "0") ≡ Some 0 }
+    ensures most { request_number (codes "4294967295") ≡ Some 4294967295 }
+    ensures too_large { request_number (codes "4294967296") ≡ None }
+    ensures leading_zero { request_number (codes "01") ≡ None }
+    ensures none { request_number (codes "") ≡ None }
 {}
 
 pub fn transactions_are_read()
@@ -27,16 +27,16 @@ pub fn lines_are_cut_at_each_space()
 {}
 
 pub fn lines_without_a_tag()
-    ensures empty { asked_of [] ≡ untagged BadTag }
-    ensures upper_case { asked_of (codes "A1 begin") ≡ untagged BadTag }
-    ensures tab { asked_of (9 ∷ []) ≡ untagged NotAscii }
+    ensures empty { asked_by [] ≡ untagged BadTag }
+    ensures upper_case { asked_by (codes "A1 begin") ≡ untagged BadTag }
+    ensures tab { asked_by (9 ∷ []) ≡ untagged NotAscii }
 {}
 
 pub fn lines_say_their_requests()
-    ensures begin { asked_of (codes "a1 begin") ≡ record { tag = Some (codes "a1"); request = Ok Begin } }
-    ensures call { asked_of (codes "7 call 3.17 0 hold:2") ≡ record { tag = Some (codes "7"); request = Ok (Call (record { life = 3; number = 17 }) 0 (codes "hold:2")) } }
-    ensures unknown_verb { asked_of (codes "a1 open") ≡ record { tag = Some (codes "a1"); request = Err UnknownVerb } }
-    ensures space_behind { asked_of (codes "a1 begin ") ≡ record { tag = Some (codes "a1"); request = Err BadWords } }
-    ensures words_before_numbers { asked_of (codes "a1 call x 0 HOLD") ≡ record { tag = Some (codes "a1"); request = Err BadWords } }
-    ensures bad_number { asked_of (codes "a1 commit 17") ≡ record { tag = Some (codes "a1"); request = Err BadNumber } }
+    ensures begin { asked_by (codes "a1 begin") ≡ record { tag = Some (codes "a1"); request = Ok Begin } }
+    ensures call { asked_by (codes "7 call 3.17 0 hold:2") ≡ record { tag = Some (codes "7"); request = Ok (Call (record { life = 3; number = 17 }) 0 (codes "hold:2")) } }
+    ensures unknown_verb { asked_by (codes "a1 open") ≡ record { tag = Some (codes "a1"); request = Err UnknownVerb } }
+    ensures space_behind { asked_by (codes "a1 begin ") ≡ record { tag = Some (codes "a1"); request = Err BadWords } }
+    ensures words_before_numbers { asked_by (codes "a1 call x 0 HOLD") ≡ record { tag = Some (codes "a1"); request = Err BadWords } }
+    ensures bad_number { asked_by (codes "a1 commit 17") ≡ record { tag = Some (codes "a1"); request = Err BadNumber } }
 {}

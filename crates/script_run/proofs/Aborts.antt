@@ -19,7 +19,7 @@ use Rattle.serial_order.specs.declared.command.Command.TheVariants as command
 use Rattle.serial_order.specs.declared.refusal.Refusal.TheVariants.{NotOpen}
 use Rattle.store_laws.specs.Stored.{Stored, refusal_of, stored_after}
 use Rattle.script_run.specs.Turns.{history_after, by_script, event_turn, open_in, abort_turns, closing_turns}
-use Rattle.script_run.specs.Running.{Writes}
+use Rattle.script_run.specs.Runs.{Writes}
 use Rattle.script_run.specs.Laws.{EachAborted}
 use Rattle.script_run.proofs.Turns.{history_after-append, history_at, join, stop, history_now}
 

@@ -14,7 +14,7 @@ use Rattle.serial_order.specs.declared.refusal.Refusal.{Refusal}
 use Rattle.serial_order.specs.declared.refusal.Refusal.TheVariants.{NoMemory}
 use Rattle.store_laws.specs.Stored.{Stored, objects, refusal_of, stored_after}
 use Rattle.script_run.specs.Turns.{Turn, line_of, by_script, event_turn, refused_turn, accepted_turn, answered_turn, command_turn}
-use Rattle.script_run.specs.Running.{takes_memory, Asks, Writes, RunsCommands}
+use Rattle.script_run.specs.Runs.{takes_memory, Asks, Writes, RunsCommands}
 use Rattle.script_run.proofs.Turns.{one_turn}
 
 -- one command whose turn is this one

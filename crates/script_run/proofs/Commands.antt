@@ -9,7 +9,7 @@ use Rattle.outputs.specs.declared.out.OutFault.{OutFault}
 use Rattle.serial_order.specs.declared.command.Command.{Command}
 use Rattle.store_laws.specs.Stored.{Stored, objects}
 use Rattle.script_run.specs.Turns.{history_after, command_turn, command_turns}
-use Rattle.script_run.specs.Running.{MayRefuseMemory, Writes, RunsCommands}
+use Rattle.script_run.specs.Runs.{MayRefuseMemory, Writes, RunsCommands}
 use Rattle.script_run.proofs.Turns.{join, stop, no_turns, history_now}
 
 -- ---- places at which memory is refused

@@ -10,7 +10,7 @@ use Rattle.outputs.specs.declared.out.OutFault.{OutFault}
 use Rattle.store_laws.specs.Stored.{Stored, objects}
 use Rattle.store.specs.KeptState.{IsKeptState}
 use Rattle.script_run.specs.Turns.{line_of, kept_turn, kept_turns}
-use Rattle.script_run.specs.Running.{Writes, AreKept, WritesState, WritesKept}
+use Rattle.script_run.specs.Runs.{Writes, AreKept, WritesState, WritesKept}
 use Rattle.script_run.proofs.Turns.{there_second, no_turns, join, one_turn}
 
 -- one object more

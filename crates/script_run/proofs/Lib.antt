@@ -1,5 +1,5 @@
 pub mod Turns
-pub mod Lasting
+pub mod KeptEvents
 pub mod ObjectLines
 pub mod Asked
 pub mod Commands
@@ -9,5 +9,5 @@ pub mod Scripts
 pub mod Histories
 pub mod Told
 pub mod LongNumbers
-pub mod Reading
+pub mod HistoryLines
 pub mod Ranges

@@ -6,7 +6,7 @@ use Rattle.outputs.specs.declared.out.OutFault.{OutFault}
 use Rattle.store_laws.specs.Stored.{Stored}
 use Rattle.store_text.specs.declared.line.ObjectLine.{ObjectLine}
 use Rattle.script_run.specs.Turns.{line_of, object_turn, object_turns}
-use Rattle.script_run.specs.Running.{Writes}
+use Rattle.script_run.specs.Runs.{Writes}
 use Rattle.script_run.proofs.Turns.{join, stop, one_turn}
 
 -- ---- objects

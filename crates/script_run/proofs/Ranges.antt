@@ -11,7 +11,7 @@ use Rattle.object_trait.specs.declared.event.EventKind.TheVariants as kind
 use Rattle.serial_order.specs.After.{AreBelow, NumbersInRun}
 use Rattle.serial_order.specs.History.{Summary, summary}
 use Rattle.serial_order.specs.Machine.{May, MayDo, RunsOn}
-use Rattle.history_text.specs.Events.{is_amount, is_in_range, is_object, is_operation, is_transaction, is_worker, line_at, line_of, op_line}
+use Rattle.history_text.specs.Events.{is_event_amount, is_in_range, is_object, is_operation, is_transaction, is_worker, event_line_at, line_of, op_event_line}
 use Rattle.script_run.specs.Laws.{AreOpsInRange, IsOpInRange, RunIsInRange}
 
 -- ---- operations
@@ -56,13 +56,13 @@ module _ (n objects : ℕ) (few : n ≤ 1000000) (few_objects : objects ≤ 256)
   operation-in k low = le-leb k 63 (omega (arith, low))
 
   -- the line of an operation, with an amount or without one
-  line-in : (w t x k : ℕ) (amount : Option ℕ) → w ≤ 255 → t < n → x < objects → is_operation k ≡ true → IfSome amount (λ m. is_amount m ≡ true)
-      → is_in_range (op_line w t x k amount) ≡ true
+  line-in : (w t x k : ℕ) (amount : Option ℕ) → w ≤ 255 → t < n → x < objects → is_operation k ≡ true → IfSome amount (λ m. is_event_amount m ≡ true)
+      → is_in_range (op_event_line w t x k amount) ≡ true
   line-in w t x k None by low there place fits = and_from _ _ (and_from _ _ (and_from _ _ (worker-in w by) (transaction-in t low)) (object-in x there)) place
   line-in w t x k (Some m) by low there place fits =
       and_from _ _ (and_from _ _ (and_from _ _ (and_from _ _ (worker-in w by) (transaction-in t low)) (object-in x there)) place) fits
 
-  event-in : (w : ℕ) (happened : EventKind) → w ≤ 255 → AreBelow objects 64 n happened → OpInRange happened → is_in_range (line_at w happened) ≡ true
+  event-in : (w : ℕ) (happened : EventKind) → w ≤ 255 → AreBelow objects 64 n happened → OpInRange happened → is_in_range (event_line_at w happened) ≡ true
   event-in w (kind.Begin t) by low op = and_from _ _ (worker-in w by) (transaction-in t low)
   event-in w (kind.Op k t x) by low op = line-in w t x (place_of k) (amount_of k) by low.0 low.1 op.place op.amount
   event-in w (kind.Busy c t x u) by low op =

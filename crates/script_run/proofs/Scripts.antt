@@ -4,7 +4,7 @@ use Rattle.outputs.specs.declared.out.OutFault.{OutFault}
 use Rattle.store_laws.specs.Stored.{Stored, objects}
 use Rattle.script_text.specs.declared.script.Script.{Script}
 use Rattle.script_run.specs.Turns.{Turn, history_after, object_turns, command_turns, closing_turns, end_turn, kept_turns, last_turns}
-use Rattle.script_run.specs.Running.{Writes, RunsCommands, AreKept, RunsScript}
+use Rattle.script_run.specs.Runs.{Writes, RunsCommands, AreKept, RunsScript}
 use Rattle.script_run.proofs.Commands.{never-memory_refused}
 use Rattle.script_run.proofs.KeptLines.{none_kept}
 use Rattle.script_run.proofs.Turns.{join, stop, history_now}

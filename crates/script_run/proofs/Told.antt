@@ -3,8 +3,8 @@ use Rattle.std.proofs.Common.{◌≡◌, ℕ, suc, Bool, true, false, List, [], 
 use Rattle.std.proofs.lemmas.Grind.{flat_map-append}
 use Rattle.std.proofs.lemmas.List.{map-append}
 use Rattle.std.proofs.lemmas.List.Elements.{filter-append}
-use Rattle.line_text.specs.Comments.{tells as tells_line}
-use Rattle.line_text.specs.Spelling.{spaced, text_of as text_of_lines}
+use Rattle.line_text.specs.Comments.{tells}
+use Rattle.line_text.specs.Spelling.{spaced, text_of}
 use Rattle.type_table.specs.Operation.{amount_of, place_of}
 use Rattle.object_trait.specs.Object.{Object}
 use Rattle.object_trait.specs.declared.event.Event.{Event}
@@ -19,31 +19,31 @@ use Rattle.serial_order.specs.declared.refusal.Refusal.TheVariants.{NoMemory}
 use Rattle.store_text.specs.declared.line.Line.TheVariants.{End, Entry}
 use Rattle.store_text.specs.declared.line.ObjectLine.{ObjectLine}
 use Rattle.history_text.specs.Canonical.{words_of, object_line, event_line, canonical_text}
-use Rattle.history_text.specs.Events.{op_line}
-use Rattle.script_run.specs.Turns.{Turn, line_of, text_of, history_after, by_script, event_turn, refused_turn, answered_turn, command_turn, object_turn, object_turns, command_turns, abort_turns, closing_turns, open_in, end_turn, kept_turns}
-use Rattle.script_run.specs.Laws.{tells, TextTellsHistory}
+use Rattle.history_text.specs.Events.{op_event_line}
+use Rattle.script_run.specs.Turns.{Turn, line_of, text_of_turns, history_after, by_script, event_turn, refused_turn, answered_turn, command_turn, object_turn, object_turns, command_turns, abort_turns, closing_turns, open_in, end_turn, kept_turns}
+use Rattle.script_run.specs.Laws.{turn_tells, TextTellsHistory}
 use Rattle.script_run.proofs.Turns.{history_after-append, text_of-append}
 
 -- the lines of events
 abbrev event_text : List Event → List ℕ
-event_text happened = text_of_lines words_of (map event_line happened)
+event_text happened = text_of words_of (map event_line happened)
 
 event_text-append : (xs ys : List Event) → event_text (xs ++ ys) ≡ event_text xs ++ event_text ys
 event_text-append xs ys =
-    ap (text_of_lines words_of) (map-append event_line xs ys) ∙ flat_map-append _ (map event_line xs) (map event_line ys)
+    ap (text_of words_of) (map-append event_line xs ys) ∙ flat_map-append _ (map event_line xs) (map event_line ys)
 
 -- turns that append some events, whose lines are those of the turns that aren't comments
 record AreTold (H : List Event) (turns : List Turn) : Type 0 where
   pub happened : List Event
   pub history : history_after H turns ≡ H ++ happened
-  pub text : text_of (filter tells turns) ≡ event_text happened
+  pub text : text_of_turns (filter turn_tells turns) ≡ event_text happened
 
 none_told : (H : List Event) → AreTold H []
 none_told H = record { happened = []; history = sym (append-nil H); text = refl }
 
 -- the text of the turns that say something, of two lists
-tells-append : (xs ys : List Turn) → text_of (filter tells (xs ++ ys)) ≡ text_of (filter tells xs) ++ text_of (filter tells ys)
-tells-append xs ys = ap text_of (filter-append tells xs ys) ∙ text_of-append (filter tells xs) (filter tells ys)
+tells-append : (xs ys : List Turn) → text_of_turns (filter turn_tells (xs ++ ys)) ≡ text_of_turns (filter turn_tells xs) ++ text_of_turns (filter turn_tells ys)
+tells-append xs ys = ap text_of_turns (filter-append turn_tells xs ys) ∙ text_of-append (filter turn_tells xs) (filter turn_tells ys)
 
 -- one list after another
 told-join : (H : List Event) (xs ys : List Turn) → AreTold H xs → AreTold (history_after H xs) ys → AreTold H (xs ++ ys)
@@ -52,17 +52,17 @@ told-join H xs ys p q =
       happened = p.happened ++ q.happened;
       history =
           history_after-append H xs ys ∙ q.history ∙ ap (λ K. K ++ q.happened) p.history ∙ append_assoc H p.happened q.happened;
-      text = tells-append xs ys ∙ ap (λ l. l ++ text_of (filter tells ys)) p.text ∙ ap (λ l. event_text p.happened ++ l) q.text
+      text = tells-append xs ys ∙ ap (λ l. l ++ text_of_turns (filter turn_tells ys)) p.text ∙ ap (λ l. event_text p.happened ++ l) q.text
           ∙ sym (event_text-append p.happened q.happened);
     }
 
 -- the line of an operation is no comment, with an amount and without one
-op-tells : (w t x k : ℕ) (amount : Option ℕ) → tells_line (spaced (words_of (Entry (op_line w t x k amount)))) ≡ true
+op-tells : (w t x k : ℕ) (amount : Option ℕ) → tells (spaced (words_of (Entry (op_event_line w t x k amount)))) ≡ true
 op-tells w t x k None = refl
 op-tells w t x k (Some n) = refl
 
 -- nor is that of any event
-pub event-tells : (H : List Event) (happened : EventKind) → tells (event_turn H happened) ≡ true
+pub event-tells : (H : List Event) (happened : EventKind) → turn_tells (event_turn H happened) ≡ true
 event-tells H (kind.Begin t) = refl
 event-tells H (kind.Op k t x) = op-tells 0 t x (place_of k) (amount_of k)
 event-tells H (kind.Busy c t x u) = refl
@@ -76,7 +76,7 @@ event-told H happened =
     record {
       happened = by_script happened ∷ [];
       history = refl;
-      text = ap (λ b. text_of (cond b (event_turn H happened ∷ []) [])) (event-tells H happened);
+      text = ap (λ b. text_of_turns (cond b (event_turn H happened ∷ []) [])) (event-tells H happened);
     }
 
 -- a refusal's is one
@@ -112,7 +112,7 @@ aborts-told H (t ∷ ts) =
     told-join H (event_turn H (kind.Abort t) ∷ []) (abort_turns (H ++ by_script (kind.Abort t) ∷ []) ts) (event-told H (kind.Abort t))
     (aborts-told (H ++ by_script (kind.Abort t) ∷ []) ts)
 
-kept-told : (H : List Event) (x : ℕ) (kept : List ℕ) → text_of (filter tells (kept_turns H x kept)) ≡ []
+kept-told : (H : List Event) (x : ℕ) (kept : List ℕ) → text_of_turns (filter turn_tells (kept_turns H x kept)) ≡ []
 kept-told H x [] = refl
 kept-told H x (s ∷ kept) = kept-told H (suc x) kept
 
@@ -122,7 +122,7 @@ kept-stays H x (s ∷ kept) = kept-stays H (suc x) kept
 
 -- ---- the whole
 
-objects-told : (H : List Event) (lines : List ObjectLine) → text_of (filter tells (object_turns H lines)) ≡ text_of_lines words_of (map object_line lines)
+objects-told : (H : List Event) (lines : List ObjectLine) → text_of_turns (filter turn_tells (object_turns H lines)) ≡ text_of words_of (map object_line lines)
 objects-told H [] = refl
 objects-told H (o ∷ lines) = ap (λ l. line_of (object_turn H o) ++ l) (objects-told H lines)
 
@@ -131,15 +131,15 @@ objects-stay H [] = refl
 objects-stay H (o ∷ lines) = objects-stay H lines
 
 -- `end`, and after it nothing but comments
-end-told : (H : List Event) (kept : List ℕ) → text_of (filter tells (end_turn H ∷ kept_turns H 0 kept)) ≡ text_of_lines words_of (End ∷ [])
+end-told : (H : List Event) (kept : List ℕ) → text_of_turns (filter turn_tells (end_turn H ∷ kept_turns H 0 kept)) ≡ text_of words_of (End ∷ [])
 end-told H kept = ap (λ l. line_of (end_turn H) ++ l) (kept-told H 0 kept)
 
 -- the canonical text by its parts
 canonical-parts : (lines : List ObjectLine) (H : List Event)
-    → canonical_text lines H ≡ text_of_lines words_of (map object_line lines) ++ (event_text H ++ text_of_lines words_of (End ∷ []))
+    → canonical_text lines H ≡ text_of words_of (map object_line lines) ++ (event_text H ++ text_of words_of (End ∷ []))
 canonical-parts lines H =
     flat_map-append _ (map object_line lines) (map event_line H ++ End ∷ [])
-    ∙ ap (λ l. text_of_lines words_of (map object_line lines) ++ l) (flat_map-append _ (map event_line H) (End ∷ []))
+    ∙ ap (λ l. text_of words_of (map object_line lines) ++ l) (flat_map-append _ (map event_line H) (End ∷ []))
 
 pub text-tells : CommandAppends → TextTellsHistory
 text-tells appends = λ objects most memory_refused kept lines commands.
@@ -150,17 +150,17 @@ text-tells appends = λ objects most memory_refused kept lines commands.
     let closed = history_after K closing in
     let behind = end_turn closed ∷ kept_turns closed 0 kept in
     let both : AreTold [] (asked ++ closing) = told-join [] asked closing (commands-told appends objects most memory_refused [] commands) (aborts-told K (open_in K)) in
-    let lines_text = text_of_lines words_of (map object_line lines) in
-    let end_text = text_of_lines words_of (End ∷ []) in
+    let lines_text = text_of words_of (map object_line lines) in
+    let end_text = text_of words_of (End ∷ []) in
     let history : history_after [] (first ++ (asked ++ (closing ++ behind))) ≡ both.happened =
     history_after-append [] first (asked ++ (closing ++ behind)) ∙ ap (λ J. history_after J (asked ++ (closing ++ behind))) (objects-stay [] lines)
     ∙ history_after-append [] asked (closing ++ behind) ∙ history_after-append K closing behind ∙ kept-stays closed 0 kept
     ∙ sym (history_after-append [] asked closing) ∙ both.history
     in
-    let text : text_of (filter tells (first ++ (asked ++ (closing ++ behind)))) ≡ lines_text ++ (event_text both.happened ++ end_text) =
-    tells-append first (asked ++ (closing ++ behind)) ∙ ap (λ l. l ++ text_of (filter tells (asked ++ (closing ++ behind)))) (objects-told [] lines)
+    let text : text_of_turns (filter turn_tells (first ++ (asked ++ (closing ++ behind)))) ≡ lines_text ++ (event_text both.happened ++ end_text) =
+    tells-append first (asked ++ (closing ++ behind)) ∙ ap (λ l. l ++ text_of_turns (filter turn_tells (asked ++ (closing ++ behind)))) (objects-told [] lines)
     ∙ ap (λ l. lines_text ++ l)
-    (ap (λ ts. text_of (filter tells ts)) (sym (append_assoc asked closing behind)) ∙ tells-append (asked ++ closing) behind
-    ∙ ap (λ l. l ++ text_of (filter tells behind)) both.text ∙ ap (λ l. event_text both.happened ++ l) (end-told closed kept))
+    (ap (λ ts. text_of_turns (filter turn_tells ts)) (sym (append_assoc asked closing behind)) ∙ tells-append (asked ++ closing) behind
+    ∙ ap (λ l. l ++ text_of_turns (filter turn_tells behind)) both.text ∙ ap (λ l. event_text both.happened ++ l) (end-told closed kept))
     in
     text ∙ sym (ap (canonical_text lines) history ∙ canonical-parts lines both.happened)

@@ -10,8 +10,8 @@ use Rattle.object_trait.specs.declared.event.Event.{Event}
 use Rattle.outputs.specs.Out.{Puts}
 use Rattle.outputs.specs.declared.out.OutFault.{OutFault}
 use Rattle.store_laws.specs.Stored.{Stored}
-use Rattle.script_run.specs.Turns.{Turn, line_of, text_of, history_after}
-use Rattle.script_run.specs.Running.{StopsAt, WritesAll, Writes}
+use Rattle.script_run.specs.Turns.{Turn, line_of, text_of_turns, history_after}
+use Rattle.script_run.specs.Runs.{StopsAt, WritesAll, Writes}
 
 -- ---- two lists of turns
 
@@ -27,7 +27,7 @@ history_at H (x ∷ turns) zero turn at = ap (λ (y : Turn). y.history) (sym (sa
 history_at H (x ∷ turns) (suc i) turn at = history_at x.history turns i turn at
 
 -- their texts follow each other
-pub text_of-append : (xs ys : List Turn) → text_of (xs ++ ys) ≡ text_of xs ++ text_of ys
+pub text_of-append : (xs ys : List Turn) → text_of_turns (xs ++ ys) ≡ text_of_turns xs ++ text_of_turns ys
 text_of-append xs ys = flat_map-append line_of xs ys
 
 -- a place in the second is one in both, further on by the length of the first
@@ -54,7 +54,7 @@ stops_first s new xs ys a b h =
       there = found-front xs ys h.place h.turn h.there;
       taken = h.taken;
       short = h.short;
-      bytes = subst (λ l. Appends a b (text_of l ++ take h.taken (line_of h.turn))) (sym (take-append-le h.place xs ys within)) h.bytes;
+      bytes = subst (λ l. Appends a b (text_of_turns l ++ take h.taken (line_of h.turn))) (sym (take-append-le h.place xs ys within)) h.bytes;
       store = h.store;
     }
 
@@ -62,9 +62,9 @@ stops_first s new xs ys a b h =
 stops_second : (s mid new : Stored) (xs ys : List Turn) (a b c : Option (List ℕ)) → WritesAll s xs a b mid → StopsAt mid ys b c new → StopsAt s (xs ++ ys) a c new
 stops_second s mid new xs ys a b c all h =
     let rest = take h.taken (line_of h.turn) in
-    let joined : text_of (take (length xs + h.place) (xs ++ ys)) ++ rest ≡ text_of xs ++ (text_of (take h.place ys) ++ rest) =
-    ap (λ l. text_of l ++ rest) (take_second xs ys (length xs + h.place) h.place refl)
-    ∙ ap (λ l. l ++ rest) (text_of-append xs (take h.place ys)) ∙ append_assoc (text_of xs) (text_of (take h.place ys)) rest
+    let joined : text_of_turns (take (length xs + h.place) (xs ++ ys)) ++ rest ≡ text_of_turns xs ++ (text_of_turns (take h.place ys) ++ rest) =
+    ap (λ l. text_of_turns l ++ rest) (take_second xs ys (length xs + h.place) h.place refl)
+    ∙ ap (λ l. l ++ rest) (text_of-append xs (take h.place ys)) ∙ append_assoc (text_of_turns xs) (text_of_turns (take h.place ys)) rest
     in
     record {
       place = length xs + h.place;
@@ -72,7 +72,7 @@ stops_second s mid new xs ys a b c all h =
       there = there_second xs ys (length xs + h.place) h.place refl ∙ h.there;
       taken = h.taken;
       short = h.short;
-      bytes = subst (Appends a c) (sym joined) (Appends-trans a b c (text_of xs) (text_of (take h.place ys) ++ rest) all.bytes h.bytes);
+      bytes = subst (Appends a c) (sym joined) (Appends-trans a b c (text_of_turns xs) (text_of_turns (take h.place ys) ++ rest) all.bytes h.bytes);
       store = h.store ∙ ap (λ (m : Stored). record m { history = h.turn.history }) all.store;
     }
 
@@ -97,7 +97,7 @@ pub join : (s mid new : Stored) (xs ys : List Turn) {a b c : Option (List ℕ)} 
 join s mid new xs ys {a = a} {b = b} {c = c} {result = Ok done} p q =
     record {
       written = record {
-        bytes = subst (Appends a c) (sym (text_of-append xs ys)) (Appends-trans a b c (text_of xs) (text_of ys) p.written.bytes q.written.bytes);
+        bytes = subst (Appends a c) (sym (text_of-append xs ys)) (Appends-trans a b c (text_of_turns xs) (text_of_turns ys) p.written.bytes q.written.bytes);
         store =
             q.written.store ∙ ap (λ (m : Stored). record m { history = history_after m.history ys }) p.written.store
             ∙ ap (λ K. record s { history = K }) (sym (history_after-append s.history xs ys));

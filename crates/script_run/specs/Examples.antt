@@ -7,7 +7,7 @@ use Rattle.serial_order.specs.Examples.{undo_counter}
 use Rattle.serial_order.specs.declared.command.Command.{Command}
 use Rattle.serial_order.specs.declared.command.Command.TheVariants.{Begin, Call, Commit, Abort}
 use Rattle.store_text.specs.declared.line.ObjectLine.{ObjectLine}
-use Rattle.script_run.specs.Turns.{text_of, script_turns}
+use Rattle.script_run.specs.Turns.{text_of_turns, script_turns}
 
 -- one counter, update in place
 abbrev pub one_counter : List Object
@@ -22,15 +22,15 @@ keeps_others =
     Begin ∷ Begin ∷ Call 0 0 (codes "inc:1") ∷ Call 1 0 (codes "inc:1") ∷ Abort 0 ∷ Abort 0 ∷ Commit 1 ∷ Begin ∷ []
 
 -- the text of that script with a limit of events, where memory is refused at some places and the counter keeps a state
-abbrev pub counter_text : ℕ → (ℕ → Bool) → ℕ → List ℕ
-counter_text most memory_refused state = text_of (script_turns one_counter most memory_refused (state ∷ []) [] one_line keeps_others)
+abbrev pub counter_run_text : ℕ → (ℕ → Bool) → ℕ → List ℕ
+counter_run_text most memory_refused state = text_of_turns (script_turns one_counter most memory_refused (state ∷ []) [] one_line keeps_others)
 
 -- memory is refused nowhere, or at one place
-abbrev pub nowhere : ℕ → Bool
-nowhere place = false
+abbrev pub never_refused : ℕ → Bool
+never_refused place = false
 
-abbrev pub at_place : ℕ → ℕ → Bool
-at_place n place = place == n
+abbrev pub only_at : ℕ → ℕ → Bool
+only_at n place = place == n
 
 -- the bytes of lines, each ended by a LF
 abbrev pub ended : List (List ℕ) → List ℕ

@@ -4,7 +4,7 @@ use Rattle.std.specs.List.{AllByRecursion}
 use Rattle.type_table.specs.Limits.{most_events, most_objects}
 use Rattle.type_table.specs.Operation.{amount_of, place_of}
 use Rattle.type_table.specs.Table.{Table, has_op}
-use Rattle.line_text.specs.Comments.{IsComment, lines_text, tells as tells_line}
+use Rattle.line_text.specs.Comments.{IsComment, lines_text, tells}
 use Rattle.line_text.specs.Outcome.{outcome_of}
 use Rattle.line_text.specs.Spelling.{spaced}
 use Rattle.object_trait.specs.Object.{Object}
@@ -17,8 +17,8 @@ use Rattle.serial_order.specs.declared.command.Command.{Command}
 use Rattle.store_text.specs.declared.line.ObjectLine.{ObjectLine}
 use Rattle.store_text.specs.Body.{store_rules}
 use Rattle.history_text.specs.Canonical.{AreInRange, canonical_lines, canonical_text}
-use Rattle.history_text.specs.Events.{events, is_amount, is_operation}
-use Rattle.script_run.specs.Turns.{Turn, text_of, history_after, command_turns, closing_turns, open_in, by_script, script_turns}
+use Rattle.history_text.specs.Events.{history_body, is_event_amount, is_operation}
+use Rattle.script_run.specs.Turns.{Turn, text_of_turns, history_after, command_turns, closing_turns, open_in, by_script, script_turns}
 
 -- the history after the commands' turns is that of their replay
 abbrev pub AllReplayed : Type 0
@@ -49,15 +49,15 @@ NoneStaysOpen =
     (objects : List Object) (H : List Event) (t : ℕ) → IsRun objects H → is_open (summary (history_after H (closing_turns H))) t ≡ false
 
 -- a turn whose line is no comment
-abbrev pub tells : Turn → Bool
-tells turn = tells_line (spaced turn.words)
+abbrev pub turn_tells : Turn → Bool
+turn_tells turn = tells (spaced turn.words)
 
 -- a script's lines but for the comments are the canonical text of its history
 abbrev pub TextTellsHistory : Type 0
 TextTellsHistory =
     (objects : List Object) (most : ℕ) (memory_refused : ℕ → Bool) (kept : List ℕ) (lines : List ObjectLine) (commands : List Command)
     → let turns = script_turns objects most memory_refused kept [] lines commands in
-    text_of (filter tells turns) ≡ canonical_text lines (history_after [] turns)
+    text_of_turns (filter turn_tells turns) ≡ canonical_text lines (history_after [] turns)
 
 -- a script's lines, and comments after them, are read as its history, where that is in range and kept states have 32 bits
 abbrev pub ScriptIsRead : Type 0
@@ -66,7 +66,7 @@ ScriptIsRead =
     → let turns = script_turns objects most memory_refused kept [] lines commands in
     let H = history_after [] turns in
     AreInRange lines H → length kept < 10 ^ 7 → AllByRecursion (λ state. state < 2 ^ 32) kept → AllByRecursion IsComment behind
-    → outcome_of (store_rules events) (text_of turns ++ lines_text behind) ≡ Ok (canonical_lines lines H)
+    → outcome_of (store_rules history_body) (text_of_turns turns ++ lines_text behind) ≡ Ok (canonical_lines lines H)
 
 -- its events are worker 0's
 abbrev pub ScriptIsByOne : Type 0
@@ -77,7 +77,7 @@ ScriptIsByOne =
 -- an operation's place, and its amount where it has one, are in the ranges of a history's text
 pub record IsOpInRange (k : ℕ) : Type 0 where
   pub place : is_operation (place_of k) ≡ true
-  pub amount : IfSome (amount_of k) (λ n. is_amount n ≡ true)
+  pub amount : IfSome (amount_of k) (λ n. is_event_amount n ≡ true)
 
 -- and so are those of each operation of a table
 abbrev pub AreOpsInRange : Table → Type 0

@@ -1,5 +1,5 @@
 pub mod Lines
 pub mod Turns
-pub mod Running
+pub mod Runs
 pub mod Laws
 pub mod Examples

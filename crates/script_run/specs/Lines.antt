@@ -13,8 +13,8 @@ use Rattle.history_text.specs.Canonical.{words_of, object_line, event_line}
 abbrev pub object_words : ObjectLine → List (List ℕ)
 object_words o = words_of (object_line o)
 
-abbrev pub event_words : Event → List (List ℕ)
-event_words e = words_of (event_line e)
+abbrev pub event_turn_words : Event → List (List ℕ)
+event_turn_words e = words_of (event_line e)
 
 abbrev pub end_words : List (List ℕ)
 end_words = words_of End

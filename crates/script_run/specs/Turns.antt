@@ -12,7 +12,7 @@ use Rattle.serial_order.specs.declared.command.Command.{Command}
 use Rattle.serial_order.specs.declared.refusal.Refusal.{Refusal}
 use Rattle.serial_order.specs.declared.refusal.Refusal.TheVariants.{NoMemory}
 use Rattle.store_text.specs.declared.line.ObjectLine.{ObjectLine}
-use Rattle.script_run.specs.Lines.{object_words, event_words, end_words, refused_words, kept_words}
+use Rattle.script_run.specs.Lines.{object_words, event_turn_words, end_words, refused_words, kept_words}
 
 -- ---- a turn
 
@@ -26,8 +26,8 @@ abbrev pub line_of : Turn → List ℕ
 line_of turn = spaced turn.words ++ 10 ∷ []
 
 -- the lines of some turns
-abbrev pub text_of : List Turn → List ℕ
-text_of turns = flat_map line_of turns
+abbrev pub text_of_turns : List Turn → List ℕ
+text_of_turns turns = flat_map line_of turns
 
 -- the history when these turns are over
 abbrev pub history_after : List Event → List Turn → List Event
@@ -42,7 +42,7 @@ by_script happened = record { worker = 0; kind = happened }
 
 -- an event after a history, and its line
 abbrev pub event_turn : List Event → EventKind → Turn
-event_turn H happened = record { words = event_words (by_script happened); history = H ++ by_script happened ∷ [] }
+event_turn H happened = record { words = event_turn_words (by_script happened); history = H ++ by_script happened ∷ [] }
 
 -- a refusal leaves the history
 abbrev pub refused_turn : List Event → Refusal → Turn

@@ -1,7 +1,7 @@
 //! The kept states at the end of a running script.
 
 ghost use Rattle.std.specs.Prelude.{◌≡◌, ◌<◌, length, None};
-ghost use Rattle.script_run.specs.Running.{WritesKept, WritesState};
+ghost use Rattle.script_run.specs.Runs.{WritesKept, WritesState};
 
 use crate::lines::write_kept;
 use object_trait::Recovery;

@@ -2,13 +2,13 @@
 //! is handed to the output before the next command is asked.
 #![tactic(auto)]
 
-mod asking;
-mod closing;
 mod kept;
+mod last_aborts;
 mod laws;
 mod lines;
 mod objects;
-mod running;
+mod run;
+mod script_commands;
 
 pub use kept::write_states;
 pub use laws::{
@@ -17,7 +17,7 @@ pub use laws::{
 };
 pub use lines::{name_of, number_of};
 pub use outputs::{Out, OutFault};
-pub use running::run_script;
+pub use run::run_script;
 pub use script_text::Script;
 
 pub mod worked;

@@ -4,7 +4,7 @@ ghost use Rattle.std.specs.Prelude.{◌≡◌, None};
 ghost use Rattle.std.specs.Result.{result_err};
 ghost use Rattle.store_laws.specs.Stored.{Stored};
 ghost use Rattle.script_run.specs.Turns.{object_turns};
-ghost use Rattle.script_run.specs.Running.{Writes};
+ghost use Rattle.script_run.specs.Runs.{Writes};
 
 use history_text::write_object;
 use outputs::{Out, OutFault};

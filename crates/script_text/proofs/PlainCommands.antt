@@ -10,10 +10,10 @@ use Rattle.line_text.proofs.Items.{keyword}
 use Rattle.store_text.specs.Body.{line_of}
 use Rattle.store_text.specs.declared.line.Line.TheVariants.{Entry}
 use Rattle.serial_order.specs.declared.command.Command.TheVariants.{Begin, Call, Commit, Abort, Rollback}
-use Rattle.script_text.specs.Commands.{commands, command_of, begin_of, call_of, commit_of, abort_of, rollback_of}
+use Rattle.script_text.specs.Commands.{commands, command_of, begin_command_of, call_command_of, commit_command_of, abort_command_of, rollback_command_of}
 
 pub begin_plainly : (behind : List ℕ) → SaysPlainly (line_of commands) (codes "begin" ++ 10 ∷ behind) (Entry Begin) behind
-unfolding line_of is_key command_of begin_of exactly
+unfolding line_of is_key command_of begin_command_of exactly
 begin_plainly behind = record {
   words = codes "begin" ∷ [];
   line = (keyword (codes "begin") refl refl, refl);
@@ -25,7 +25,7 @@ begin_plainly behind = record {
 pub call_plainly : (t x : ℕ) (word rest first second behind : List ℕ) → IsNumberBefore 32 rest t first → IsNumberBefore 32 first x second
     → second ≡ word ++ 10 ∷ behind → is_name word ≡ true → NameIsWord word
     → SaysPlainly (line_of commands) (codes "call " ++ rest) (Entry (Call t x word)) behind
-unfolding line_of is_key command_of call_of exactly name_at number_at
+unfolding line_of is_key command_of call_command_of exactly name_at number_at
 call_plainly t x word rest first second behind a b front is words = record {
   words = codes "call" ∷ a.word ∷ b.word ∷ word ∷ [];
   line = (rest, keyword (codes "call") refl refl, refl, (first, a.is_word, a.front, (second, b.is_word, b.front, ((words is).0, front))));
@@ -35,7 +35,7 @@ call_plainly t x word rest first second behind a b front is words = record {
 }
 
 pub commit_plainly : (t : ℕ) (rest behind : List ℕ) → IsNumberBefore 10 rest t behind → SaysPlainly (line_of commands) (codes "commit " ++ rest) (Entry (Commit t)) behind
-unfolding line_of is_key command_of commit_of exactly number_at
+unfolding line_of is_key command_of commit_command_of exactly number_at
 commit_plainly t rest behind a = record {
   words = codes "commit" ∷ a.word ∷ [];
   line = (rest, keyword (codes "commit") refl refl, refl, (a.is_word, a.front));
@@ -45,7 +45,7 @@ commit_plainly t rest behind a = record {
 }
 
 pub abort_plainly : (t : ℕ) (rest behind : List ℕ) → IsNumberBefore 10 rest t behind → SaysPlainly (line_of commands) (codes "abort " ++ rest) (Entry (Abort t)) behind
-unfolding line_of is_key command_of abort_of exactly number_at
+unfolding line_of is_key command_of abort_command_of exactly number_at
 abort_plainly t rest behind a = record {
   words = codes "abort" ∷ a.word ∷ [];
   line = (rest, keyword (codes "abort") refl refl, refl, (a.is_word, a.front));
@@ -56,7 +56,7 @@ abort_plainly t rest behind a = record {
 
 pub rollback_plainly : (t n : ℕ) (rest first behind : List ℕ) → IsNumberBefore 32 rest t first → IsNumberBefore 10 first n behind
     → SaysPlainly (line_of commands) (codes "rollback " ++ rest) (Entry (Rollback t n)) behind
-unfolding line_of is_key command_of rollback_of exactly number_at
+unfolding line_of is_key command_of rollback_command_of exactly number_at
 rollback_plainly t n rest first behind a b = record {
   words = codes "rollback" ∷ a.word ∷ b.word ∷ [];
   line = (rest, keyword (codes "rollback") refl refl, refl, (first, a.is_word, a.front, (b.is_word, b.front)));

@@ -44,12 +44,12 @@ abbrev pub ended : List (List ℕ) → List ℕ
 ended text = flat_map (λ l. l ++ 10 ∷ []) text
 
 -- these lines are read as these
-abbrev pub Says : List (List ℕ) → List (Line Command) → Type 0
-Says text lines = outcome_of (store_rules commands) (ended text) ≡ Ok lines
+abbrev pub SaysCommands : List (List ℕ) → List (Line Command) → Type 0
+SaysCommands text lines = outcome_of (store_rules commands) (ended text) ≡ Ok lines
 
 -- a text is refused at a line
-abbrev pub Refuses : List (List ℕ) → ℕ → FaultKind → Type 0
-Refuses text line kind = outcome_of (store_rules commands) (ended text) ≡ Err (fault_on line kind)
+abbrev pub RefusesScript : List (List ℕ) → ℕ → FaultKind → Type 0
+RefusesScript text line kind = outcome_of (store_rules commands) (ended text) ≡ Err (fault_on line kind)
 
 -- the script's text with another line in place of the one at a place, counted from 0
 abbrev pub script_with : ℕ → List ℕ → List (List ℕ)

@@ -6,12 +6,12 @@ use Rattle.script_text.specs.declared.kept_command.KeptCommand.{KeptCommand}
 use Rattle.script_text.specs.declared.kept_command.KeptCommand.TheVariants as kept
 
 -- the command of which this is kept, beside these names
-abbrev pub said_by : List (List ℕ) → KeptCommand → Command
-said_by names kept.Begin = Begin
-said_by names (kept.Call t x name) = Call t x (slice_index_or names name [])
-said_by names (kept.Commit t) = Commit t
-said_by names (kept.Abort t) = Abort t
-said_by names (kept.Rollback t n) = Rollback t n
+abbrev pub command_said : List (List ℕ) → KeptCommand → Command
+command_said names kept.Begin = Begin
+command_said names (kept.Call t x name) = Call t x (slice_index_or names name [])
+command_said names (kept.Commit t) = Commit t
+command_said names (kept.Abort t) = Abort t
+command_said names (kept.Rollback t n) = Rollback t n
 
 -- its name is one of this many
 abbrev pub HasName : ℕ → KeptCommand → Type 0
@@ -19,8 +19,8 @@ HasName count (kept.Call t x name) = name < count
 HasName count _ = Unit {0}
 
 -- a command is kept so, for which a name may have come after the others
-pub record Keeps (old new : List (List ℕ)) (command : Command) (k : KeptCommand) : Type 0 where
+pub record KeepsCommand (old new : List (List ℕ)) (command : Command) (k : KeptCommand) : Type 0 where
   pub more : List (List ℕ)
   pub names : new ≡ old ++ more
   pub has_name : HasName (length new) k
-  pub says : said_by new k ≡ command
+  pub says : command_said new k ≡ command

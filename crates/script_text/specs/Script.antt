@@ -6,13 +6,13 @@ use Rattle.serial_order.specs.declared.command.Command.{Command}
 use Rattle.store_text.specs.declared.line.Line.{Line}
 use Rattle.store_text.specs.declared.line.Line.TheVariants.{Max}
 use Rattle.store_text.specs.declared.line.ObjectLine.{ObjectLine}
-use Rattle.store_text.specs.Said.{objects_of, entries_of}
+use Rattle.store_text.specs.Said.{said_objects, entries_of}
 use Rattle.script_text.specs.declared.script.Script.{Script}
 
 -- the limit is that of the first line, the objects and the commands are those of their lines in order
 pub record IsScriptOf (lines : List (Line Command)) (script : Script) : Type 0 where
   pub max : slice_get lines 0 ≡ Some (Max script.max)
-  pub objects : script.objects.items ≡ objects_of lines
+  pub objects : script.objects.items ≡ said_objects lines
   pub commands : script.commands ≡ entries_of lines
 
 -- its numbers and counts are in their ranges

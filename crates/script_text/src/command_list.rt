@@ -23,11 +23,11 @@ impl Model for CommandList {
     ghost use Rattle.std.specs.Prelude.{List, map, length};
     ghost use Rattle.std.specs.List.{AllByRecursion};
     ghost use Rattle.serial_order.specs.declared.command.Command.{Command as CommandValue};
-    ghost use Rattle.script_text.specs.Kept.{said_by, HasName};
+    ghost use Rattle.script_text.specs.Kept.{command_said, HasName};
 
     ghost Value = { List CommandValue };
 
-    ghost view = { λ c. map (said_by c.names) c.kept.items };
+    ghost view = { λ c. map (command_said c.names) c.kept.items };
 
     ghost invariant = { λ c. AllByRecursion (HasName (length c.names)) c.kept.items };
 }
@@ -58,12 +58,12 @@ impl CommandList {
         self.len() == 0
     }
 
-    /// The command at a place, counted from 0.
+    /// The command at a position, counted from 0.
     #[inline]
-    pub fn get(&self, place: usize) -> Option<Command>
-        ensures { result ≡ slice_get self.now place }
+    pub fn get(&self, position: usize) -> Option<Command>
+        ensures { result ≡ slice_get self.now position }
     {
-        match *self.kept.get(place)? {
+        match *self.kept.get(position)? {
             KeptCommand::Begin => Some(Command::Begin),
             KeptCommand::Call { t, x, name } => {
                 let call = self.names.get(name)?;

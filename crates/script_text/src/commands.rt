@@ -1,7 +1,7 @@
 //! The command lines of a script.
 
 ghost use Rattle.std.specs.Prelude.{◌≡◌, map};
-ghost use Rattle.script_text.specs.Commands.{commands, command_of, begin_of, call_of, commit_of, abort_of, rollback_of};
+ghost use Rattle.script_text.specs.Commands.{commands, command_of, begin_command_of, call_command_of, commit_command_of, abort_command_of, rollback_command_of};
 
 use crate::command_list::CommandList;
 use crate::plain::keep_plain;
@@ -70,17 +70,17 @@ impl Entries for Commands {
     }
 }
 
-#[tactic(auto, unfolding(crate::specs::Commands::begin_of))]
+#[tactic(auto, unfolding(crate::specs::Commands::begin_command_of))]
 fn begin_of(words: &[&[u8]]) -> Result<Command, FaultKind>
-    ensures { result ≡ begin_of (map (λ w. w.now) words.now) }
+    ensures { result ≡ begin_command_of (map (λ w. w.now) words.now) }
 {
     exactly(words, 1)?;
     Ok(Command::Begin)
 }
 
-#[tactic(auto, unfolding(crate::specs::Commands::call_of))]
+#[tactic(auto, unfolding(crate::specs::Commands::call_command_of))]
 fn call_of(words: &[&[u8]]) -> Result<Command, FaultKind>
-    ensures { result ≡ call_of (map (λ w. w.now) words.now) }
+    ensures { result ≡ call_command_of (map (λ w. w.now) words.now) }
 {
     exactly(words, 4)?;
     let call = name_at(words, 3)?;
@@ -89,27 +89,27 @@ fn call_of(words: &[&[u8]]) -> Result<Command, FaultKind>
     Ok(Command::Call { t, x, call })
 }
 
-#[tactic(auto, unfolding(crate::specs::Commands::commit_of))]
+#[tactic(auto, unfolding(crate::specs::Commands::commit_command_of))]
 fn commit_of(words: &[&[u8]]) -> Result<Command, FaultKind>
-    ensures { result ≡ commit_of (map (λ w. w.now) words.now) }
+    ensures { result ≡ commit_command_of (map (λ w. w.now) words.now) }
 {
     exactly(words, 2)?;
     let t = number_at(words, 1)?;
     Ok(Command::Commit { t })
 }
 
-#[tactic(auto, unfolding(crate::specs::Commands::abort_of))]
+#[tactic(auto, unfolding(crate::specs::Commands::abort_command_of))]
 fn abort_of(words: &[&[u8]]) -> Result<Command, FaultKind>
-    ensures { result ≡ abort_of (map (λ w. w.now) words.now) }
+    ensures { result ≡ abort_command_of (map (λ w. w.now) words.now) }
 {
     exactly(words, 2)?;
     let t = number_at(words, 1)?;
     Ok(Command::Abort { t })
 }
 
-#[tactic(auto, unfolding(crate::specs::Commands::rollback_of))]
+#[tactic(auto, unfolding(crate::specs::Commands::rollback_command_of))]
 fn rollback_of(words: &[&[u8]]) -> Result<Command, FaultKind>
-    ensures { result ≡ rollback_of (map (λ w. w.now) words.now) }
+    ensures { result ≡ rollback_command_of (map (λ w. w.now) words.now) }
 {
     exactly(words, 3)?;
     let t = number_at(words, 1)?;

@@ -1,4 +1,4 @@
-/// What is kept of a command: of the name of its call, the place among the names.
+/// What is kept of a command: of the name of its call, the position among the names.
 #[derive(Clone, Copy)]
 pub(crate) enum KeptCommand {
     Begin,

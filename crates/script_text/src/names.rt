@@ -2,7 +2,7 @@
 
 ghost use Rattle.std.specs.Prelude.{◌≡◌, ◌++◌, ◌∷◌, [], length, true, slice_get, IfSome, MatchResult, Some};
 ghost use Rattle.type_table.specs.Name.{is_name};
-ghost use Rattle.script_text.specs.Kept.{Keeps};
+ghost use Rattle.script_text.specs.Kept.{KeepsCommand};
 
 use crate::kept_command::KeptCommand;
 use serial_order::Command;
@@ -13,14 +13,14 @@ use type_table::Name;
 /// How many sums the bytes of a name may have.
 const SUMS: usize = 256;
 
-/// Names, each at its place. One that comes again soon is found, and kept once.
+/// Names, each at its position. One that comes again soon is found, and kept once.
 ///
 /// Contracts see the names in order.
 #[derive(Drop)]
 pub(crate) struct Names {
     names: Vec<Name>,
-    // The place of the last name of each sum. The name there is compared, so nothing relies on it.
-    places: [u32; SUMS],
+    // The position of the last name of each sum. The name there is compared, so nothing relies on it.
+    positions: [u32; SUMS],
 }
 
 impl Model for Names {
@@ -38,27 +38,27 @@ impl Names {
     {
         Names {
             names: Vec::new(alloc),
-            places: [0; SUMS],
+            positions: [0; SUMS],
         }
     }
 
-    /// The name at a place.
+    /// The name at a position.
     #[inline]
-    pub fn get(&self, place: u32) -> Option<Name>
-        ensures { result ≡ slice_get self.now place }
+    pub fn get(&self, position: u32) -> Option<Name>
+        ensures { result ≡ slice_get self.now position }
     {
-        self.names.get(place as usize).copied()
+        self.names.get(position as usize).copied()
     }
 
-    /// The place of these bytes, where they are found to be a name.
+    /// The position of these bytes, where they are found to be a name.
     #[inline]
     pub fn place_of(&self, bytes: &[u8]) -> Option<u32>
-        ensures there { IfSome result (λ place. slice_get self.now place ≡ Some bytes.now) }
-        ensures name { IfSome result (λ place. is_name bytes.now ≡ true) }
+        ensures there { IfSome result (λ position. slice_get self.now position ≡ Some bytes.now) }
+        ensures name { IfSome result (λ position. is_name bytes.now ≡ true) }
     {
-        let place = self.places[usize::from(sum_of(bytes))];
-        let name = self.names.get(place as usize)?.as_bytes();
-        if name == bytes { Some(place) } else { None }
+        let position = self.positions[usize::from(sum_of(bytes))];
+        let name = self.names.get(position as usize)?.as_bytes();
+        if name == bytes { Some(position) } else { None }
     }
 
     /// What is kept of a command. A name that isn't found is put after the others.
@@ -68,13 +68,13 @@ impl Names {
     /// There was no memory for the name, and the names are what they were.
     #[inline]
     pub fn kept_of(&mut self, command: Command) -> Result<KeptCommand, AllocError>
-        ensures { MatchResult result (λ kept. Keeps self.old self.new command kept) (λ _. self.new ≡ self.old) }
+        ensures { MatchResult result (λ kept. KeepsCommand self.old self.new command kept) (λ _. self.new ≡ self.old) }
     {
         match command {
             Command::Begin => Ok(KeptCommand::Begin),
             Command::Call { t, x, call } => {
                 let name = match self.place_of(call.as_bytes()) {
-                    Some(place) => place,
+                    Some(position) => position,
                     None => self.add(call)?,
                 };
                 Ok(KeptCommand::Call { t, x, name })
@@ -85,19 +85,19 @@ impl Names {
         }
     }
 
-    /// Puts a name after the others, and gives its place.
+    /// Puts a name after the others, and gives its position.
     fn add(&mut self, name: Name) -> Result<u32, AllocError>
         ensures { MatchResult result
-            (λ place. (place ≡ length self.old) × (self.new ≡ self.old ++ name ∷ []))
+            (λ position. (position ≡ length self.old) × (self.new ≡ self.old ++ name ∷ []))
             (λ _. self.new ≡ self.old) }
     {
         // more names have no number, and no memory has room for them
-        let Ok(place) = u32::try_from(self.names.len()) else {
+        let Ok(position) = u32::try_from(self.names.len()) else {
             return Err(AllocError);
         };
         self.names.push(name)?;
-        self.places[usize::from(sum_of(name.as_bytes()))] = place;
-        Ok(place)
+        self.positions[usize::from(sum_of(name.as_bytes()))] = position;
+        Ok(position)
     }
 
     /// Gives back the room that no name takes.

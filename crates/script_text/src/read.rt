@@ -1,5 +1,5 @@
 ghost use Rattle.std.specs.Prelude.{IfOk};
-ghost use Rattle.store_text.specs.Parts.{Reads};
+ghost use Rattle.store_text.specs.Parts.{ReadsStoreText};
 ghost use Rattle.script_text.specs.Commands.{commands};
 ghost use Rattle.script_text.specs.Script.{IsScriptOf, IsFit};
 
@@ -14,7 +14,7 @@ use store_text::{Parts, StoreGrammar, read_parts};
 /// `NoMemory` comes in place of either where memory was refused; its line is the one that was being
 /// read.
 pub fn read_script(alloc: Global, text: &[u8]) -> Result<Script, TextFault>
-    ensures exact { Reads commands IsScriptOf result text.now }
+    ensures exact { ReadsStoreText commands IsScriptOf result text.now }
     ensures fit { IfOk result IsFit }
 {
     let grammar = StoreGrammar { entries: Commands };

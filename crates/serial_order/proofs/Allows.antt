@@ -22,7 +22,7 @@ use Rattle.serial_order.proofs.Runs.{transactions_in_run, pending_is_open, open_
 use Rattle.serial_order.proofs.Pairs.{each-rest, each-from_map}
 use Rattle.serial_order.proofs.RepresentUndo.{undo_represents-run}
 use Rattle.serial_order.proofs.RepresentEscrow.{as_deferred, escrow_stops-alike}
-use Rattle.table_checker.proofs.TableOps.{op_below}
+use Rattle.declared_types.proofs.TableOps.{op_below}
 use Rattle.serial_order.proofs.RepresentDeferred.{deferred_represents-run}
 
 -- ---- what is legal

@@ -9,7 +9,7 @@ use Rattle.type_table.specs.declared.kind.Kind.TheVariants.{Undo, Intentions, Es
 use Rattle.table_checker.specs.Checked.{Checked, IsChecked}
 use Rattle.object_trait.specs.Object.{Object, CoversBy, object_of}
 use Rattle.object_trait.specs.Laws.{CheckedIsCovered}
-use Rattle.object_trait.specs.Meaning.{Meaning, object, ops_of, state_by}
+use Rattle.object_trait.specs.Meaning.{Meaning, object, log_ops, state_by}
 use Rattle.object_trait.specs.Sound.{IsSoundBy}
 use Rattle.object_trait.specs.declared.log_entry.LogEntry.{LogEntry}
 use Rattle.serial_order.specs.Represent.{KeptAgreesBy}
@@ -20,7 +20,7 @@ use Rattle.serial_order.proofs.Idle.{none-idle}
 -- at the state of a sound object its type may begin
 inside-by : EndsInside → (kind : Kind) (o : Object) (base : ℕ) (log : List LogEntry) (state : ℕ) → CoversBy kind o → IsSoundBy kind o base log
     → state_by kind o base log ≡ Some state → o.set state ≡ true
-inside-by ends Undo o base log state covers sound is = ends o.table o.set base state (ops_of log) covers.closed sound.inside is
+inside-by ends Undo o base log state covers sound is = ends o.table o.set base state (log_ops log) covers.closed sound.inside is
 inside-by ends Intentions o base log state covers sound is = subst (λ s. o.set s ≡ true) (same_Some base state is) sound.inside
 inside-by ends Escrow o base log state covers sound is = subst (λ s. o.set s ≡ true) (same_Some base state is) sound.inside
 

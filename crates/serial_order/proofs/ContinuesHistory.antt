@@ -5,7 +5,7 @@ use Rattle.object_trait.specs.Object.{Object}
 use Rattle.object_trait.specs.declared.event.EventKind.{EventKind}
 use Rattle.object_trait.specs.declared.event.EventKind.TheVariants as kind
 use Rattle.object_trait.specs.declared.event.EventKind.TheVariants.{Begin, Op, Busy, Commit, Abort, Rollback}
-use Rattle.serial_order.specs.History.{Summary, IsOperation, IsPlace, ContinuesHistory}
+use Rattle.serial_order.specs.History.{Summary, IsOperation, IsOperationPlace, ContinuesHistory}
 use Rattle.serial_order.specs.Machine.{MayDo, MayHaveNone, MayBeBusy, May}
 
 -- what the machine may do is an operation of the object
@@ -14,12 +14,12 @@ does_operation None s x t k may = may
 does_operation (Some o) s x t k may = may.0
 
 -- a call of which no operation is legal is named by an operation
-none_of_operation : (o : Option Object) (s : Summary) (x t c : ℕ) → MayHaveNone o s x t c → IsPlace (option_map (λ (object : Object). object.table) o) c
+none_of_operation : (o : Option Object) (s : Summary) (x t c : ℕ) → MayHaveNone o s x t c → IsOperationPlace (option_map (λ (object : Object). object.table) o) c
 none_of_operation None s x t c may = may
 none_of_operation (Some o) s x t c may = (may.0, may.1, may.2.0)
 
 -- and so is one whose operations are blocked
-busy_with_operation : (o : Option Object) (s : Summary) (x t c u : ℕ) → MayBeBusy o s x t c u → IsPlace (option_map (λ (object : Object). object.table) o) c
+busy_with_operation : (o : Option Object) (s : Summary) (x t c u : ℕ) → MayBeBusy o s x t c u → IsOperationPlace (option_map (λ (object : Object). object.table) o) c
 busy_with_operation None s x t c u may = may
 busy_with_operation (Some o) s x t c u may = (may.0, may.1, may.2.least.0)
 

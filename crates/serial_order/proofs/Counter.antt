@@ -8,7 +8,7 @@ use Rattle.type_table.specs.declared.table_kind.TableKind.{TableKind}
 use Rattle.type_table.specs.declared.table_kind.TableKind.TheVariants.{Undo, Intentions}
 use Rattle.table_checker.specs.Condition.{passes_forward, passes_backward, fails_at, PassesEverywhere}
 use Rattle.table_checker.specs.Checked.{IsChecked, IsCommuting, condition_of, Checked}
-use Rattle.type_text.specs.TypeFile.{conflicts_of}
+use Rattle.declared_types.specs.TypeFile.{conflicts_of}
 use Rattle.table_checker.specs.Examples.{counter_file}
 use Rattle.table_checker.specs.declared.condition.Condition.{Condition}
 use Rattle.table_checker.specs.declared.condition.Condition.TheVariants.{Forward, Backward}

@@ -7,7 +7,7 @@ use Rattle.type_table.specs.Laws.{RunsAlong}
 use Rattle.type_table.proofs.Elements.{each-weaker, each-append, each-filter}
 use Rattle.object_trait.specs.Object.{Object}
 use Rattle.object_trait.specs.Strike.{keep_first}
-use Rattle.object_trait.specs.Meaning.{is_open_of, open_of, ops_of, run_log}
+use Rattle.object_trait.specs.Meaning.{is_open_of, open_of, log_ops, run_log}
 use Rattle.object_trait.specs.Steps.{IsIntentionsCommit}
 use Rattle.object_trait.specs.declared.log_entry.LogEntry.{LogEntry}
 use Rattle.object_trait.proofs.Striking.{each-keep_first}
@@ -38,9 +38,9 @@ module _ (o : Object) (base : ℕ) (log : List LogEntry) (x : ℕ) (C : List ℕ
   pub deferred_represents-run : RunsAlong → (t : ℕ) → is_among C t ≡ false →
       AreEqui o.table (run_log o base (open_of t log)) (run o.table (Some o.table.initial) (ops (serial C V ++ of t V)))
   deferred_represents-run along t apart =
-      let behind : ops (of t V) ≡ ops_of (open_of t log) = ap ops (deferred_of t apart) ∙ ops-plain x (open_of t log) in
+      let behind : ops (of t V) ≡ log_ops (open_of t log) = ap ops (deferred_of t apart) ∙ ops-plain x (open_of t log) in
       rw (run-append along o.table (Some o.table.initial) (serial C V) (of t V), behind)
-      (run-equi along o.table (Some base) (run o.table (Some o.table.initial) (ops (serial C V))) (ops_of (open_of t log)) represents.reached)
+      (run-equi along o.table (Some base) (run o.table (Some o.table.initial) (ops (serial C V))) (log_ops (open_of t log)) represents.reached)
 
   -- one more operation, of a transaction that didn't commit
   pub deferred_represents-op : (t k : ℕ) → is_among C t ≡ false →

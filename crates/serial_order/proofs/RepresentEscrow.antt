@@ -10,7 +10,7 @@ use Rattle.escrow_laws.specs.Firm.{with_op, keeps}
 use Rattle.type_table.specs.declared.kind.Kind.TheVariants.{Escrow}
 use Rattle.object_trait.specs.Object.{Object}
 use Rattle.object_trait.specs.Strike.{keep_first}
-use Rattle.object_trait.specs.Meaning.{is_open_of, open_of, ops_of, own_of}
+use Rattle.object_trait.specs.Meaning.{is_open_of, open_of, log_ops, own_of}
 use Rattle.object_trait.specs.Steps as steps
 use Rattle.object_trait.specs.Steps.{IsEscrowCommit}
 use Rattle.object_trait.specs.declared.log_entry.LogEntry.{LogEntry}
@@ -43,7 +43,7 @@ module _ (o : Object) (base : ℕ) (log : List LogEntry) (x : ℕ) (C : List ℕ
   pub escrow_represents-commit : RunsAlong → (t new_base : ℕ) (new_log : List LogEntry) → is_among C t ≡ false → IsEscrowCommit o base log t new_base new_log →
       RepresentsEscrow o new_base new_log x (C ++ t ∷ []) V
   escrow_represents-commit along t new_base new_log apart commit =
-      let own : ops (of t V) ≡ ops_of (open_of t log) = ap ops (deferred_of o base log x C V (as_deferred o base log x C V represents) t apart) ∙ ops-plain x (open_of t log) in
+      let own : ops (of t V) ≡ log_ops (open_of t log) = ap ops (deferred_of o base log x C V (as_deferred o base log x C V represents) t apart) ∙ ops-plain x (open_of t log) in
       record {
         reached = rw (serial-snoc C t V, run-append along o.table (Some o.table.initial) (serial C V) (of t V), represents.reached, own) commit.reached;
         whole =

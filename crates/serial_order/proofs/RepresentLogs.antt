@@ -4,14 +4,14 @@ use Rattle.std.specs.List.{AllByRecursion}
 use Rattle.std.proofs.lemmas.Bool.{cases_Bool}
 use Rattle.type_table.proofs.Elements.{each-weaker}
 use Rattle.object_trait.specs.Strike.{keep_first}
-use Rattle.object_trait.specs.Meaning.{ops_of, is_open_of}
+use Rattle.object_trait.specs.Meaning.{log_ops, is_open_of}
 use Rattle.object_trait.specs.declared.log_entry.LogEntry.{LogEntry}
 use Rattle.serial_order.specs.Operations.{is_by, ops}
 use Rattle.serial_order.specs.Represent.{plain}
 use Rattle.serial_order.specs.declared.entry.Entry.{Entry}
 
 -- the operations of a log are those of its entries
-pub ops-plain : (x : ℕ) (log : List LogEntry) → ops (map (plain x) log) ≡ ops_of log
+pub ops-plain : (x : ℕ) (log : List LogEntry) → ops (map (plain x) log) ≡ log_ops log
 ops-plain x [] = refl
 ops-plain x (e ∷ log) = ap (λ rest. e.op ∷ rest) (ops-plain x log)
 

@@ -2,7 +2,7 @@
 use Rattle.std.proofs.Common.{◌≡◌, ℕ, zero, suc, Bool, true, false, not, List, [], ◌∷◌, ◌++◌, filter, inl, inr}
 use Rattle.std.proofs.lemmas.Bool.{cases_Bool}
 use Rattle.type_table.proofs.Elements.{each-weaker, each-passes}
-use Rattle.object_trait.specs.Orders.{Pairs, Sorts, same, swap, under, chain, Parts, none, stay, goes}
+use Rattle.object_trait.specs.Orders.{Pairs, Sorts, same, swap, under, chain, SplitsInto, none, stay, goes}
 use Rattle.object_trait.specs.Strike.{keep_first}
 
 -- ---- longer lists
@@ -67,7 +67,7 @@ sorts-keep_first mine apart n _ _ (chain {U} {V} {W} s r) = chain (sorts-keep_fi
 
 -- where each that isn't mine may move after each later one of mine, the list is mine, which stay, and the others
 pub parts-mine : {E : Type 0} (free : E → E → Bool) (mine : E → Bool) (V : List E) → Pairs (λ a b. mine a ≡ false → mine b ≡ true → free a b ≡ true) V →
-    Parts free V (filter mine V) (filter (λ x. not (mine x)) V)
+    SplitsInto free V (filter mine V) (filter (λ x. not (mine x)) V)
 parts-mine free mine [] p = none
 parts-mine free mine (x ∷ V) p =
     elim (cases_Bool (mine x)) [

@@ -5,7 +5,7 @@ use Rattle.type_table.specs.Operation.{place_of}
 use Rattle.type_table.specs.Table.{Table, has_op}
 use Rattle.object_trait.specs.Object.{Object}
 use Rattle.object_trait.specs.Strike.{keep_first}
-use Rattle.object_trait.specs.Meaning.{Meaning, ops_of, open_of}
+use Rattle.object_trait.specs.Meaning.{Meaning, log_ops, open_of}
 use Rattle.object_trait.specs.Steps.{open_transactions}
 use Rattle.object_trait.specs.declared.event.Event.{Event}
 use Rattle.object_trait.specs.declared.event.EventKind.{EventKind}
@@ -121,12 +121,12 @@ OperationsInRun =
     → AllByRecursion (λ e. IsOperation (slice_get (map (λ o. o.table) objects) e.at) e.op) (surviving H)
 
 -- the open entries of an open transaction are its operations that survive there, and the log is no longer than the history
-pub record IsCounted (m : Meaning) (x : ℕ) (H : List Event) : Type 0 where
+pub record IsLogCounted (m : Meaning) (x : ℕ) (H : List Event) : Type 0 where
   pub short : length m.log ≤ length H
-  pub own : (t : ℕ) → is_open (summary H) t ≡ true → ops_of (open_of t m.log) ≡ ops (of t (surviving_at x H))
+  pub own : (t : ℕ) → is_open (summary H) t ≡ true → log_ops (open_of t m.log) ≡ ops (of t (surviving_at x H))
 
 abbrev pub LogsAreCounted : Type 0
-LogsAreCounted = (m : Meaning) (x : ℕ) (H : List Event) → Represents m x H → IsCounted m x H
+LogsAreCounted = (m : Meaning) (x : ℕ) (H : List Event) → Represents m x H → IsLogCounted m x H
 
 -- where no open transaction has an operation at x, none is open at the object there
 abbrev pub IdleIsClosed : Type 0

@@ -12,5 +12,5 @@ up = record { history = events (Begin 0 ∷ Op 0 0 0 ∷ Commit 0 ∷ []); kept 
 abbrev pub down : Epoch
 down = record { history = events (Begin 0 ∷ Op 1 0 0 ∷ Commit 0 ∷ []); kept = 0 ∷ [] }
 
-abbrev pub up_and_down : List Epoch
-up_and_down = up ∷ down ∷ []
+abbrev pub up_and_down_epochs : List Epoch
+up_and_down_epochs = up ∷ down ∷ []

@@ -52,8 +52,8 @@ deferred_counter = object_of (record { kind = Intentions; file = counter_file })
 
 -- up to two items, a or b, in no order. A state is two counts: (0,0), (0,1), (0,2), (1,0), (1,1) and (2,0). The operations put a, put
 -- b, take a and take b, and the last two are one call
-abbrev pub semiqueue : Table
-semiqueue = record {
+abbrev pub semiqueue_of_two : Table
+semiqueue_of_two = record {
   name = codes "semiqueue";
   states = 6;
   initial = 0;
@@ -70,11 +70,11 @@ semiqueue_pairs =
 
 -- the semiqueue, update in place
 abbrev pub undo_semiqueue : Object
-undo_semiqueue = record { kind = Undo; table = semiqueue; set = λ s. nat_lt s 6; conflicts = conflicts semiqueue_pairs; amounts = no_amounts }
+undo_semiqueue = record { kind = Undo; table = semiqueue_of_two; set = λ s. nat_lt s 6; conflicts = conflicts semiqueue_pairs; amounts = no_amounts }
 
 -- an account of 0 or 1: operation 0 pays in, and operations 1 and 2 are one call, whose replies are the balances
-abbrev pub account : Table
-account = record {
+abbrev pub small_account : Table
+small_account = record {
   name = codes "account";
   states = 2;
   initial = 0;
@@ -89,7 +89,7 @@ account_pairs = (false ∷ true ∷ false ∷ []) ∷ (false ∷ false ∷ false
 
 -- the account, update in place
 abbrev pub undo_account : Object
-undo_account = record { kind = Undo; table = account; set = λ s. nat_lt s 2; conflicts = conflicts account_pairs; amounts = no_amounts }
+undo_account = record { kind = Undo; table = small_account; set = λ s. nat_lt s 2; conflicts = conflicts account_pairs; amounts = no_amounts }
 
 -- a number up to 10, from 5: operations 0 and 1 take 5 and are answered ok and short, operations 2 and 3 give 5 and are answered ok and full
 abbrev pub fives : List Bounded
@@ -97,8 +97,8 @@ fives =
     (record { low = 5; high = 10; gives = 0; takes = 5 }) ∷ (record { low = 0; high = 4; gives = 0; takes = 0 })
     ∷ (record { low = 0; high = 5; gives = 5; takes = 0 }) ∷ (record { low = 6; high = 10; gives = 0; takes = 0 }) ∷ []
 
-abbrev pub number : Object
-number = record {
+abbrev pub number_object : Object
+number_object = record {
   kind = Escrow;
   table = record {
     name = codes "number";

@@ -70,17 +70,17 @@ IsOperation None k = ⊥
 IsOperation (Some T) k = has_op T k ≡ true
 
 -- the object is there, and some operation of its table has this place
-abbrev pub IsPlace : Option Table → ℕ → Type 0
-IsPlace None place = ⊥
-IsPlace (Some T) place = HasPlace T place
+abbrev pub IsOperationPlace : Option Table → ℕ → Type 0
+IsOperationPlace None place = ⊥
+IsOperationPlace (Some T) place = HasPlace T place
 
 -- the event names what is there: a new transaction by its number, else an open one, objects and operations of their tables, or places; and a
 -- rollback strikes at least one operation and no more than its transaction has
 abbrev pub ContinuesHistory : List Table → Summary → EventKind → Type 0
 ContinuesHistory tables s (Begin t) = t ≡ s.begun
 ContinuesHistory tables s (Op k t x) = (is_open s t ≡ true) × IsOperation (slice_get tables x) k
-ContinuesHistory tables s (Busy c t x u) = (is_open s t ≡ true) × IsPlace (slice_get tables x) c
-ContinuesHistory tables s (kind.None t x c) = (is_open s t ≡ true) × IsPlace (slice_get tables x) c
+ContinuesHistory tables s (Busy c t x u) = (is_open s t ≡ true) × IsOperationPlace (slice_get tables x) c
+ContinuesHistory tables s (kind.None t x c) = (is_open s t ≡ true) × IsOperationPlace (slice_get tables x) c
 ContinuesHistory tables s (Commit t) = is_open s t ≡ true
 ContinuesHistory tables s (Abort t) = is_open s t ≡ true
 ContinuesHistory tables s (Rollback t n) = (is_open s t ≡ true) × (0 < n) × (n ≤ length (of t s.survives))

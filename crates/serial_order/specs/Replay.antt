@@ -20,8 +20,8 @@ abbrev pub open_count : Summary → ℕ
 open_count s = length (filter (is_open s) (range_with_len 0 s.begun))
 
 -- a history has no room for this many further events and the end of each open transaction
-abbrev pub is_full : ℕ → List Event → ℕ → Bool
-is_full most H further = nat_lt most (length H + open_count (summary H) + further)
+abbrev pub is_history_full : ℕ → List Event → ℕ → Bool
+is_history_full most H further = nat_lt most (length H + open_count (summary H) + further)
 
 -- the least operation of the call with this name at an object
 abbrev pub call_at : Option Object → List ℕ → Option ℕ
@@ -32,18 +32,18 @@ call_at (Some o) name = first_op o.table name
 abbrev pub refusal : List Object → ℕ → List Event → Command → Option Refusal
 refusal objects most H Begin =
     if nat_le most_open (open_count (summary H)) then Some TooManyOpen
-    else (if is_full most H 2 then Some HistoryFull else None)
+    else (if is_history_full most H 2 then Some HistoryFull else None)
 refusal objects most H (Call t x name) =
     if not (is_open (summary H) t) then Some NotOpen
     else (if not (is_some (slice_get objects x)) then Some NoObject
     else (if not (is_some (call_at (slice_get objects x) name)) then Some NoCall
-    else (if is_full most H 1 then Some HistoryFull else None)))
+    else (if is_history_full most H 1 then Some HistoryFull else None)))
 refusal objects most H (Commit t) = if not (is_open (summary H) t) then Some NotOpen else None
 refusal objects most H (Abort t) = if not (is_open (summary H) t) then Some NotOpen else None
 refusal objects most H (Rollback t n) =
     if not (is_open (summary H) t) then Some NotOpen
     else (if n == 0 || nat_lt (length (of t (summary H).survives)) n then Some BadRollback
-    else (if is_full most H 1 then Some HistoryFull else None))
+    else (if is_history_full most H 1 then Some HistoryFull else None))
 
 -- the event of a call with this first operation, where there is one
 abbrev pub call_event : Option Object → Summary → ℕ → ℕ → Option ℕ → Option EventKind

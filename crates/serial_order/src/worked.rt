@@ -4,8 +4,8 @@
 ghost use Rattle.std.specs.Prelude.{◌≡◌, ◌≤◌, List, true, false, [], ◌∷◌, Some, None, take, codes, ◌==◌};
 ghost use Rattle.type_table.specs.Table.{next};
 ghost use Rattle.type_table.specs.Run.{run, Looks};
-ghost use Rattle.type_table.specs.Examples.{counter, one_way};
-ghost use Rattle.object_trait.specs.Examples.{held, past, counter_at};
+ghost use Rattle.type_table.specs.Examples.{counter_table, one_way};
+ghost use Rattle.object_trait.specs.Examples.{held, done_entry, counter_at};
 ghost use Rattle.table_checker.specs.At.{checked_at};
 ghost use Rattle.table_checker.specs.Checked.{Checked};
 ghost use Rattle.serial_order.specs.Operations.{ops};
@@ -20,9 +20,9 @@ ghost use Rattle.serial_order.specs.Replay.{open_count, refusal, replay};
 ghost use Rattle.serial_order.specs.After.{summary_next, is_open_after, AreBelow, CountsTo, beginners};
 ghost use Rattle.serial_order.specs.Held.{held_at, held_after, own_after};
 ghost use Rattle.serial_order.specs.Laws.{IsSerialAndKept};
-ghost use Rattle.serial_order.specs.Examples.{events, entry, seen_first, undo_one_way, undo_counter, deferred_counter, undo_semiqueue, undo_account, one_way_history, semiqueue_history, deferred_history, lock_history, two_objects_history, unlocked_history, refused_history, reader_history, half_history, half_deferred_history, up_and_back, number, number_history, short_history};
+ghost use Rattle.serial_order.specs.Examples.{events, entry, seen_first, undo_one_way, undo_counter, deferred_counter, undo_semiqueue, undo_account, one_way_history, semiqueue_history, deferred_history, lock_history, two_objects_history, unlocked_history, refused_history, reader_history, half_history, half_deferred_history, up_and_back, number_object, number_history, short_history};
 ghost use Rattle.serial_order.specs.Epochs.{serial_over, types_after, types_at};
-ghost use Rattle.serial_order.specs.EpochExamples.{up, up_and_down};
+ghost use Rattle.serial_order.specs.EpochExamples.{up, up_and_down_epochs};
 
 use crate::command::Command;
 use crate::laws::checked_headline;
@@ -145,7 +145,7 @@ pub fn the_headline_speaks_of_these_runs()
 /// Not each history is serially legal: here the serial order counts down from 0. The locks don't admit
 /// it.
 pub fn a_history_may_not_be_serial()
-    ensures history { IsHistory (counter ∷ []) unlocked_history }
+    ensures history { IsHistory (counter_table ∷ []) unlocked_history }
     ensures serial { serial_at 0 unlocked_history ≡ entry 1 0 1 ∷ entry 0 0 0 ∷ [] }
     ensures illegal { IsSerial (undo_counter ∷ []) unlocked_history → ⊥ }
     ensures locked { IsRun (undo_counter ∷ []) unlocked_history → ⊥ }
@@ -154,7 +154,7 @@ pub fn a_history_may_not_be_serial()
 /// With update in place, what a committed transaction did may be in the log or be settled in base.
 pub fn a_counter_in_place_represents_two_ups()
     ensures runs { IsRun (undo_counter ∷ []) half_history }
-    ensures logged { Represents (counter_at Kind.Undo 0 (past 0 0 ∷ held 1 0 ∷ [])) 0 half_history }
+    ensures logged { Represents (counter_at Kind.Undo 0 (done_entry 0 0 ∷ held 1 0 ∷ [])) 0 half_history }
     ensures settled { Represents (counter_at Kind.Undo 1 (held 1 0 ∷ [])) 0 half_history }
     ensures lost { Represents (counter_at Kind.Undo 1 []) 0 half_history → ⊥ }
 {}
@@ -241,10 +241,10 @@ pub fn numbers_are_below()
 /// A counter is counted up in one epoch and down in the next: the serial order is both, and the types begin at
 /// what was kept last. An object of which nothing was kept has no place in the next epoch.
 pub fn one_up_and_one_down()
-    ensures serial { serial_over 0 up_and_down ≡ 0 ∷ 1 ∷ [] }
-    ensures others { serial_over 1 up_and_down ≡ [] }
+    ensures serial { serial_over 0 up_and_down_epochs ≡ 0 ∷ 1 ∷ [] }
+    ensures others { serial_over 1 up_and_down_epochs ≡ [] }
     ensures behind_one { (c : Checked) → types_after (c ∷ []) (up ∷ []) ≡ checked_at c 1 ∷ [] }
-    ensures behind_both { (c : Checked) → types_after (c ∷ []) up_and_down ≡ checked_at c 0 ∷ [] }
+    ensures behind_both { (c : Checked) → types_after (c ∷ []) up_and_down_epochs ≡ checked_at c 0 ∷ [] }
     ensures left_out { (c d : Checked) → types_at (c ∷ d ∷ []) (1 ∷ []) ≡ checked_at c 1 ∷ [] }
 {}
 
@@ -253,18 +253,18 @@ pub fn one_up_and_one_down()
 /// there is too little by the one that gives.
 #[tactic(auto, unfolding(type_table::specs::Table::next, escrow_laws::specs::Bounds::steps_of))]
 pub fn numbers_are_taken_and_given()
-    ensures takes { event_of_call number (seen_first 3 number_history) 0 0 0 ≡ EventKind.Op 0 0 0 }
-    ensures gives { event_of_call number (seen_first 4 number_history) 0 1 2 ≡ EventKind.Op 2 1 0 }
-    ensures kept_from_giving { event_of_call number (seen_first 5 number_history) 0 2 2 ≡ EventKind.Busy 2 2 0 1 }
-    ensures kept_from_taking { event_of_call number (seen_first 5 number_history) 0 2 0 ≡ EventKind.Busy 0 2 0 0 }
-    ensures not_yet_short { event_of_call number (seen_first 6 number_history) 0 2 0 ≡ EventKind.Busy 0 2 0 1 }
-    ensures short { event_of_call number (seen_first 7 number_history) 0 2 0 ≡ EventKind.Op 1 2 0 }
-    ensures runs { IsRun (number ∷ []) number_history }
+    ensures takes { event_of_call number_object (seen_first 3 number_history) 0 0 0 ≡ EventKind.Op 0 0 0 }
+    ensures gives { event_of_call number_object (seen_first 4 number_history) 0 1 2 ≡ EventKind.Op 2 1 0 }
+    ensures kept_from_giving { event_of_call number_object (seen_first 5 number_history) 0 2 2 ≡ EventKind.Busy 2 2 0 1 }
+    ensures kept_from_taking { event_of_call number_object (seen_first 5 number_history) 0 2 0 ≡ EventKind.Busy 0 2 0 0 }
+    ensures not_yet_short { event_of_call number_object (seen_first 6 number_history) 0 2 0 ≡ EventKind.Busy 0 2 0 1 }
+    ensures short { event_of_call number_object (seen_first 7 number_history) 0 2 0 ≡ EventKind.Op 1 2 0 }
+    ensures runs { IsRun (number_object ∷ []) number_history }
 {}
 
 /// A reply `short` is held: another may not give. The one that holds it may.
 #[tactic(auto, unfolding(type_table::specs::Table::next, escrow_laws::specs::Bounds::steps_of))]
 pub fn a_short_reply_is_held()
-    ensures held { event_of_call number (summary short_history) 0 1 2 ≡ EventKind.Busy 2 1 0 0 }
-    ensures own { event_of_call number (summary short_history) 0 0 2 ≡ EventKind.Op 2 0 0 }
+    ensures held { event_of_call number_object (summary short_history) 0 1 2 ≡ EventKind.Busy 2 1 0 0 }
+    ensures own { event_of_call number_object (summary short_history) 0 0 2 ≡ EventKind.Op 2 0 0 }
 {}

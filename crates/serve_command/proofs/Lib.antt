@@ -1,3 +1,3 @@
 pub mod ServedLemmas
 pub mod Unsaid
-pub mod Archiving
+pub mod ArchivedEpochs

@@ -13,28 +13,28 @@ use Rattle.journal.specs.Contents.{Contents, contents_of}
 use Rattle.journal.specs.Journal.{Clean, written}
 use Rattle.durable_store.specs.declared.durable.Durable.{Durable}
 use Rattle.store.specs.Ends.{closing}
-use Rattle.durable_store.specs.Durable.{events, with_all}
+use Rattle.durable_store.specs.Durable.{events_of_kinds, with_all}
 use Rattle.durable_store.specs.Epochs.{firsts, renewed}
 use Rattle.durable_store.specs.Recovered.{IsRecovered}
 use Rattle.request_text.specs.declared.request.Asked.{Asked}
 use Rattle.table_checker.specs.Checked.{Checked}
 use Rattle.serving.specs.declared.answer_line.Answered.{Answered}
-use Rattle.serving.specs.Ending.{end_answers}
+use Rattle.serving.specs.EpochEnd.{end_answers}
 use Rattle.serving.specs.Served.{Serves}
 use Rattle.serving.specs.Told.{AppendsPart, answers_text, greeting}
-use Rattle.serving.specs.Serving.{life_of}
-use Rattle.command_files.specs.Answers.{Refuses}
+use Rattle.serving.specs.Server.{life_of}
+use Rattle.command_files.specs.Answers.{IsEarlyFault}
 use Rattle.command_files.specs.Status.{is_input}
 use Rattle.command_files.specs.declared.fault.Fault.{Fault}
 use Rattle.command_files.specs.declared.fault.Fault.TheVariants.{Usage, Text, NoType, NeedsEscrow, ObjectNeedsEscrow, OtherObjects, Order, HasEvents, BadParameter, TooLarge, CannotRead, Database, NoStore, NoMemory, Output}
 use Rattle.command_files.specs.declared.status.Verdict.{Verdict}
 use Rattle.command_files.specs.declared.status.Verdict.TheVariants.{Yes}
 use Rattle.serve_command.specs.Found.{Finds, SaysFound, found_text}
-use Rattle.serve_command.specs.Served.{Begins, BeginsBefore, BeginsServing, ComesOfServing, IsOpened, IsServed, ServesDatabase, ServesIn, StopsIn, Work, epoch_events, told_text}
+use Rattle.serve_command.specs.Served.{BeginsEpoch, BeginsBefore, BeginsServing, ComesOfServing, IsOpened, IsServed, ServesDatabase, ServesIn, StopsIn, ClientWork, epoch_events, told_text}
 
 -- ---- under another premise
 
-abbrev work-under : {clean clean' : Type 0} {held : Option Trees} → (clean' → clean) → Work clean held → Work clean' held
+abbrev work-under : {clean clean' : Type 0} {held : Option Trees} → (clean' → clean) → ClientWork clean held → ClientWork clean' held
 work-under sure w = record {
   life = w.life;
   file = w.file;
@@ -66,7 +66,7 @@ served-under {clean} {clean'} {held} {db} {given} {given_now} {text} left sure s
   told = s.told;
   now = s.now;
   renews = s.renews;
-  left_is = λ c. at-path db (λ x. Begins x s.now) left (same c) (s.left_is (sure c));
+  left_is = λ c. at-path db (λ x. BeginsEpoch x s.now) left (same c) (s.left_is (sure c));
 }
 
 -- where what is held at a path may be left, and is this
@@ -106,7 +106,7 @@ of-fault P (Err x) e is p = p
 -- the work of lines that were served
 abbrev work-of : {S : Type 0} (g : Ghosts S) (clean : Type 0) (lines : List (List ℕ)) (told : List Answered) (last : ℕ) (reached : Stored) (ended : Option Asked) (held : Option Trees) (db : Trees) (began : Durable S)
     → (clean → Clean g began.journal) → (Clean g began.journal → IfSome held (λ x. db ≡ x)) → (Clean g began.journal → IsRecovered g (contents_of db) began)
-    → (clean → Serves epoch_events (written g began.journal) (life_of began) lines began.store told last reached ended) → Work clean held
+    → (clean → Serves epoch_events (written g began.journal) (life_of began) lines began.store told last reached ended) → ClientWork clean held
 work-of g clean lines told last reached ended held db began sure same found serves = record {
   life = life_of began;
   file = written g began.journal;
@@ -123,7 +123,7 @@ work-of g clean lines told last reached ended held db began sure same found serv
 }
 
 -- the file of a new epoch
-begins : (c : Contents) (types : List Checked) (db : Trees) (s : Stored) → s.types ≡ types → contents_of db ≡ renewed c types → Begins db s
+begins : (c : Contents) (types : List Checked) (db : Trees) (s : Stored) → s.types ≡ types → contents_of db ≡ renewed c types → BeginsEpoch db s
 begins c types db s same is = record {
   events = ap (λ (x : Contents). x.events) is;
   states = ap (λ (x : Contents). x.states) is ∙ ap firsts (sym same);
@@ -167,7 +167,7 @@ cut-at : {S : Type 0} {g : Ghosts S} {taken taken_now : Option (List ℕ)} {tree
 cut-at {S} {g} {taken} {taken_now} {trees} db began held same found s =
     subst (λ (x : S). (text : List ℕ) × BeginsBefore (IsClean (g.view x)) held (g.recovers x) text × AppendsPart taken taken_now text) (sym s.are)
     (let stops = s.stops in
-    let work : Work (Clean g s.now.journal) held = work-of g (Clean g s.now.journal) stops.lines stops.answers stops.life stops.reached stops.ended held db began s.clean same found stops.serves in (
+    let work : ClientWork (Clean g s.now.journal) held = work-of g (Clean g s.now.journal) stops.lines stops.answers stops.life stops.reached stops.ended held db began s.clean same found stops.serves in (
       told_text work,
       (work, refl, s.found),
       elim stops.told [
@@ -185,7 +185,7 @@ comes-at given taken given_now taken_now trees db began held (Ok v) same found s
 comes-at given taken given_now taken_now trees db began held (Err fault) same found says told cut = elim cut [ inl none ↦ inl none | inr part ↦ inr (part.0, cut-at db began held same found part.1) ]
 
 -- a fault that is nothing of what the user gave
-pub is-no-input : (fault : Fault) → Refuses ⊥ fault → is_input fault ≡ false
+pub is-no-input : (fault : Fault) → IsEarlyFault ⊥ fault → is_input fault ≡ false
 is-no-input (Usage text) refused = absurd refused
 is-no-input (Text path f) refused = absurd refused
 is-no-input (NoType path x place) refused = absurd refused
@@ -216,8 +216,8 @@ found-at g db began held clean count aborted time path err err_now sure same fou
   finds = λ c.
       let begins : Clean g began.journal = sure c in
       let file = (contents_of db).events in
-      let all = ap length (found begins).history ∙ length-append (events file) (closing (events file)) in
-      let many : length (events file) ≡ length file = length-map file _ in
+      let all = ap length (found begins).history ∙ length-append (events_of_kinds file) (closing (events_of_kinds file)) in
+      let many : length (events_of_kinds file) ≡ length file = length-map file _ in
       at-path db (λ x. Finds (contents_of x) count aborted) held (same begins)
       (record { happened = counted begins; were_open = omega (arith, rest, all, many, counted begins) });
   said = said;

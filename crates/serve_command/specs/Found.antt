@@ -5,7 +5,7 @@ use Rattle.std.specs.List.{flat_map}
 use Rattle.sqlite_trees.specs.Tree.{Trees}
 use Rattle.store.specs.Ends.{closing}
 use Rattle.journal.specs.Contents.{Contents, contents_of}
-use Rattle.durable_store.specs.Durable.{events}
+use Rattle.durable_store.specs.Durable.{events_of_kinds}
 use Rattle.serving.specs.Told.{AppendsPart}
 
 -- the line: how many events the file at a path had, how many transactions were open in it and are aborted, and how many milliseconds it took
@@ -16,7 +16,7 @@ found_text path count aborted time = flat_map (λ (piece : List ℕ). piece)
 -- this many events, and this many open transactions
 pub record Finds (file : Contents) (count aborted : ℕ) : Type 0 where
   pub happened : count ≡ length file.events
-  pub were_open : aborted ≡ length (closing (events file.events))
+  pub were_open : aborted ≡ length (closing (events_of_kinds file.events))
 
 -- standard error took the line, or where it failed a beginning; what it says is what is held, if no wrong answer of a disk was taken as true
 pub record SaysFound (clean : Type 0) (held : Option Trees) (path : List ℕ) (err err_now : Option (List ℕ)) : Type 0 where

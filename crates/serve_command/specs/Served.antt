@@ -15,7 +15,7 @@ use Rattle.store.specs.Renews.{Renews}
 use Rattle.journal.specs.Contents.{Contents, contents_of}
 use Rattle.journal.specs.Journal.{Clean}
 use Rattle.durable_store.specs.declared.durable.Durable.{Durable}
-use Rattle.durable_store.specs.Durable.{events}
+use Rattle.durable_store.specs.Durable.{events_of_kinds}
 use Rattle.durable_store.specs.Epochs.{firsts}
 use Rattle.durable_store.specs.Recovered.{recovered}
 use Rattle.durable_store.specs.Types.{HasTypes}
@@ -23,7 +23,7 @@ use Rattle.request_text.specs.declared.request.Asked.{Asked}
 use Rattle.request_text.specs.declared.request.TransactionName.{TransactionName}
 use Rattle.serving.specs.declared.answer_line.Answered.{Answered}
 use Rattle.serving.specs.CommitsFound.{CommitsAreFound, HasCommit, TellsCommit}
-use Rattle.serving.specs.Ending.{end_answers}
+use Rattle.serving.specs.EpochEnd.{end_answers}
 use Rattle.serving.specs.Epochs.{aborted}
 use Rattle.serving.specs.Lines.{AreLines}
 use Rattle.serving.specs.Served.{Serves}
@@ -37,12 +37,12 @@ epoch_events = 980000
 -- the store that was opened of what a file said, and the file as it was left then
 pub record IsOpened (said file : Contents) (began : Stored) : Type 0 where
   pub types : HasTypes said began.types
-  pub history : began.history ≡ events said.events ++ closing (events said.events)
+  pub history : began.history ≡ events_of_kinds said.events ++ closing (events_of_kinds said.events)
   pub left : file ≡ recovered said
 
 -- lines of a client that were done, in their order, by the store of what a file said, and so they were answered, epoch after epoch; all of it if no
 -- wrong answer of a disk was taken as true
-pub record Work (clean : Type 0) (held : Option Trees) : Type 0 where
+pub record ClientWork (clean : Type 0) (held : Option Trees) : Type 0 where
   pub life : ℕ
   pub file : Contents
   pub began : Stored
@@ -55,18 +55,18 @@ pub record Work (clean : Type 0) (held : Option Trees) : Type 0 where
   pub serves : clean → Serves epoch_events file life lines began told last reached ended
 
 -- the lines that a client gets of it
-abbrev pub told_text : {clean : Type 0} {held : Option Trees} → Work clean held → List ℕ
+abbrev pub told_text : {clean : Type 0} {held : Option Trees} → ClientWork clean held → List ℕ
 told_text w = (greeting w.life ++ answers_text w.told) ++ answers_text (end_answers w.ended)
 
 -- the file begins a new epoch at the states of this store
-pub record Begins (db : Trees) (s : Stored) : Type 0 where
+pub record BeginsEpoch (db : Trees) (s : Stored) : Type 0 where
   pub events : (contents_of db).events ≡ []
   pub states : (contents_of db).states ≡ firsts s.types
 
 -- a text that a client gets: the greeting, the answers and that of the end; of the input these bytes were taken, which are those lines and
 -- after them a half one, or what comes after the end; what was open is aborted, and the file begins a new epoch
 pub record IsServed (clean : Type 0) (held left : Option Trees) (given given_now : Option (List ℕ)) (text : List ℕ) : Type 0 where
-  pub work : Work clean held
+  pub work : ClientWork clean held
   pub seen : List ℕ
   pub half : List ℕ
   pub rest : List ℕ
@@ -76,7 +76,7 @@ pub record IsServed (clean : Type 0) (held left : Option Trees) (given given_now
   pub told : text ≡ told_text work
   pub now : Stored
   pub renews : Renews (aborted work.reached) now
-  pub left_is : clean → IfSome left (λ db. Begins db now)
+  pub left_is : clean → IfSome left (λ db. BeginsEpoch db now)
 
 -- what serving answers: never no
 abbrev pub ServesDatabase : Type 0 → Option Trees → Option Trees → Option (List ℕ) → Option (List ℕ) → Answers
@@ -89,7 +89,7 @@ LeavesCommits lines answers may_be_left = (t : TransactionName) → TellsCommit 
 -- a text of which a client may have got a beginning, where serving stopped: the greeting, the answers to lines that were done, and that of the
 -- end; and what may be left then has each commit that it answers
 abbrev pub BeginsBefore : Type 0 → Option Trees → (Trees → Type 0) → List ℕ → Type 0
-BeginsBefore clean held may_be_left text = (work : Work clean held) × (text ≡ told_text work) × (clean → LeavesCommits work.lines work.told may_be_left)
+BeginsBefore clean held may_be_left text = (work : ClientWork clean held) × (text ≡ told_text work) × (clean → LeavesCommits work.lines work.told may_be_left)
 
 -- this, and what is held at the path then has these commits
 abbrev pub BeginsServing : Type 0 → Option Trees → Option Trees → List ℕ → Type 0

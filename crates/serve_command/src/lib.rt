@@ -1,7 +1,9 @@
 //! `serve`: a store in a file answers what one client asks.
 #![tactic(auto)]
 
+mod archives;
 mod found;
 mod serve;
 
+pub use archives::{Archives, FolderArchive, FolderArchives};
 pub use serve::{Serving, serve_database};

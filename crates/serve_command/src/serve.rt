@@ -10,7 +10,7 @@ ghost use Rattle.durable_store.specs.Durable.{IsDurable};
 ghost use Rattle.serve_command.specs.Archived.{ArchivesEpochs, KeepsBetween};
 ghost use Rattle.serve_command.specs.Found.{SaysFound};
 ghost use Rattle.serve_command.specs.Served.{BeginsBefore, BeginsServing, ComesOfServing, IsHeld, ServesDatabase, ServesIn, StopsIn};
-ghost use Rattle.command_files.specs.Answers.{Refuses};
+ghost use Rattle.command_files.specs.Answers.{IsEarlyFault};
 ghost use Rattle.command_files.specs.Status.{is_input};
 
 use crate::found::{Found, milliseconds_since, say_found};
@@ -211,7 +211,7 @@ fn fault_of_serving<'a>(asked: Serving<'a>, fault: ServeFault) -> Fault<'a>
 
 /// Why the archive in a folder doesn't keep a history.
 fn fault_of_archive<'a>(folder: &'a str, fault: ArchiveFault) -> Fault<'a>
-    ensures { Refuses ⊥ result }
+    ensures { IsEarlyFault ⊥ result }
 {
     match fault {
         ArchiveFault::Taken => Fault::of_database(folder, DatabaseFault::Present),

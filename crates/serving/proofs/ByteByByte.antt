@@ -7,7 +7,7 @@ use Rattle.std.proofs.lemmas.Bool.{leb-false, leb-true, lt-leb, lt-ltb}
 use Rattle.std.specs.Prelude.{◌==◌, nat_le, nat_lt, if◌then◌else◌}
 use Rattle.std.specs.List.{flat_map}
 use Rattle.type_table.proofs.Elements.{each-append}
-use Rattle.request_text.specs.Requests.{asked_of, untagged}
+use Rattle.request_text.specs.Requests.{asked_by, untagged}
 use Rattle.request_text.specs.declared.fault.RequestFault.TheVariants.{TooLong}
 use Rattle.serving.specs.Lines.{AreLines, ended_line, has_lf}
 
@@ -43,12 +43,12 @@ kept-more n half b = elim (shorter-or-not n (length half)) [
       rw test (sym (take-append-le n half (b ∷ []) long))
 ]
 
-too-long : (line : List ℕ) → 255 < length line → asked_of line ≡ untagged TooLong
+too-long : (line : List ℕ) → 255 < length line → asked_by line ≡ untagged TooLong
 too-long line long = let test : nat_le (length line) 255 ≡ false = lt-leb _ _ long in rw test
 
 -- the first 256 bytes of a line say what it asks
-pub asked-kept : (half : List ℕ) → asked_of (take 256 half) ≡ asked_of half
+pub asked-kept : (half : List ℕ) → asked_by (take 256 half) ≡ asked_by half
 asked-kept half = elim (shorter-or-not 256 (length half)) [
-  | inl short ↦ ap asked_of (take_all 256 half (omega arith))
+  | inl short ↦ ap asked_by (take_all 256 half (omega arith))
   | inr long ↦ too-long (take 256 half) (omega (arith, length-take-le 256 half long)) ∙ sym (too-long half (omega arith))
 ]

@@ -12,15 +12,15 @@ use Rattle.serving.specs.Archives.{KeptHistory}
 use Rattle.serving.specs.Epochs.{LeavesEpochs, WritesEpochs}
 use Rattle.serving.specs.declared.session.Session.{Session}
 use Rattle.serving.specs.declared.server.Server.{Server}
-use Rattle.serving.specs.Ending.{EndsEpoch, end_answers}
+use Rattle.serving.specs.EpochEnd.{EndsEpoch, end_answers}
 use Rattle.serving.specs.Group.{HasTold, StopsTelling}
 use Rattle.serving.specs.Served.{Serves}
 use Rattle.serving.specs.Told.{AppendsPart, answers_text, greeting}
-use Rattle.serving.specs.Serving.{life_of}
+use Rattle.serving.specs.Server.{life_of}
 use Rattle.serving.specs.Whole.{ServesClient, StopsServing, session_of}
-use Rattle.serving.proofs.Lasting.{left-then, writes-on}
+use Rattle.serving.proofs.LaterEpochs.{left-then, writes-on}
 use Rattle.serving.proofs.Groups.{part-then}
-use Rattle.serving.proofs.Telling.{part-of-whole}
+use Rattle.serving.proofs.TextParts.{part-of-whole}
 
 -- a server that served a store, and then its end
 pub writes-served : {S E : Type 0} (g : Ghosts S) {began old mid d : Durable S} (new : Durable S) (kept kept_mid kept_now : Option (List KeptHistory)) (r : Result (Unit {0}) E) → old ≡ began → d ≡ mid

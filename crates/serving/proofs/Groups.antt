@@ -13,12 +13,12 @@ use Rattle.serving.specs.declared.session.Session.{Session}
 use Rattle.serving.specs.declared.server.Server.{Server}
 use Rattle.serving.specs.Requests.{LetsGo}
 use Rattle.serving.specs.Served.{Serves}
-use Rattle.serving.specs.Serving.{StaysInEpoch, HasServed, ServesBytes}
+use Rattle.serving.specs.Server.{StaysInEpoch, HasServed, ServesBytes}
 use Rattle.durable_store.specs.Durable.{IsDurable}
-use Rattle.serving.specs.Group.{HasTold, IsFresh, StopsTelling}
+use Rattle.serving.specs.Group.{HasTold, IsUnasked, StopsTelling}
 use Rattle.serving.specs.Told.{AppendsPart, answers_text}
-use Rattle.serving.proofs.Lasting.{lasts-stays, lasts-nowhere}
-use Rattle.serving.proofs.Telling.{part-of-whole}
+use Rattle.serving.proofs.LaterEpochs.{lasts-stays, lasts-nowhere}
+use Rattle.serving.proofs.TextParts.{part-of-whole}
 
 -- ---- known bytes
 
@@ -97,7 +97,7 @@ group-told {S} {g} {began} {given} {taken} {given_now} {taken_now} {old} mid new
 
 -- ---- nothing was answered yet
 
-abbrev pub told-none : {S : Type 0} {g : Ghosts S} (given taken : Option (List ℕ)) (s : Server S) → IsDurable g s.session.store → IsFresh s → HasTold g s.session given taken s given taken
+abbrev pub told-none : {S : Type 0} {g : Ghosts S} (given taken : Option (List ℕ)) (s : Server S) → IsDurable g s.session.store → IsUnasked s → HasTold g s.session given taken s given taken
 told-none {S} {g} given taken s sound fresh = record {
   told = [];
   seen = [];

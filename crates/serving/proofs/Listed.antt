@@ -11,7 +11,7 @@ use Rattle.line_text.proofs.Lines.{none_is, slice_split_whole}
 use Rattle.outputs.specs.Out.{Puts, PutsJoin, PutsStop}
 use Rattle.outputs.specs.declared.out.OutFault.{OutFault}
 use Rattle.outputs.proofs.Turns.{Puts-append, Puts-exit}
-use Rattle.serving.specs.AnswerText.{behind, lines_text}
+use Rattle.serving.specs.AnswerText.{behind, answer_lines}
 
 abbrev is_lf : ℕ → Bool
 is_lf b = eqb b 10
@@ -40,18 +40,18 @@ text-next tag line done = flat_map-append (behind tag) done (line ∷ []) ∙ ap
 -- the output stopped at a line
 pub lines-stop : PutsJoin → PutsStop → {a b c : Option (List ℕ)} {f g : Option OutFault} {e : OutFault} {result : Result (Unit {0}) OutFault} (tag text rest : List ℕ) (done : List (List ℕ)) (at : ℕ)
     → position is_lf rest ≡ Some at → slice_split is_lf text ≡ done ++ slice_split is_lf rest
-    → Puts a b f (flat_map (behind tag) done) (Ok tt) → Puts b c g (behind tag (take at rest)) (Err e) → IsErrAnd result (λ d. d ≡ e) → Puts a c g (lines_text tag text) result
+    → Puts a b f (flat_map (behind tag) done) (Ok tt) → Puts b c g (behind tag (take at rest)) (Err e) → IsErrAnd result (λ d. d ≡ e) → Puts a c g (answer_lines tag text) result
 lines-stop joined stopped tag text rest done at found so_far put stop exit =
     let more = flat_map (behind tag) (slice_split is_lf (drop (at + 1) rest)) in
-    let all : lines_text tag text ≡ flat_map (behind tag) done ++ (behind tag (take at rest) ++ more) =
+    let all : answer_lines tag text ≡ flat_map (behind tag) done ++ (behind tag (take at rest) ++ more) =
     ap (flat_map (behind tag)) (so_far ∙ ap (λ ls. done ++ ls) (lines-first rest at found)) ∙ flat_map-append (behind tag) done (take at rest ∷ slice_split is_lf (drop (at + 1) rest)) in
     rw all (Puts-append joined put (Puts-exit stopped more stop exit))
 
 -- the last line was written
 pub lines-end : PutsJoin → {a b c : Option (List ℕ)} {f g : Option OutFault} {result : Result (Unit {0}) OutFault} (tag text rest : List ℕ) (done : List (List ℕ))
     → position is_lf rest ≡ None → slice_split is_lf text ≡ done ++ slice_split is_lf rest
-    → Puts a b f (flat_map (behind tag) done) (Ok tt) → Puts b c g (behind tag rest) result → Puts a c g (lines_text tag text) result
+    → Puts a b f (flat_map (behind tag) done) (Ok tt) → Puts b c g (behind tag rest) result → Puts a c g (answer_lines tag text) result
 lines-end joined tag text rest done none so_far put last =
-    let all : lines_text tag text ≡ flat_map (behind tag) done ++ behind tag rest =
+    let all : answer_lines tag text ≡ flat_map (behind tag) done ++ behind tag rest =
     ap (flat_map (behind tag)) (so_far ∙ ap (λ ls. done ++ ls) (lines-last rest none)) ∙ text-next tag rest done in
     rw all (Puts-append joined put last)

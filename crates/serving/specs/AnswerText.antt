@@ -1,8 +1,7 @@
 -- The lines that a client is answered.
-use Rattle.std.specs.Prelude.{ℕ, List, [], ◌∷◌, ◌++◌, codes, Option, Some, None}
+use Rattle.std.specs.Prelude.{ℕ, List, [], ◌∷◌, ◌++◌, codes, Option, Some, None, ◌==◌}
 use Rattle.std.specs.Fmt.{decimal}
 use Rattle.std.specs.List.{flat_map, slice_split}
-use Rattle.std.specs.Prelude.{◌==◌}
 use Rattle.line_text.specs.Spelling.{spaced}
 use Rattle.object_trait.specs.declared.event.Event.{Event}
 use Rattle.object_trait.specs.declared.event.EventKind.{EventKind}
@@ -30,35 +29,35 @@ fault_name BadWords = codes "BadWords"
 fault_name BadNumber = codes "BadNumber"
 
 -- pieces one after another
-abbrev pub text_of : List (List ℕ) → List ℕ
-text_of pieces = flat_map (λ piece. piece) pieces
+abbrev pub pieces_text : List (List ℕ) → List ℕ
+pieces_text pieces = flat_map (λ piece. piece) pieces
 
 -- ---- one line
 
 -- that it is done
 abbrev pub done_text : List ℕ → List ℕ
-done_text tag = text_of (tag ∷ codes " ok\n" ∷ [])
+done_text tag = pieces_text (tag ∷ codes " ok\n" ∷ [])
 
 -- that no further transaction begins
 abbrev pub draining_text : List ℕ → List ℕ
-draining_text tag = text_of (tag ∷ codes " busy drain\n" ∷ [])
+draining_text tag = pieces_text (tag ∷ codes " busy drain\n" ∷ [])
 
 -- a tag, words and a transaction: its life and its number with a point between
 abbrev pub transaction_text : List ℕ → List ℕ → TransactionName → List ℕ
-transaction_text tag words t = text_of (tag ∷ words ∷ decimal t.life ∷ codes "." ∷ decimal t.number ∷ (10 ∷ []) ∷ [])
+transaction_text tag words t = pieces_text (tag ∷ words ∷ decimal t.life ∷ codes "." ∷ decimal t.number ∷ (10 ∷ []) ∷ [])
 
 -- a tag and a state
 abbrev pub state_text : List ℕ → ℕ → List ℕ
-state_text tag state = text_of (tag ∷ codes " ok " ∷ decimal state ∷ (10 ∷ []) ∷ [])
+state_text tag state = pieces_text (tag ∷ codes " ok " ∷ decimal state ∷ (10 ∷ []) ∷ [])
 
 -- a tag and one word after words
 abbrev pub word_text : List ℕ → List ℕ → List ℕ → List ℕ
-word_text tag words word = text_of (tag ∷ words ∷ word ∷ (10 ∷ []) ∷ [])
+word_text tag words word = pieces_text (tag ∷ words ∷ word ∷ (10 ∷ []) ∷ [])
 
 -- a tag and the numbers of events, of transactions that have begun, and of those that are open
 abbrev pub counts_text : List ℕ → ℕ → ℕ → ℕ → List ℕ
 counts_text tag events begun open_ones =
-    text_of (tag ∷ codes " ok events " ∷ decimal events ∷ codes " begun " ∷ decimal begun ∷ codes " open " ∷ decimal open_ones ∷ (10 ∷ []) ∷ [])
+    pieces_text (tag ∷ codes " ok events " ∷ decimal events ∷ codes " begun " ∷ decimal begun ∷ codes " open " ∷ decimal open_ones ∷ (10 ∷ []) ∷ [])
 
 -- ---- several lines, each after the tag
 
@@ -67,16 +66,16 @@ abbrev pub behind : List ℕ → List ℕ → List ℕ
 behind tag line = tag ++ (32 ∷ []) ++ (line ++ (10 ∷ []))
 
 -- the line of an object, as a history text has it
-abbrev pub object_text : List ℕ → ObjectLine → List ℕ
-object_text tag o = behind tag (spaced (words_of (object_line o)))
+abbrev pub object_answer : List ℕ → ObjectLine → List ℕ
+object_answer tag o = behind tag (spaced (words_of (object_line o)))
 
 -- the line of an event of worker 0, as a history text has it
 abbrev pub event_text : List ℕ → EventKind → List ℕ
 event_text tag kind = let e : Event = record { worker = 0; kind = kind } in behind tag (spaced (words_of (event_line e)))
 
 -- what is between the LFs of a text, so that an empty line ends it
-abbrev pub lines_text : List ℕ → List ℕ → List ℕ
-lines_text tag text = flat_map (behind tag) (slice_split (λ b. b == 10) text)
+abbrev pub answer_lines : List ℕ → List ℕ → List ℕ
+answer_lines tag text = flat_map (behind tag) (slice_split (λ b. b == 10) text)
 
 -- ---- an answer
 
@@ -89,10 +88,10 @@ answer_text tag (State state) = state_text (tag_text tag) state
 answer_text tag (Reply reply) = word_text (tag_text tag) (codes " reply ") reply
 answer_text tag (Busy blocker) = transaction_text (tag_text tag) (codes " busy ") blocker
 answer_text tag Draining = draining_text (tag_text tag)
-answer_text tag Nothing = text_of (tag_text tag ∷ codes " none\n" ∷ [])
+answer_text tag Nothing = pieces_text (tag_text tag ∷ codes " none\n" ∷ [])
 answer_text tag (Counts events begun open_ones) = counts_text (tag_text tag) events begun open_ones
-answer_text tag (Objects objects) = flat_map (object_text (tag_text tag)) objects.items ++ done_text (tag_text tag)
-answer_text tag (Types texts) = flat_map (lines_text (tag_text tag)) texts.items ++ done_text (tag_text tag)
+answer_text tag (Objects objects) = flat_map (object_answer (tag_text tag)) objects.items ++ done_text (tag_text tag)
+answer_text tag (Types texts) = flat_map (answer_lines (tag_text tag)) texts.items ++ done_text (tag_text tag)
 answer_text tag (Events events) = flat_map (event_text (tag_text tag)) events.items ++ done_text (tag_text tag)
 answer_text tag (Refused refusal) = word_text (tag_text tag) (codes " refused ") (refusal_name refusal)
 answer_text tag (Fault fault) = word_text (tag_text tag) (codes " fault ") (fault_name fault)

@@ -4,7 +4,7 @@ use Rattle.std.specs.Option.{option_map}
 use Rattle.history_text.specs.Canonical.{canonical_text}
 use Rattle.journal.specs.Contents.{Contents}
 use Rattle.journal.specs.declared.header.Header.{Header}
-use Rattle.durable_store.specs.Durable.{events}
+use Rattle.durable_store.specs.Durable.{events_of_kinds}
 
 -- the text of a history that is kept, under the number of the life in which its epoch ended
 pub record KeptHistory : Type 0 where
@@ -31,16 +31,16 @@ life_in [] = 0
 life_in (h ∷ hs) = h.life
 
 -- the text of the epoch that a file has: its objects, and the events since it began, by worker 0
-abbrev pub history_text : Contents → List ℕ
-history_text c = canonical_text c.objects (events c.events)
+abbrev pub text_of_epoch : Contents → List ℕ
+text_of_epoch c = canonical_text c.objects (events_of_kinds c.events)
 
-abbrev pub history_of : Contents → KeptHistory
-history_of c = record { life = life_in c.headers; text = history_text c }
+abbrev pub kept_history : Contents → KeptHistory
+kept_history c = record { life = life_in c.headers; text = text_of_epoch c }
 
 -- the histories of these epochs are kept after the others, in their order, and nothing else
 abbrev pub KeepsEpochs : Option (List KeptHistory) → Option (List KeptHistory) → List Contents → Type 0
-KeepsEpochs old new ended = new ≡ with_kept old (map history_of ended)
+KeepsEpochs old new ended = new ≡ with_kept old (map kept_history ended)
 
 -- the same, and maybe more after them
 abbrev pub KeepsAtLeast : Option (List KeptHistory) → Option (List KeptHistory) → List Contents → Type 0
-KeepsAtLeast old new ended = (more : List KeptHistory) × (new ≡ with_kept old (map history_of ended ++ more))
+KeepsAtLeast old new ended = (more : List KeptHistory) × (new ≡ with_kept old (map kept_history ended ++ more))

@@ -10,7 +10,7 @@ use Rattle.journal.specs.Journal.{may_leave}
 use Rattle.durable_store.specs.declared.durable.Durable.{Durable}
 use Rattle.durable_store.specs.Durable.{kinds}
 use Rattle.durable_store.specs.Recovered.{IsStoreOf}
-use Rattle.request_text.specs.Requests.{asked_of}
+use Rattle.request_text.specs.Requests.{asked_by}
 use Rattle.request_text.specs.declared.request.Request.TheVariants as request
 use Rattle.request_text.specs.declared.request.TransactionName.{TransactionName}
 use Rattle.serving.specs.declared.answer_line.AnswerLine.TheVariants.{Committed}
@@ -20,7 +20,7 @@ use Rattle.serving.specs.Epochs.{Reaches}
 
 -- a line asks that this transaction commit, and is answered that it has
 abbrev pub AnswersCommit : List ℕ → Answered → TransactionName → Type 0
-AnswersCommit line a t = ((asked_of line).request ≡ Ok (request.Commit t)) × (a.answer ≡ Committed)
+AnswersCommit line a t = ((asked_by line).request ≡ Ok (request.Commit t)) × (a.answer ≡ Committed)
 
 -- one of these lines does, with the answer at its place
 abbrev pub TellsCommit : List (List ℕ) → List Answered → TransactionName → Type 0

@@ -22,9 +22,9 @@ abbrev pub named : ℕ → ℕ → TransactionName
 named life number = record { life = life; number = number }
 
 -- what a begin is answered
-abbrev pub begun : ℕ → Result ℕ Refusal → AnswerLine
-begun life (Ok number) = Begun (named life number)
-begun life (Err refusal) = Refused refusal
+abbrev pub begin_answer : ℕ → Result ℕ Refusal → AnswerLine
+begin_answer life (Ok number) = Begun (named life number)
+begin_answer life (Err refusal) = Refused refusal
 
 -- what a request is answered that is done or refused
 abbrev pub done_or : AnswerLine → Result (Unit {0}) Refusal → AnswerLine
@@ -32,8 +32,8 @@ done_or answer (Ok u) = answer
 done_or answer (Err refusal) = Refused refusal
 
 -- operation k of the object at x
-abbrev pub op_at : Stored → ℕ → ℕ → Option Op
-op_at s x k = option_and_then (λ (o : Object). op_of o.table k) (slice_get (objects s) x)
+abbrev pub op_of_object : Stored → ℕ → ℕ → Option Op
+op_of_object s x k = option_and_then (λ (o : Object). op_of o.table k) (slice_get (objects s) x)
 
 -- its reply
 abbrev pub reply_of : Option Op → AnswerLine
@@ -42,7 +42,7 @@ reply_of None = Nothing
 
 -- what a call at x is answered
 abbrev pub call_answer : Stored → ℕ → ℕ → Result calls.Answer Refusal → AnswerLine
-call_answer s life x (Ok (call.Reply k)) = reply_of (op_at s x k)
+call_answer s life x (Ok (call.Reply k)) = reply_of (op_of_object s x k)
 call_answer s life x (Ok (call.Busy u)) = Busy (named life u)
 call_answer s life x (Ok call.None) = Nothing
 call_answer s life x (Err refusal) = Refused refusal
@@ -52,15 +52,15 @@ abbrev pub InLife : ℕ → TransactionName → Stored → Stored → AnswerLine
 InLife life t old new answer does = MatchBool (t.life == life) does ((answer ≡ Refused NotOpen) × (new ≡ old))
 
 -- an epoch with this many events is full: it goes on until those that are open have ended
-abbrev pub is_full : ℕ → Stored → Bool
-is_full most s = nat_le most (length s.history)
+abbrev pub is_epoch_full : ℕ → Stored → Bool
+is_epoch_full most s = nat_le most (length s.history)
 
 -- ---- requests
 
 -- a transaction begins, but for an epoch that is full
 abbrev pub DoesBegin : ℕ → ℕ → Stored → AnswerLine → Stored → Type 0
 DoesBegin most life old answer new =
-    MatchBool (is_full most old) ((answer ≡ Draining) × (new ≡ old)) ((r : Result ℕ Refusal) × MayStep old 0 command.Begin r new × (answer ≡ begun life r))
+    MatchBool (is_epoch_full most old) ((answer ≡ Draining) × (new ≡ old)) ((r : Result ℕ Refusal) × MayStep old 0 command.Begin r new × (answer ≡ begin_answer life r))
 
 abbrev pub DoesCall : ℕ → Stored → TransactionName → ℕ → List ℕ → AnswerLine → Stored → Type 0
 DoesCall life old t x name answer new =

@@ -11,7 +11,7 @@ use Rattle.durable_store.specs.declared.durable.Durable.{Durable}
 use Rattle.durable_store.specs.Epochs.{renewed}
 use Rattle.durable_store.specs.Recovered.{IsStoreOf}
 use Rattle.serving.specs.Archives.{KeepsAtLeast, KeepsEpochs, KeptHistory}
-use Rattle.serving.specs.Follows.{Follows}
+use Rattle.serving.specs.Follows.{HasMoreEvents}
 
 -- with an abort of each transaction that was open
 abbrev pub aborted : Stored → Stored
@@ -21,7 +21,7 @@ aborted s = record s { history = s.history ++ closing s.history }
 -- each epoch that is over, in their order
 pub data Reaches (c : Contents) : List Contents → Contents → Type 0 where
   none : Reaches c [] c
-  events : (ended : List Contents) (mid new : Contents) → Reaches c ended mid → Follows mid new → Reaches c ended new
+  events : (ended : List Contents) (mid new : Contents) → Reaches c ended mid → HasMoreEvents mid new → Reaches c ended new
   epoch : (ended : List Contents) (mid : Contents) (old new : Stored) → Reaches c ended mid → IsStoreOf mid old → Renews old new → Reaches c (ended ++ mid ∷ []) (renewed mid new.types)
 
 -- a crash leaves what it could have left before, or what the file came to from what was written then; an archive that kept these histories now

@@ -8,7 +8,7 @@ use Rattle.journal.specs.Journal.{Clean, may_leave, written}
 use Rattle.durable_store.specs.declared.durable.Durable.{Durable}
 
 -- the same file with events more
-pub record Follows (old new : Contents) : Type 0 where
+pub record HasMoreEvents (old new : Contents) : Type 0 where
   pub more : List EventKind
   pub events : new.events ≡ old.events ++ more
   pub others : new ≡ record old { events = new.events }
@@ -16,8 +16,8 @@ pub record Follows (old new : Contents) : Type 0 where
 -- a crash leaves what it could have left before, or all that was written then, and what followed
 abbrev pub LeavesMore : {S : Type 0} (g : Ghosts S) → Durable S → Durable S → Type 0
 LeavesMore g old new = (db : Trees) → may_leave g new.journal db
-    → (Clean g old.journal × IsFile db × Follows (written g old.journal) (contents_of db)) ⊎ may_leave g old.journal db
+    → (Clean g old.journal × IsFile db × HasMoreEvents (written g old.journal) (contents_of db)) ⊎ may_leave g old.journal db
 
 -- what is written is what was, and what followed
 abbrev pub WritesMore : {S : Type 0} (g : Ghosts S) → Durable S → Durable S → Type 0
-WritesMore g old new = Clean g new.journal → Follows (written g old.journal) (written g new.journal)
+WritesMore g old new = Clean g new.journal → HasMoreEvents (written g old.journal) (written g new.journal)

@@ -10,7 +10,7 @@ use Rattle.serving.specs.declared.answer_line.Answered.{Answered}
 use Rattle.serving.specs.declared.session.Session.{Session}
 use Rattle.serving.specs.declared.server.Server.{Server}
 use Rattle.serving.specs.Served.{Serves}
-use Rattle.serving.specs.Serving.{HasServed, life_of}
+use Rattle.serving.specs.Server.{HasServed, life_of}
 use Rattle.serving.specs.Told.{AppendsPart, answers_text}
 
 -- since it began a server has taken these bytes of its input, done the lines of them up to one that asks for the end, and written
@@ -41,7 +41,7 @@ pub record StopsTelling {S : Type 0} (g : Ghosts S) (began : Session S) (taken :
   pub part : AppendsPart taken taken_now (answers_text answers)
 
 -- a server that was asked nothing yet
-pub record IsFresh {S : Type 0} (s : Server S) : Type 0 where
+pub record IsUnasked {S : Type 0} (s : Server S) : Type 0 where
   pub line : s.line.items ≡ []
   pub answers : s.answers.items ≡ []
   pub end : s.end ≡ None

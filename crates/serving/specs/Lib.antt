@@ -7,9 +7,9 @@ pub mod Epochs
 pub mod Requests
 pub mod Lines
 pub mod Served
-pub mod Serving
+pub mod Server
 pub mod Group
-pub mod Ending
+pub mod EpochEnd
 pub mod Whole
 pub mod Acknowledged
 pub mod CommitsFound

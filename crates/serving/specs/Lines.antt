@@ -1,7 +1,7 @@
 -- The lines of what was asked.
 use Rattle.std.specs.Prelude.{◌≡◌, ℕ, Bool, true, false, ◌==◌, List, [], ◌∷◌, ◌++◌, Result, Ok}
 use Rattle.std.specs.List.{AllByRecursion, flat_map, list_any}
-use Rattle.request_text.specs.Requests.{asked_of}
+use Rattle.request_text.specs.Requests.{asked_by}
 use Rattle.request_text.specs.declared.fault.RequestFault.{RequestFault}
 use Rattle.request_text.specs.declared.request.Request.{Request}
 use Rattle.request_text.specs.declared.request.Request.TheVariants.{End}
@@ -25,4 +25,4 @@ is_end asked = false
 
 -- the line asks for the end
 abbrev pub asks_end : List ℕ → Bool
-asks_end line = is_end (asked_of line).request
+asks_end line = is_end (asked_by line).request

@@ -3,19 +3,19 @@ use Rattle.std.specs.Prelude.{◌≡◌, true, false, suc, ℕ, List, [], ◌∷
 use Rattle.store_laws.specs.Stored.{Stored}
 use Rattle.store.specs.Renews.{Renews}
 use Rattle.journal.specs.Contents.{Contents}
-use Rattle.request_text.specs.Requests.{asked_of}
+use Rattle.request_text.specs.Requests.{asked_by}
 use Rattle.request_text.specs.declared.request.Asked.{Asked}
 use Rattle.serving.specs.declared.answer_line.Answered.{Answered}
 use Rattle.serving.specs.declared.answer_line.AnswerLine.TheVariants.{Fault}
-use Rattle.serving.specs.Does.{is_full}
+use Rattle.serving.specs.Does.{is_epoch_full}
 use Rattle.serving.specs.Epochs.{aborted}
 use Rattle.serving.specs.Requests.{DoesRequest}
 use Rattle.serving.specs.Lines.{asks_end}
 
 -- a line is answered under its tag: its request is done, or its fault is answered and nothing changes
 pub record IsAnswered (most life : ℕ) (c : Contents) (line : List ℕ) (old : Stored) (a : Answered) (new : Stored) : Type 0 where
-  pub tag : a.tag ≡ (asked_of line).tag
-  pub request : MatchResult (asked_of line).request (λ r. DoesRequest most life c old r a.answer new) (λ fault. (a.answer ≡ Fault fault) × (new ≡ old))
+  pub tag : a.tag ≡ (asked_by line).tag
+  pub request : MatchResult (asked_by line).request (λ r. DoesRequest most life c old r a.answer new) (λ fault. (a.answer ≡ Fault fault) × (new ≡ old))
 
 -- these lines were done in their order, over a file that says this, and so they were answered: by a store in this life, which is now this store
 -- in that life, since where an epoch is full another begins, in another life; a line after one that asks for the end isn't done, and that one
@@ -27,9 +27,9 @@ pub data Serves (most : ℕ) (c : Contents) (first : ℕ) : List (List ℕ) → 
       → Serves most c first (lines ++ asked ∷ []) old (answers ++ a ∷ []) life new None
   end : (lines : List (List ℕ)) (asked : List ℕ) (old new : Stored) (answers : List Answered) (life : ℕ)
       → Serves most c first lines old answers life new None → asks_end asked ≡ true
-      → Serves most c first (lines ++ asked ∷ []) old answers life new (Some (asked_of asked))
+      → Serves most c first (lines ++ asked ∷ []) old answers life new (Some (asked_by asked))
   forget : (lines : List (List ℕ)) (old mid : Stored) (answers : List Answered) (life n : ℕ) (ended : Option Asked)
       → Serves most c first lines old answers life mid ended → Serves most c first lines old answers life (record mid { forgotten = n }) ended
   epoch : (lines : List (List ℕ)) (old mid new : Stored) (answers : List Answered) (life : ℕ)
-      → Serves most c first lines old answers life mid None → is_full most mid ≡ true → Renews (aborted mid) new
+      → Serves most c first lines old answers life mid None → is_epoch_full most mid ≡ true → Renews (aborted mid) new
       → Serves most c first lines old answers (suc life) new None

@@ -10,11 +10,11 @@ use Rattle.request_text.specs.declared.request.Asked.{Asked}
 use Rattle.serving.specs.declared.answer_line.Answered.{Answered}
 use Rattle.serving.specs.declared.session.Session.{Session}
 use Rattle.serving.specs.declared.server.Server.{Server}
-use Rattle.serving.specs.Ending.{EndsEpoch, end_answers}
+use Rattle.serving.specs.EpochEnd.{EndsEpoch, end_answers}
 use Rattle.serving.specs.Epochs.{aborted}
 use Rattle.serving.specs.Group.{HasTold}
 use Rattle.serving.specs.Served.{Serves}
-use Rattle.serving.specs.Serving.{life_of}
+use Rattle.serving.specs.Server.{life_of}
 use Rattle.serving.specs.Told.{AppendsPart, answers_text, greeting}
 
 -- a store that nobody has asked anything yet

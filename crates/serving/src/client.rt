@@ -7,12 +7,14 @@ ghost use Rattle.outputs.specs.Out.{Puts};
 ghost use Rattle.outputs.specs.Gathered.{taken_by, under, waiting};
 ghost use Rattle.journal.specs.Journal.{Clean, durable, written};
 ghost use Rattle.serving.specs.Told.{AppendsPart, answers_text, greeting, has_commit};
+ghost use Rattle.serving.specs.EpochEnd.{end_answers};
 
-use crate::answer_line::Answered;
-use crate::spelling::write_answer;
+use crate::answer_line::{AnswerLine, Answered};
+use crate::answer_text::write_answer;
 use durable_store::Durable;
 use itoa::Buffer;
 use outputs::{Gathered, Out, OutFault, items_in_turn, put_all, texts_in_turn};
+use request_text::Asked;
 use sqlite_trees::store::Alter;
 
 /// Who asks a store. But for the greeting nothing but `tell` writes to its output.
@@ -73,6 +75,33 @@ impl<W: Out> Client<W> {
     {
         put_answers(&mut self.out, answers)?;
         self.out.flush()
+    }
+
+    /// Answers the client that the end is there, where a line asked for it.
+    ///
+    /// # Errors
+    ///
+    /// The fault that stopped the output.
+    pub(crate) fn tell_end<S: Alter>(
+        &mut self,
+        store: &Durable<S>,
+        end: Option<Asked>,
+    ) -> Result<(), OutFault>
+        requires { W.fault (under self.old.out) ≡ None }
+        ensures told { OnOk result (Appends (taken_by W.taken self.old.out) (taken_by W.taken self.new.out) (answers_text (end_answers end))) }
+        ensures part { OnErr result (AppendsPart (taken_by W.taken self.old.out) (taken_by W.taken self.new.out) (answers_text (end_answers end))) }
+        ensures fault { W.fault (under self.new.out) ≡ result_err result }
+    {
+        match end {
+            Some(asked) => {
+                let answered = Answered {
+                    tag: asked.tag,
+                    answer: AnswerLine::Done,
+                };
+                self.tell(store, &[answered])
+            }
+            None => Ok(()),
+        }
     }
 }
 

@@ -2,35 +2,24 @@
 #![tactic(auto)]
 
 mod answer_line;
+mod answer_text;
 mod archive;
-mod archiving;
-mod asking;
 mod client;
-mod doing;
-mod ending;
+mod epoch;
 mod epoch_limits;
-mod epochs;
-mod group;
 mod laws;
-mod lines;
-mod listing;
-mod reading;
-mod requests;
-mod running;
 mod serve_fault;
 mod server;
+mod service;
 mod session;
-mod settling;
-mod spelling;
-mod whole;
 
 pub use answer_line::{AnswerLine, Answered};
+pub use answer_text::write_answer;
 pub use archive::{Archive, ArchiveFault, NoArchive};
 pub use client::Client;
 pub use epoch_limits::EpochLimits;
 pub use laws::told_commits_are_found;
 pub use serve_fault::ServeFault;
 pub use server::Server;
+pub use service::serve;
 pub use session::Session;
-pub use spelling::write_answer;
-pub use whole::serve;

@@ -1,8 +1,39 @@
-use crate::answer_line::Answered;
-use crate::session::Session;
-use request_text::Asked;
+//! A client is served, group by group: its lines are done, what they wrote becomes durable, and then it gets the answers.
+
+ghost use Rattle.std.specs.Prelude.{◌≡◌, None, OnOk, List, ℕ, true, IsSome, ◌<◌, length, MatchResult, OnErr, [], Option, IfOk, IsTrue, false};
+ghost use Rattle.journal.specs.Journal.{Clean, ShowsCommit, durable, written};
+ghost use Rattle.durable_store.specs.Durable.{IsDurable};
+ghost use Rattle.serving.specs.declared.answer_line.Answered.{Answered as Told};
+ghost use Rattle.serving.specs.declared.session.Session.{Session as Began};
+ghost use Rattle.serving.specs.Follows.{LeavesMore};
+ghost use Rattle.serving.specs.Lines.{is_end};
+ghost use Rattle.serving.specs.Server.{DoesLine, StaysInEpoch, HasServed, ServesBytes, TakesByte};
+ghost use Rattle.std.specs.Io.KnownBytes.{IsAtEnd};
+ghost use Rattle.outputs.specs.Gathered.{taken_by, under};
+ghost use Rattle.serving.specs.Acknowledged.{StopsSafely, TellsSafely};
+ghost use Rattle.serving.specs.Epochs.{LeavesEpochs, WritesEpochs};
+ghost use Rattle.serving.specs.Group.{HasTold, IsUnasked, StopsTelling, IsMore};
+ghost use Rattle.serving.specs.Does.{is_epoch_full};
+ghost use Rattle.serving.specs.Requests.{LetsGo};
+ghost use Rattle.serving.specs.Told.{has_commit, is_commit};
+
+use crate::answer_line::{AnswerLine, Answered};
+use crate::archive::Archive;
+use crate::client::Client;
+use crate::serve_fault::ServeFault;
+use crate::session::{Session, is_full};
+use durable_store::Durable;
+use journal::JournalError;
+use outputs::Out;
+use request_text::{Asked, Request, RequestFault, read_line};
 use sqlite_trees::store::Alter;
-use std::time::Instant;
+use std::alloc::Global;
+use std::io::Read;
+use std::rt::Clock;
+use std::time::{Duration, Instant};
+
+/// The most bytes that are kept of a line.
+const MOST_KEPT: usize = 256;
 
 /// A session, and what its client has asked.
 pub struct Server<S: Alter> {
@@ -15,4 +46,374 @@ pub struct Server<S: Alter> {
     pub(crate) end: Option<Asked>,
     /// When the epoch was first seen to be full.
     pub(crate) full_since: Option<Instant>,
+}
+
+impl<S: Alter> Server<S> {
+    /// A server of this store, which was asked nothing yet, with epochs that are full with this many events.
+    pub fn new(alloc: Global, store: Durable<S>, most_events: u32) -> Server<S>
+        ensures fresh { IsUnasked result }
+        ensures store { result.session.store ≡ store }
+        ensures life { result.session.life ≡ store.journal.header.life }
+        ensures most { result.session.most_events ≡ most_events }
+    {
+        let life = store.life();
+        Server {
+            session: Session {
+                store,
+                life,
+                most_events,
+            },
+            line: Vec::new(alloc),
+            answers: Vec::new(alloc),
+            end: None,
+            full_since: None,
+        }
+    }
+
+    /// The line that asked for the end, where one did.
+    pub fn end(&self) -> Option<Asked>
+        ensures { result ≡ self.now.end }
+    {
+        self.end
+    }
+
+    /// Its store. What was asked of a line that isn't whole is let go.
+    pub fn into_store(self) -> Durable<S>
+        ensures { result ≡ self.session.store }
+    {
+        let Server {
+            session,
+            line: _,
+            answers: _,
+            end: _,
+            full_since: _,
+        } = self;
+        let Session {
+            store,
+            life: _,
+            most_events: _,
+        } = session;
+        store
+    }
+
+    /// Serves the client, group by group: what it asks is read into the buffer, as much as is there. An epoch that is full
+    /// ends where nothing is open, or where what is open went on as long as the limits say; the archive keeps its history, where it
+    /// asks for any, before the file begins anew. At `Ok` the client asked for the end, or the input has ended, and it got
+    /// the answers to all whole lines before, in their order. However it ends, each commit that was answered survives a
+    /// crash, where all that was written was durable as it began.
+    ///
+    /// # Errors
+    ///
+    /// The file, the archive, the input or the output failed, or memory was refused: the client got a beginning of the
+    /// answers to some of its lines, and the server isn't to be used any more.
+    pub fn run<C: Clock, A: Archive, R: Read, W: Out>(
+        self,
+        clock: &C,
+        alloc: Global,
+        drain: Duration,
+        archive: &mut A,
+        input: &mut R,
+        buffer: &mut [u8],
+        client: &mut Client<W>,
+    ) -> (Server<S>, Result<(), ServeFault>)
+        requires sound { IsDurable S.Store self.session.store }
+        requires fresh { IsUnasked self }
+        requires room { 0 < length buffer.old }
+        requires out_takes { W.fault (under client.old.out) ≡ None }
+        ensures told { OnOk result.1 (HasTold S.Store self.session (R.remaining input.old) (taken_by W.taken client.old.out) result.0 (R.remaining input.new) (taken_by W.taken client.new.out)) }
+        ensures ended { OnOk result.1 (result.0.end ≡ None → IsAtEnd (R.remaining input.new)) }
+        ensures stops { OnErr result.1 (StopsTelling S.Store self.session (taken_by W.taken client.old.out) result.0.session.store (taken_by W.taken client.new.out)) }
+        ensures acknowledged { MatchResult result.1
+            (λ done. TellsSafely S.Store self.session (R.remaining input.old) (taken_by W.taken client.old.out) result.0 (R.remaining input.new) (taken_by W.taken client.new.out))
+            (λ fault. StopsSafely S.Store self.session (taken_by W.taken client.old.out) result.0.session.store (taken_by W.taken client.new.out)) }
+        ensures out_takes { OnOk result.1 (W.fault (under client.new.out) ≡ None) }
+        ensures archives { OnOk result.1 (WritesEpochs S.Store self.session.store result.0.session.store (A.kept archive.old) (A.kept archive.new)) }
+        ensures clean { Clean S.Store result.0.session.store.journal → Clean S.Store self.session.store.journal }
+        ensures crash { LeavesEpochs S.Store self.session.store result.0.session.store (A.kept archive.old) (A.kept archive.new) }
+    {
+        let mut server = self;
+        for _turn in 0..u64::MAX {
+            let (next, turned) = server.take_turn(
+                clock, alloc, drain, archive, input, buffer, client,
+            );
+            server = next;
+            match turned {
+                Ok(true) => {}
+                Ok(false) => return (server, Ok(())),
+                Err(fault) => return (server, Err(fault)),
+            }
+        }
+        (server, Err(ServeFault::Input))
+    }
+
+    /// Serves a group, and begins another epoch where this one is over. Whether more may come.
+    ///
+    /// # Errors
+    ///
+    /// As `serve_group`, and as `end_epoch` where the client got all answers.
+    pub(crate) fn take_turn<C: Clock, A: Archive, R: Read, W: Out>(
+        self,
+        clock: &C,
+        alloc: Global,
+        drain: Duration,
+        archive: &mut A,
+        input: &mut R,
+        buffer: &mut [u8],
+        client: &mut Client<W>,
+    ) -> (Server<S>, Result<bool, ServeFault>)
+        requires sound { IsDurable S.Store self.session.store }
+        requires asked { self.end ≡ None }
+        requires told { self.answers.items ≡ [] }
+        requires room { 0 < length buffer.old }
+        requires out_takes { W.fault (under client.old.out) ≡ None }
+        ensures serves { OnOk result.1 ((began : Began S) (given taken : Option (List ℕ)) → TellsSafely S.Store began given taken self (R.remaining input.old) (taken_by W.taken client.old.out)
+            → TellsSafely S.Store began given taken result.0 (R.remaining input.new) (taken_by W.taken client.new.out)) }
+        ensures stops { OnErr result.1 ((began : Began S) (given taken : Option (List ℕ)) → TellsSafely S.Store began given taken self (R.remaining input.old) (taken_by W.taken client.old.out)
+            → StopsSafely S.Store began taken result.0.session.store (taken_by W.taken client.new.out)) }
+        ensures more { IfOk result.1 (λ more. IsMore more result.0 (R.remaining input.new)) }
+        ensures told { OnOk result.1 (result.0.answers.items ≡ []) }
+        ensures sound { OnOk result.1 (IsDurable S.Store result.0.session.store) }
+        ensures out_takes { OnOk result.1 (W.fault (under client.new.out) ≡ None) }
+        ensures writes { OnOk result.1 (WritesEpochs S.Store self.session.store result.0.session.store (A.kept archive.old) (A.kept archive.new)) }
+        ensures clean { Clean S.Store result.0.session.store.journal → Clean S.Store self.session.store.journal }
+        ensures crash { LeavesEpochs S.Store self.session.store result.0.session.store (A.kept archive.old) (A.kept archive.new) }
+    {
+        let mut server = self;
+        match server.serve_group(alloc, input, buffer, client) {
+            Ok(true) => server.next_epoch(clock, alloc, drain, archive),
+            served => (server, served),
+        }
+    }
+
+    /// Takes what is there of the input, at most as many bytes as the buffer has, and does its whole lines. Where a
+    /// commit is among them all that was written becomes durable. Then the client gets the answers, in their order.
+    /// Whether more may come.
+    ///
+    /// # Errors
+    ///
+    /// The file, the input or the output failed, or memory was refused: the server isn't to be used any more. Where it
+    /// wasn't the output, the client got nothing.
+    pub(crate) fn serve_group<R: Read, W: Out>(
+        &mut self,
+        alloc: Global,
+        input: &mut R,
+        buffer: &mut [u8],
+        client: &mut Client<W>,
+    ) -> Result<bool, ServeFault>
+        requires sound { IsDurable S.Store self.old.session.store }
+        requires asked { self.old.end ≡ None }
+        requires told { self.old.answers.items ≡ [] }
+        requires room { 0 < length buffer.old }
+        requires out_takes { W.fault (under client.old.out) ≡ None }
+        ensures serves { OnOk result ((began : Began S) (given taken : Option (List ℕ)) → TellsSafely S.Store began given taken self.old (R.remaining input.old) (taken_by W.taken client.old.out)
+            → TellsSafely S.Store began given taken self.new (R.remaining input.new) (taken_by W.taken client.new.out)) }
+        ensures stops { OnErr result ((began : Began S) (given taken : Option (List ℕ)) → TellsSafely S.Store began given taken self.old (R.remaining input.old) (taken_by W.taken client.old.out)
+            → StopsSafely S.Store began taken self.new.session.store (taken_by W.taken client.new.out)) }
+        ensures more { IfOk result (λ more. IsMore more self.new (R.remaining input.new)) }
+        ensures told { OnOk result (self.new.answers.items ≡ []) }
+        ensures stays_in_epoch { OnOk result (StaysInEpoch S.Store self.old.session self.new.session) }
+        ensures out_takes { OnOk result (W.fault (under client.new.out) ≡ None) }
+        ensures clean { Clean S.Store self.new.session.store.journal → Clean S.Store self.old.session.store.journal }
+        ensures crash { LeavesMore S.Store self.old.session.store self.new.session.store }
+    {
+        let count = match input.read(buffer) {
+            Ok(count) => count,
+            Err(_) => return Err(ServeFault::Input),
+        };
+        self.take_bytes(alloc, &buffer[..count])?;
+        self.settle_commits()?;
+        client.tell(&self.session.store, &self.answers)?;
+        self.answers.clear();
+        Ok(count > 0 && self.end.is_none())
+    }
+
+    /// Does the lines that these bytes end, one after another, up to one that asks for the end.
+    ///
+    /// # Errors
+    ///
+    /// The file failed, or memory was refused: the server isn't to be used any more.
+    pub(crate) fn take_bytes(&mut self, alloc: Global, bytes: &[u8]) -> Result<(), ServeFault>
+        requires sound { IsDurable S.Store self.old.session.store }
+        requires asked { self.old.end ≡ None }
+        ensures serves { OnOk result ((began : Began S) (told : List Told) (seen : List ℕ) → HasServed S.Store began told seen self.old
+            → ServesBytes S.Store began told seen bytes.now self.new) }
+        ensures stays_in_epoch { OnOk result (StaysInEpoch S.Store self.old.session self.new.session) }
+        ensures clean { Clean S.Store self.new.session.store.journal → Clean S.Store self.old.session.store.journal }
+        ensures crash { LeavesMore S.Store self.old.session.store self.new.session.store }
+    {
+        for b in bytes {
+            self.take_byte(alloc, *b)?;
+            if self.end.is_some() {
+                return Ok(());
+            }
+        }
+        Ok(())
+    }
+
+    /// Takes a byte of a line, or does the line that it ends.
+    ///
+    /// # Errors
+    ///
+    /// As `take_bytes`.
+    fn take_byte(&mut self, alloc: Global, b: u8) -> Result<(), ServeFault>
+        requires { IsDurable S.Store self.old.session.store }
+        ensures takes { OnOk result (TakesByte S.Store self.old b self.new) }
+        ensures clean { Clean S.Store self.new.session.store.journal → Clean S.Store self.old.session.store.journal }
+        ensures crash { LeavesMore S.Store self.old.session.store self.new.session.store }
+    {
+        if b == b'\n' {
+            return self.do_line(alloc);
+        }
+        if self.line.len() < MOST_KEPT {
+            self.line.push(b)?;
+        }
+        Ok(())
+    }
+
+    /// Does the line that is whole now.
+    ///
+    /// # Errors
+    ///
+    /// As `take_bytes`.
+    fn do_line(&mut self, alloc: Global) -> Result<(), ServeFault>
+        requires { IsDurable S.Store self.old.session.store }
+        ensures does { OnOk result (DoesLine S.Store self.old self.new) }
+        ensures clean { Clean S.Store self.new.session.store.journal → Clean S.Store self.old.session.store.journal }
+        ensures crash { LeavesMore S.Store self.old.session.store self.new.session.store }
+    {
+        let asked = read_line(alloc, &self.line)?;
+        self.line.clear();
+        if asks_end(asked.request) {
+            self.end = Some(asked);
+            return Ok(());
+        }
+        let answer = self.session.answer(alloc, asked.request)?;
+        self.answers.push(Answered {
+            tag: asked.tag,
+            answer,
+        })?;
+        Ok(())
+    }
+
+    /// Makes durable all that was written, where a commit is among the answers.
+    ///
+    /// # Errors
+    ///
+    /// As `Session::settle`.
+    pub(crate) fn settle_commits(&mut self) -> Result<(), JournalError>
+        requires { IsDurable S.Store self.old.session.store }
+        ensures others { self.new ≡ record self.old { session = self.new.session } }
+        ensures stays_in_epoch { OnOk result (StaysInEpoch S.Store self.old.session self.new.session) }
+        ensures lets_go { OnOk result (LetsGo self.old.session.store.store self.new.session.store.store) }
+        ensures settled { OnOk result (has_commit self.old.answers.items ≡ true → Clean S.Store self.new.session.store.journal
+            → durable S.Store self.new.session.store.journal ≡ written S.Store self.new.session.store.journal) }
+        ensures shows { OnOk result (has_commit self.old.answers.items ≡ true → ShowsCommit S.Store self.new.session.store.journal) }
+        ensures same { OnOk result (Clean S.Store self.new.session.store.journal → written S.Store self.new.session.store.journal ≡ written S.Store self.old.session.store.journal) }
+        ensures clean { Clean S.Store self.new.session.store.journal → Clean S.Store self.old.session.store.journal }
+        ensures crash { LeavesMore S.Store self.old.session.store self.new.session.store }
+    {
+        if has_commit(&self.answers) {
+            self.session.settle()?;
+        }
+        Ok(())
+    }
+
+    /// Begins another epoch where this one is over. More may come.
+    ///
+    /// # Errors
+    ///
+    /// As `end_epoch`.
+    fn next_epoch<C: Clock, A: Archive>(
+        self,
+        clock: &C,
+        alloc: Global,
+        drain: Duration,
+        archive: &mut A,
+    ) -> (Server<S>, Result<bool, ServeFault>)
+        requires sound { IsDurable S.Store self.session.store }
+        requires asked { self.end ≡ None }
+        ensures serves { OnOk result.1 ((began : Began S) (given taken given_now taken_now : Option (List ℕ)) → TellsSafely S.Store began given taken self given_now taken_now
+            → TellsSafely S.Store began given taken result.0 given_now taken_now) }
+        ensures more { IfOk result.1 (λ more. more ≡ true) }
+        ensures asked { result.0.end ≡ None }
+        ensures told { result.0.answers ≡ self.answers }
+        ensures writes { OnOk result.1 (WritesEpochs S.Store self.session.store result.0.session.store (A.kept archive.old) (A.kept archive.new)) }
+        ensures sound { OnOk result.1 (IsDurable S.Store result.0.session.store) }
+        ensures clean { Clean S.Store result.0.session.store.journal → Clean S.Store self.session.store.journal }
+        ensures crash { LeavesEpochs S.Store self.session.store result.0.session.store (A.kept archive.old) (A.kept archive.new) }
+    {
+        let mut server = self;
+        if !server.is_over(clock, drain) {
+            return (server, Ok(true));
+        }
+        let Server {
+            session,
+            line,
+            answers,
+            end,
+            full_since: _,
+        } = server;
+        let (session, begun) = session.begin_epoch(alloc, archive);
+        let next = Server {
+            session,
+            line,
+            answers,
+            end,
+            full_since: None,
+        };
+        match begun {
+            Ok(()) => (next, Ok(true)),
+            Err(fault) => (next, Err(fault)),
+        }
+    }
+
+    /// Whether the epoch is over: it is full, and nothing is open or the open ones had their time.
+    fn is_over<C: Clock>(&mut self, clock: &C, drain: Duration) -> bool
+        ensures full { result ≡ true → is_epoch_full self.old.session.most_events self.old.session.store.store ≡ true }
+        ensures others { self.new ≡ record self.old { full_since = self.new.full_since } }
+    {
+        let store = self.session.store.store();
+        if !is_full(store, self.session.most_events) {
+            return false;
+        }
+        if store.open_count() == 0 {
+            return true;
+        }
+        match self.full_since {
+            None => {
+                self.full_since = Instant::now(clock).ok();
+                false
+            }
+            Some(since) => has_passed(clock, since, drain),
+        }
+    }
+}
+
+/// Whether a line asks for the end.
+fn asks_end(asked: Result<Request, RequestFault>) -> bool
+    ensures { result ≡ is_end asked }
+{
+    matches!(asked, Ok(Request::End))
+}
+
+/// Whether a commit that was done is among these answers.
+fn has_commit(answers: &[Answered]) -> bool
+    ensures { result ≡ has_commit answers.now }
+{
+    answers.iter().any(|a| is_commit(&a.answer))
+}
+
+/// Whether it is the answer to a commit that was done.
+fn is_commit(answer: &AnswerLine) -> bool
+    ensures { result ≡ is_commit answer.now }
+{
+    matches!(answer, AnswerLine::Committed)
+}
+
+/// Whether this long has passed since then, by a clock; one that fails doesn't hold up what waits.
+fn has_passed<C: Clock>(clock: &C, since: Instant, time: Duration) -> bool {
+    match since.elapsed(clock) {
+        Ok(passed) => time <= passed,
+        Err(_) => true,
+    }
 }

@@ -1,5 +1,32 @@
+//! A durable store that one client asks: what each request does, and what it is answered.
+
+ghost use Rattle.std.specs.Prelude.{◌≡◌, IfOk, OnOk, MatchResult, ◌<◌, None, Option};
+ghost use Rattle.journal.specs.Journal.{Clean, written, ShowsCommit, durable};
+ghost use Rattle.durable_store.specs.Durable.{IsDurable};
+ghost use Rattle.serving.specs.Follows.{LeavesMore};
+ghost use Rattle.serving.specs.Requests.{LetsGo, TellsEvents, TellsObjects, TellsTypes, events_from, DoesRequest};
+ghost use Rattle.serving.specs.Server.{StaysInEpoch, life_of};
+ghost use Rattle.serving.specs.Does.{DoesAbort, DoesBegin, DoesCall, DoesCommit, DoesRollback, done_or, is_epoch_full, DoesKept, DoesStats, DoesWould, call_answer, op_of_object, reply_of};
+ghost use Rattle.serving.specs.EpochEnd.{EndsEpoch};
+ghost use Rattle.serving.specs.Epochs.{LeavesEpochs, WritesEpochs};
+
+use crate::answer_line::AnswerLine;
+use crate::archive::Archive;
+use crate::epoch::end_epoch;
+use crate::serve_fault::ServeFault;
 use durable_store::Durable;
+use journal::JournalError;
+use object_calls::Answer;
+use objects::Object;
+use request_text::{Request, RequestFault, TransactionName};
+use serial_order::Refusal;
 use sqlite_trees::store::Alter;
+use std::alloc::Global;
+use store::Store;
+use type_table::{Name, Op, Operation};
+
+/// The most events of one answer.
+const MOST_TOLD: u32 = 65_536;
 
 /// A durable store that one client asks, the number of its life, with which it names its transactions, and with how many
 /// events an epoch is full.
@@ -7,4 +34,363 @@ pub struct Session<S: Alter> {
     pub store: Durable<S>,
     pub life: u32,
     pub most_events: u32,
+}
+
+impl<S: Alter> Session<S> {
+    /// Does what a line asks, or answers its fault.
+    ///
+    /// # Errors
+    ///
+    /// As `ask`.
+    pub(crate) fn answer(
+        &mut self,
+        alloc: Global,
+        asked: Result<Request, RequestFault>,
+    ) -> Result<AnswerLine, JournalError>
+        requires { IsDurable S.Store self.old.store }
+        ensures does { IfOk result (λ a. Clean S.Store self.new.store.journal
+            → MatchResult asked (λ request. DoesRequest self.old.most_events self.old.life (written S.Store self.old.store.journal) self.old.store.store request a self.new.store.store)
+            (λ fault. (a ≡ AnswerLine.Fault fault) × (self.new.store.store ≡ self.old.store.store))) }
+        ensures stays_in_epoch { OnOk result (StaysInEpoch S.Store self.old self.new) }
+        ensures clean { Clean S.Store self.new.store.journal → Clean S.Store self.old.store.journal }
+        ensures crash { LeavesMore S.Store self.old.store self.new.store }
+    {
+        match asked {
+            Ok(request) => self.ask(alloc, request),
+            Err(fault) => Ok(AnswerLine::Fault { fault }),
+        }
+    }
+
+    /// Does a request. That a commit is done is to be answered only once it is settled; that the end was asked for
+    /// changes nothing here.
+    ///
+    /// # Errors
+    ///
+    /// The file failed, or memory was refused for it: the session isn't to be asked any more.
+    pub fn ask(&mut self, alloc: Global, request: Request) -> Result<AnswerLine, JournalError>
+        requires { IsDurable S.Store self.old.store }
+        ensures does { IfOk result (λ a. Clean S.Store self.new.store.journal
+            → DoesRequest self.old.most_events self.old.life (written S.Store self.old.store.journal) self.old.store.store request a self.new.store.store) }
+        ensures stays_in_epoch { OnOk result (StaysInEpoch S.Store self.old self.new) }
+        ensures clean { Clean S.Store self.new.store.journal → Clean S.Store self.old.store.journal }
+        ensures crash { LeavesMore S.Store self.old.store self.new.store }
+    {
+        match request {
+            Request::Begin => self.begin(),
+            Request::Call { t, x, call } => self.call(t, x, call),
+            Request::Commit { t } => self.commit(t),
+            Request::Abort { t } => self.abort(t),
+            Request::Rollback { t, count } => self.rollback(t, count),
+            Request::Objects => self.objects(alloc),
+            Request::Types => self.types(alloc),
+            Request::Events { from, count } => self.events(alloc, from, count),
+            Request::Would { t, x, call } => Ok(self.would(t, x, call)),
+            Request::Kept { x } => Ok(self.kept(x)),
+            Request::Stats => Ok(self.counts()),
+            Request::End => Ok(AnswerLine::Done),
+        }
+    }
+
+    /// Begins a transaction, but for an epoch that is full.
+    pub(crate) fn begin(&mut self) -> Result<AnswerLine, JournalError>
+        requires { IsDurable S.Store self.old.store }
+        ensures does { IfOk result (λ a. DoesBegin self.old.most_events self.old.life self.old.store.store a self.new.store.store) }
+        ensures stays_in_epoch { OnOk result (StaysInEpoch S.Store self.old self.new) }
+        ensures clean { Clean S.Store self.new.store.journal → Clean S.Store self.old.store.journal }
+        ensures crash { LeavesMore S.Store self.old.store self.new.store }
+    {
+        if is_full(self.store.store(), self.most_events) {
+            return Ok(AnswerLine::Draining);
+        }
+        match self.store.begin()? {
+            Ok(number) => {
+                let t = TransactionName {
+                    life: self.life,
+                    number,
+                };
+                Ok(AnswerLine::Begun { t })
+            }
+            Err(refusal) => Ok(AnswerLine::Refused { refusal }),
+        }
+    }
+
+    /// Makes a call of a transaction.
+    pub(crate) fn call(
+        &mut self,
+        t: TransactionName,
+        x: u32,
+        name: Name,
+    ) -> Result<AnswerLine, JournalError>
+        requires { IsDurable S.Store self.old.store }
+        ensures does { IfOk result (λ a. DoesCall self.old.life self.old.store.store t x name a self.new.store.store) }
+        ensures stays_in_epoch { OnOk result (StaysInEpoch S.Store self.old self.new) }
+        ensures clean { Clean S.Store self.new.store.journal → Clean S.Store self.old.store.journal }
+        ensures crash { LeavesMore S.Store self.old.store self.new.store }
+    {
+        if t.life != self.life {
+            return Ok(not_open());
+        }
+        let answer = self.store.call(t.number, x, name.as_bytes())?;
+        Ok(call_answer(self.store.store(), self.life, x, &answer))
+    }
+
+    /// Commits a transaction. It is answered only once it is settled.
+    pub(crate) fn commit(&mut self, t: TransactionName) -> Result<AnswerLine, JournalError>
+        requires { IsDurable S.Store self.old.store }
+        ensures does { IfOk result (λ a. DoesCommit self.old.life self.old.store.store t a self.new.store.store) }
+        ensures stays_in_epoch { OnOk result (StaysInEpoch S.Store self.old self.new) }
+        ensures clean { Clean S.Store self.new.store.journal → Clean S.Store self.old.store.journal }
+        ensures crash { LeavesMore S.Store self.old.store self.new.store }
+    {
+        if t.life != self.life {
+            return Ok(not_open());
+        }
+        let ended = self.store.commit(t.number)?;
+        Ok(done_or(AnswerLine::Committed, ended))
+    }
+
+    /// Aborts a transaction.
+    pub(crate) fn abort(&mut self, t: TransactionName) -> Result<AnswerLine, JournalError>
+        requires { IsDurable S.Store self.old.store }
+        ensures does { IfOk result (λ a. DoesAbort self.old.life self.old.store.store t a self.new.store.store) }
+        ensures stays_in_epoch { OnOk result (StaysInEpoch S.Store self.old self.new) }
+        ensures clean { Clean S.Store self.new.store.journal → Clean S.Store self.old.store.journal }
+        ensures crash { LeavesMore S.Store self.old.store self.new.store }
+    {
+        if t.life != self.life {
+            return Ok(not_open());
+        }
+        let ended = self.store.abort(t.number)?;
+        Ok(done_or(AnswerLine::Done, ended))
+    }
+
+    /// Takes back the last operations of a transaction.
+    pub(crate) fn rollback(
+        &mut self,
+        t: TransactionName,
+        count: u32,
+    ) -> Result<AnswerLine, JournalError>
+        requires { IsDurable S.Store self.old.store }
+        ensures does { IfOk result (λ a. DoesRollback self.old.life self.old.store.store t count a self.new.store.store) }
+        ensures stays_in_epoch { OnOk result (StaysInEpoch S.Store self.old self.new) }
+        ensures clean { Clean S.Store self.new.store.journal → Clean S.Store self.old.store.journal }
+        ensures crash { LeavesMore S.Store self.old.store self.new.store }
+    {
+        if t.life != self.life {
+            return Ok(not_open());
+        }
+        let struck = self.store.rollback(t.number, count)?;
+        Ok(done_or(AnswerLine::Done, struck))
+    }
+
+    /// What a call would be answered now.
+    pub(crate) fn would(&self, t: TransactionName, x: u32, name: Name) -> AnswerLine
+        ensures { DoesWould self.now.life self.now.store.store t x name result self.now.store.store }
+    {
+        if t.life != self.life {
+            return not_open();
+        }
+        let store = self.store.store();
+        let answer = store.would_bytes(t.number, x, name.as_bytes());
+        call_answer(store, self.life, x, &answer)
+    }
+
+    /// The kept state of the object at x.
+    pub(crate) fn kept(&self, x: u32) -> AnswerLine
+        ensures { DoesKept self.now.store.store x result self.now.store.store }
+    {
+        match self.store.store().kept(x) {
+            Some(state) => AnswerLine::State { state },
+            None => AnswerLine::Refused {
+                refusal: Refusal::NoObject,
+            },
+        }
+    }
+
+    /// How many events and transactions there are.
+    pub(crate) fn counts(&self) -> AnswerLine
+        ensures { DoesStats self.now.store.store result self.now.store.store }
+    {
+        let store = self.store.store();
+        AnswerLine::Counts {
+            events: store.event_count(),
+            begun: store.begun(),
+            open: store.open_count(),
+        }
+    }
+
+    /// The objects. What was written becomes durable before.
+    ///
+    /// # Errors
+    ///
+    /// As `ask`.
+    pub(crate) fn objects(&mut self, alloc: Global) -> Result<AnswerLine, JournalError>
+        requires { IsDurable S.Store self.old.store }
+        ensures tells { IfOk result (λ a. Clean S.Store self.new.store.journal → TellsObjects a (written S.Store self.old.store.journal).objects) }
+        ensures lets_go { OnOk result (LetsGo self.old.store.store self.new.store.store) }
+        ensures stays_in_epoch { OnOk result (StaysInEpoch S.Store self.old self.new) }
+        ensures clean { Clean S.Store self.new.store.journal → Clean S.Store self.old.store.journal }
+        ensures crash { LeavesMore S.Store self.old.store self.new.store }
+    {
+        self.settle()?;
+        let objects = self.store.objects(alloc)?;
+        Ok(AnswerLine::Objects { objects })
+    }
+
+    /// The texts of the types. What was written becomes durable before.
+    ///
+    /// # Errors
+    ///
+    /// As `ask`.
+    pub(crate) fn types(&mut self, alloc: Global) -> Result<AnswerLine, JournalError>
+        requires { IsDurable S.Store self.old.store }
+        ensures tells { IfOk result (λ a. Clean S.Store self.new.store.journal → TellsTypes a (written S.Store self.old.store.journal).types) }
+        ensures lets_go { OnOk result (LetsGo self.old.store.store self.new.store.store) }
+        ensures stays_in_epoch { OnOk result (StaysInEpoch S.Store self.old self.new) }
+        ensures clean { Clean S.Store self.new.store.journal → Clean S.Store self.old.store.journal }
+        ensures crash { LeavesMore S.Store self.old.store self.new.store }
+    {
+        self.settle()?;
+        let texts = self.store.types(alloc)?;
+        Ok(AnswerLine::Types { texts })
+    }
+
+    /// This many events from a position on, and at most 65,536. What was written becomes durable before.
+    ///
+    /// # Errors
+    ///
+    /// As `ask`.
+    pub(crate) fn events(
+        &mut self,
+        alloc: Global,
+        from: u32,
+        count: u32,
+    ) -> Result<AnswerLine, JournalError>
+        requires { IsDurable S.Store self.old.store }
+        ensures tells { IfOk result (λ a. Clean S.Store self.new.store.journal → TellsEvents a (events_from self.old.store.store from count)) }
+        ensures lets_go { OnOk result (LetsGo self.old.store.store self.new.store.store) }
+        ensures stays_in_epoch { OnOk result (StaysInEpoch S.Store self.old self.new) }
+        ensures clean { Clean S.Store self.new.store.journal → Clean S.Store self.old.store.journal }
+        ensures crash { LeavesMore S.Store self.old.store self.new.store }
+    {
+        self.settle()?;
+        let most = count.min(MOST_TOLD) as usize;
+        let events = self.store.events(alloc, u64::from(from), most)?;
+        Ok(AnswerLine::Events { events })
+    }
+
+    /// Makes durable all that was written.
+    ///
+    /// # Errors
+    ///
+    /// The file failed, or memory was refused for it: the session isn't to be asked any more.
+    pub(crate) fn settle(&mut self) -> Result<(), JournalError>
+        requires { IsDurable S.Store self.old.store }
+        ensures stays_in_epoch { OnOk result (StaysInEpoch S.Store self.old self.new) }
+        ensures lets_go { OnOk result (LetsGo self.old.store.store self.new.store.store) }
+        ensures settled { OnOk result (Clean S.Store self.new.store.journal → durable S.Store self.new.store.journal ≡ written S.Store self.new.store.journal) }
+        ensures shows { OnOk result (ShowsCommit S.Store self.new.store.journal) }
+        ensures same { OnOk result (Clean S.Store self.new.store.journal → written S.Store self.new.store.journal ≡ written S.Store self.old.store.journal) }
+        ensures clean { Clean S.Store self.new.store.journal → Clean S.Store self.old.store.journal }
+        ensures crash { LeavesMore S.Store self.old.store self.new.store }
+    {
+        self.store.settle()
+    }
+
+    /// Aborts what is open, gives the history of the epoch to the archive, and begins another epoch, all of it durable.
+    ///
+    /// # Errors
+    ///
+    /// As `end_epoch`.
+    pub(crate) fn begin_epoch<A: Archive>(
+        self,
+        alloc: Global,
+        archive: &mut A,
+    ) -> (Session<S>, Result<(), ServeFault>)
+        requires { IsDurable S.Store self.store }
+        ensures sound { OnOk result.1 (IsDurable S.Store result.0.store) }
+        ensures ends { OnOk result.1 (EndsEpoch S.Store self.store result.0.store) }
+        ensures writes { OnOk result.1 (WritesEpochs S.Store self.store result.0.store (A.kept archive.old) (A.kept archive.new)) }
+        ensures named { result.0.life ≡ life_of result.0.store }
+        ensures most { result.0.most_events ≡ self.most_events }
+        ensures clean { Clean S.Store result.0.store.journal → Clean S.Store self.store.journal }
+        ensures crash { LeavesEpochs S.Store self.store result.0.store (A.kept archive.old) (A.kept archive.new) }
+    {
+        let Session {
+            store,
+            life: _,
+            most_events,
+        } = self;
+        let (store, ended) = end_epoch(alloc, store, archive);
+        let life = store.life();
+        let session = Session {
+            store,
+            life,
+            most_events,
+        };
+        (session, ended)
+    }
+}
+
+/// That a transaction isn't open.
+pub(crate) fn not_open() -> AnswerLine
+    ensures { result ≡ AnswerLine.Refused Refusal.NotOpen }
+{
+    AnswerLine::Refused {
+        refusal: Refusal::NotOpen,
+    }
+}
+
+/// Whether an epoch is full with as many events as this one has.
+pub(crate) fn is_full(store: &Store<Object>, most_events: u32) -> bool
+    ensures { result ≡ is_epoch_full most_events store.now }
+{
+    most_events <= store.event_count()
+}
+
+/// What is answered where a request is done, or refused.
+fn done_or(done: AnswerLine, answer: Result<(), Refusal>) -> AnswerLine
+    ensures { result ≡ done_or done answer }
+{
+    match answer {
+        Ok(()) => done,
+        Err(refusal) => AnswerLine::Refused { refusal },
+    }
+}
+
+/// What a call at x is answered.
+pub(crate) fn call_answer(
+    store: &Store<Object>,
+    life: u32,
+    x: u32,
+    answer: &Result<Answer, Refusal>,
+) -> AnswerLine
+    ensures { result ≡ call_answer store.now life x answer.now }
+{
+    match *answer {
+        Ok(Answer::Reply(k)) => reply_at(store, x, k),
+        Ok(Answer::Busy(number)) => AnswerLine::Busy {
+            blocker: TransactionName { life, number },
+        },
+        Ok(Answer::None) => AnswerLine::Nothing,
+        Err(refusal) => AnswerLine::Refused { refusal },
+    }
+}
+
+/// The reply of operation k of the object at x.
+fn reply_at(store: &Store<Object>, x: u32, k: Operation) -> AnswerLine
+    ensures { result ≡ reply_of (op_of_object store.now x k) }
+{
+    match op_at(store, x, k) {
+        Some(op) => AnswerLine::Reply { reply: op.reply },
+        None => AnswerLine::Nothing,
+    }
+}
+
+/// Operation k of the object at x, where its type has it.
+fn op_at(store: &Store<Object>, x: u32, k: Operation) -> Option<Op>
+    ensures { result ≡ op_of_object store.now x k }
+{
+    let checked = store.checked(x)?;
+    checked.op(k)
 }

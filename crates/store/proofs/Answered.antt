@@ -15,7 +15,7 @@ use Rattle.object_trait.specs.declared.event.EventKind.{EventKind}
 use Rattle.serial_order.specs.History.{summary, is_open}
 use Rattle.serial_order.specs.Machine.{IsFirstOfCall, MayFollow}
 use Rattle.serial_order.specs.Answer.{event_of_call}
-use Rattle.serial_order.specs.Replay.{open_count, is_full, call_event}
+use Rattle.serial_order.specs.Replay.{open_count, is_history_full, call_event}
 use Rattle.serial_order.specs.After.{LogsAreCounted}
 use Rattle.serial_order.specs.Laws.{FirstOpIsLeast, AnswerMayFollow, MachineMayApply}
 use Rattle.serial_order.specs.declared.refusal.Refusal.TheVariants.{HistoryFull, NoMemory}
@@ -32,11 +32,11 @@ use Rattle.store_laws.specs.Kept.{keeping, objects_of, IsKept}
 use Rattle.store_laws.specs.Moves.{Moves, StaysKept}
 use Rattle.store_laws.specs.Before.{RowsSayWhoIsOpen, RowsAreCounted}
 use Rattle.store_laws.specs.Words.{as_event, AnswersAsDefined}
-use Rattle.store_laws.specs.Events.{takes, QuietMoves, OpMoves, TypesStay, RoomAfter}
+use Rattle.store_laws.specs.Events.{room_taken, QuietMoves, OpMoves, TypesStay, RoomAfter}
 use Rattle.store_laws.proofs.Objects.{object-at}
-use Rattle.store.specs.Calls.{Comes}
-use Rattle.store.specs.Executed.{IsExecuted, IsDone}
-use Rattle.store.specs.Whole.{IsWhole}
+use Rattle.store.specs.Calls.{AnswersCall}
+use Rattle.store.specs.Executed.{IsExecuted, ExecutesAnswer}
+use Rattle.store.specs.Whole.{IsWholeStore}
 use Rattle.store.proofs.Pasts.{past-test}
 use Rattle.store.proofs.Stored.{stored, shown, event-whole}
 use Rattle.store.proofs.Begins.{full-then, full-else}
@@ -121,7 +121,7 @@ called-of meaning objects rows H max forgotten s t x call o same kept going know
 
 -- whose transaction has a row
 pub still-open : RowsSayWhoIsOpen → (ms : List Meaning) (rows : List (Option Row)) (H : List Event) (max forgotten : ℕ) (s : Stored) (t : ℕ)
-    → shown (keeping ms rows) H max forgotten ≡ s → IsKept (keeping ms rows) H → is_open (summary s.history) t ≡ true → table.is_open rows t ≡ true
+    → shown (keeping ms rows) H max forgotten ≡ s → IsKept (keeping ms rows) H → is_open (summary s.history) t ≡ true → table.has_row rows t ≡ true
 still-open says ms rows H max forgotten s t same kept going =
     sym (open-alike says ms rows H t kept) ∙ subst (λ (z : Stored). is_open (summary z.history) t ≡ true) (sym same) going
 
@@ -134,18 +134,18 @@ call-least least o call is = least o (call_of o.table call.first) call.first is.
 -- what the test of room said
 pub room-tested : RowsAreCounted → (ms : List Meaning) (rows : List (Option Row)) (past Hm K : List Event) (forgotten opened max : ℕ) (has said : Bool)
     → IsKept (keeping ms rows) (past ++ Hm) → opened ≡ count_open rows → forgotten ≡ length past → K ≡ Hm → has ≡ nat_le (forgotten + length K + opened + 1) max → has ≡ said
-    → is_full max (past ++ Hm) 1 ≡ not said
+    → is_history_full max (past ++ Hm) 1 ≡ not said
 room-tested counted ms rows past Hm K forgotten opened max has said kept exact many same test says =
     let H = past ++ Hm in
     let counts : opened ≡ open_count (summary H) = exact ∙ sym (counted (keeping ms rows) H kept) in
     let told : nat_le (length H + opened + 1) max ≡ said = past-test past K Hm forgotten opened 1 max has said many test same says in
-    elim said as (λ b. nat_le (length H + opened + 1) max ≡ b → is_full max H 1 ≡ not b) [
+    elim said as (λ b. nat_le (length H + opened + 1) max ≡ b → is_history_full max H 1 ≡ not b) [
       | true ↦ full-else H opened 1 max counts
       | false ↦ full-then H opened 1 max counts
     ] told
 
 -- where it isn't full there is room
-pub room-left : (H : List Event) (max : ℕ) → is_full max H 1 ≡ false → length H + open_count (summary H) + 1 ≤ max
+pub room-left : (H : List Event) (max : ℕ) → is_history_full max H 1 ≡ false → length H + open_count (summary H) + 1 ≤ max
 room-left H max room = grind (arith, nat_tests, room)
 
 -- ---- its answer
@@ -178,7 +178,7 @@ module _ {ms : List Meaning} {rows : List (Option Row)} {H : List Event} {t x : 
       (follow (objects_of ms) H x (object m) w t call.first (object-at ms x m given.there) given.going (call-least least (object m) call given.is_call))
 
   -- so that a reply may be executed
-  pub reply-may : FirstOpIsLeast → AnswerMayFollow → MachineMayApply → LogsAreCounted → (k max : ℕ) → a ≡ answer.Reply k → is_full max H 1 ≡ false → max ≤ 4294967295
+  pub reply-may : FirstOpIsLeast → AnswerMayFollow → MachineMayApply → LogsAreCounted → (k max : ℕ) → a ≡ answer.Reply k → is_history_full max H 1 ≡ false → max ≤ 4294967295
       → MayApply m t k
   reply-may least follow machine counted k max replies room fits =
       let represents = (given.kept.objects x m given.there).represents in
@@ -191,7 +191,7 @@ module _ {ms : List Meaning} {rows : List (Option Row)} {H : List Event} {t x : 
 -- ---- what it changes
 
 -- it takes room for one event
-answer-takes : (t x c : ℕ) (a : Answer) → takes (as_event t x c a) ≡ 1
+answer-takes : (t x c : ℕ) (a : Answer) → room_taken (as_event t x c a) ≡ 1
 answer-takes t x c (answer.Reply k) = refl
 answer-takes t x c (answer.Busy u) = refl
 answer-takes t x c answer.None = refl
@@ -206,7 +206,7 @@ answer-last H K after w t x y c a happened appends same is here =
 
 -- which is what its event does
 answer-moved : QuietMoves → OpMoves → (ms now : List Meaning) (rows left : List (Option Row)) (H : List Event) (w t x c : ℕ) (a : Answer)
-    → IsKept (keeping ms rows) H → table.is_open rows t ≡ true → IsDone a t x ms now rows left
+    → IsKept (keeping ms rows) H → table.has_row rows t ≡ true → ExecutesAnswer a t x ms now rows left
     → Moves (keeping ms rows) (keeping now left) H (record { worker = w; kind = as_event t x c a })
 answer-moved quiet op ms now rows left H w t x c (answer.Reply k) kept going done =
     let found = some-of (row rows t) going in
@@ -218,12 +218,12 @@ answer-moved quiet op ms now rows left H w t x c answer.None kept going done =
     (quiet (keeping ms rows) (keeping now left) H w t x (place_of c) kept done.0 done.1).1
 
 module _ (quiet : QuietMoves) (op : OpMoves) (types : TypesStay) (ms now : List Meaning) (rows left : List (Option Row)) (H after : List Event)
-    (w t x c : ℕ) (a : Answer) (kept : IsKept (keeping ms rows) H) (going : table.is_open rows t ≡ true) (done : IsDone a t x ms now rows left)
+    (w t x c : ℕ) (a : Answer) (kept : IsKept (keeping ms rows) H) (going : table.has_row rows t ≡ true) (done : ExecutesAnswer a t x ms now rows left)
     (appended : after ≡ H ++ (record { worker = w; kind = as_event t x c a }) ∷ []) where
   -- what is kept
-  pub answer-whole : StaysKept → RoomAfter → RowsAreCounted → (calls : List (List NamedCall)) (room more max opened : ℕ) → IsWhole ms calls rows H room max
+  pub answer-whole : StaysKept → RoomAfter → RowsAreCounted → (calls : List (List NamedCall)) (room more max opened : ℕ) → IsWholeStore ms calls rows H room max
       → MayFollow (objects_of ms) H (record { worker = w; kind = as_event t x c a }) → opened ≡ count_open rows → max ≤ 4294967295
-      → length H + opened + 1 ≤ more → is_full max H 1 ≡ false → IsWhole now calls left after more max
+      → length H + opened + 1 ≤ more → is_history_full max H 1 ≡ false → IsWholeStore now calls left after more max
   answer-whole stays room_after counted calls room more max opened whole may exact fits reserved free =
       let takes_one = answer-takes t x c a in
       let counts : open_count (summary H) ≡ count_open rows = counted (keeping ms rows) H kept in
@@ -233,13 +233,13 @@ module _ (quiet : QuietMoves) (op : OpMoves) (types : TypesStay) (ms now : List 
       (omega (arith, reserved, counts, exact, takes_one)) (omega (arith, limited, takes_one))
 
   -- what comes of it
-  pub answer-comes : (max forgotten : ℕ) (s : Stored) → shown (keeping ms rows) H max forgotten ≡ s → is_full max H 1 ≡ false
-      → call_event (slice_get (objects_of ms) x) (summary H) x t (Some c) ≡ Some (as_event t x c a) → Comes s w t x c (Ok a) (shown (keeping now left) after max forgotten)
+  pub answer-comes : (max forgotten : ℕ) (s : Stored) → shown (keeping ms rows) H max forgotten ≡ s → is_history_full max H 1 ≡ false
+      → call_event (slice_get (objects_of ms) x) (summary H) x t (Some c) ≡ Some (as_event t x c a) → AnswersCall s w t x c (Ok a) (shown (keeping now left) after max forgotten)
   answer-comes max forgotten s same room defined =
       let same_types : types_of now ≡ types_of ms =
       types (keeping ms rows) (keeping now left) H (record { worker = w; kind = as_event t x c a })
       (answer-moved quiet op ms now rows left H w t x c a kept going done) in
-      subst (λ (z : Stored). Comes z w t x c (Ok a) (shown (keeping now left) after max forgotten)) same
+      subst (λ (z : Stored). AnswersCall z w t x c (Ok a) (shown (keeping now left) after max forgotten)) same
       (room, defined, ap (λ ts. stored ts after max forgotten) same_types ∙ ap (λ K. stored (types_of ms) K max forgotten) appended)
 
 -- ---- where nothing comes of it
@@ -247,13 +247,13 @@ module _ (quiet : QuietMoves) (op : OpMoves) (types : TypesStay) (ms now : List 
 module _ (ms : List Meaning) (rows : List (Option Row)) (H : List Event) (max forgotten : ℕ) (s : Stored) (w t x c : ℕ)
     (same : shown (keeping ms rows) H max forgotten ≡ s) where
   -- there is no room for the event
-  pub full-comes : is_full max H 1 ≡ true → Comes s w t x c (Err HistoryFull) s
-  full-comes full = (refl, inl (subst (λ (z : Stored). is_full z.max z.history 1 ≡ true) same full, refl))
+  pub full-comes : is_history_full max H 1 ≡ true → AnswersCall s w t x c (Err HistoryFull) s
+  full-comes full = (refl, inl (subst (λ (z : Stored). is_history_full z.max z.history 1 ≡ true) same full, refl))
 
   -- memory was refused
-  pub memory_refused-comes : (now : List Meaning) (left : List (Option Row)) (after : List Event) → now ≡ ms → after ≡ H → is_full max H 1 ≡ false
-      → Comes s w t x c (Err NoMemory) (shown (keeping now left) after max forgotten)
+  pub memory_refused-comes : (now : List Meaning) (left : List (Option Row)) (after : List Event) → now ≡ ms → after ≡ H → is_history_full max H 1 ≡ false
+      → AnswersCall s w t x c (Err NoMemory) (shown (keeping now left) after max forgotten)
   memory_refused-comes now left after unchanged stays room = (
     ap (λ ns. stored (types_of ns) after max forgotten) unchanged ∙ ap (λ K. stored (types_of ms) K max forgotten) stays ∙ same,
-    inr (subst (λ (z : Stored). is_full z.max z.history 1 ≡ false) same room, refl),
+    inr (subst (λ (z : Stored). is_history_full z.max z.history 1 ≡ false) same room, refl),
   )

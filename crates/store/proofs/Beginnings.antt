@@ -15,7 +15,7 @@ use Rattle.store_laws.specs.Stored.{types_of}
 use Rattle.store_laws.specs.Kept.{keeping, IsKept}
 use Rattle.store_laws.specs.Before.{NewIsKept}
 use Rattle.store.specs.Ends.{MayBegin}
-use Rattle.store.specs.Whole.{HasCalls, IsWhole}
+use Rattle.store.specs.Whole.{HasCalls, IsWholeStore}
 
 -- ---- elements by their places
 
@@ -85,7 +85,7 @@ module _ (ms : List Meaning) (calls : List (List NamedCall)) (capacity i : ℕ) 
 -- it is whole, with the empty history
 pub new-whole : NewIsKept → (ms : List Meaning) (calls : List (List NamedCall)) (rows : List (Option Row)) (H : List Event) (capacity max : ℕ)
     → MayBegin ms max → AreChecked (types_of ms) → HasCalls (types_of ms) calls → rows ≡ [] → H ≡ []
-    → IsWhole ms calls rows H capacity max
+    → IsWholeStore ms calls rows H capacity max
 new-whole is_kept ms calls rows H capacity max may checked known none nothing =
     let kept : IsKept (keeping ms rows) [] =
     is_kept (keeping ms rows) (record {
@@ -94,7 +94,7 @@ new-whole is_kept ms calls rows H capacity max may checked known none nothing =
       rows = none;
     })
     in
-    subst (λ K. IsWhole ms calls rows K capacity max) (sym nothing)
+    subst (λ K. IsWholeStore ms calls rows K capacity max) (sym nothing)
     (record {
       store = record { kept = kept; reserved = omega arith; limited = omega arith };
       few = may.few;

@@ -6,7 +6,7 @@ use Rattle.object_trait.specs.Meaning.{Meaning}
 use Rattle.object_trait.specs.declared.event.Event.{Event}
 use Rattle.object_trait.specs.declared.event.EventKind.TheVariants.{Begin}
 use Rattle.serial_order.specs.History.{summary, begins}
-use Rattle.serial_order.specs.Replay.{open_count, refusal, is_full}
+use Rattle.serial_order.specs.Replay.{open_count, refusal, is_history_full}
 use Rattle.serial_order.specs.declared.command.Command.TheVariants as command
 use Rattle.serial_order.specs.declared.refusal.Refusal.TheVariants.{TooManyOpen, HistoryFull}
 use Rattle.open_transactions.specs.Transactions.{Row, count_open, begun_by}
@@ -16,23 +16,23 @@ use Rattle.store_laws.specs.Kept.{keeping, objects_of, IsKept}
 use Rattle.store_laws.specs.Moves.{Moves, StaysKept}
 use Rattle.store_laws.specs.Before.{RowsAreCounted}
 use Rattle.store_laws.specs.Events.{BeginMoves, TypesStay, RoomAfter}
-use Rattle.store.specs.Whole.{IsWhole}
+use Rattle.store.specs.Whole.{IsWholeStore}
 use Rattle.store.proofs.Stored.{shown, event-shown, event-whole}
 
 -- ---- whether it is refused
 
 -- a history is full exactly where there is no room
-pub full-test : (H : List Event) (opened further most : ℕ) → opened ≡ open_count (summary H) → is_full most H further ≡ nat_lt most (length H + opened + further)
+pub full-test : (H : List Event) (opened further most : ℕ) → opened ≡ open_count (summary H) → is_history_full most H further ≡ nat_lt most (length H + opened + further)
 full-test H opened further most same = rw same refl
 
 -- it is full where there is no room for `further` events
-pub full-then : (H : List Event) (opened further most : ℕ) → opened ≡ open_count (summary H) → nat_le (length H + opened + further) most ≡ false → is_full most H further ≡ true
+pub full-then : (H : List Event) (opened further most : ℕ) → opened ≡ open_count (summary H) → nat_le (length H + opened + further) most ≡ false → is_history_full most H further ≡ true
 full-then H opened further most same none =
     let full : nat_lt most (length H + opened + further) ≡ true = grind (arith, nat_tests, none) in
     full-test H opened further most same ∙ full
 
 -- and else it isn't
-pub full-else : (H : List Event) (opened further most : ℕ) → opened ≡ open_count (summary H) → nat_le (length H + opened + further) most ≡ true → is_full most H further ≡ false
+pub full-else : (H : List Event) (opened further most : ℕ) → opened ≡ open_count (summary H) → nat_le (length H + opened + further) most ≡ true → is_history_full most H further ≡ false
 full-else H opened further most same room =
     let full : nat_lt most (length H + opened + further) ≡ false = grind (arith, nat_tests, room) in
     full-test H opened further most same ∙ full
@@ -73,8 +73,8 @@ module _ (moves : BeginMoves) (ms : List Meaning) (rows now : List (Option Row))
   begin-moved = moves (keeping ms rows) (keeping ms now) H w t kept refl longer
 
   -- the store stays whole
-  pub begin-whole : StaysKept → RoomAfter → TypesStay → RowsAreCounted → (calls : List (List NamedCall)) (opened room more max : ℕ) → IsWhole ms calls rows H room max
-      → opened ≡ count_open rows → max ≤ 4294967295 → length H + opened + 2 ≤ more → length H + opened + 2 ≤ max → IsWhole ms calls now after more max
+  pub begin-whole : StaysKept → RoomAfter → TypesStay → RowsAreCounted → (calls : List (List NamedCall)) (opened room more max : ℕ) → IsWholeStore ms calls rows H room max
+      → opened ≡ count_open rows → max ≤ 4294967295 → length H + opened + 2 ≤ more → length H + opened + 2 ≤ max → IsWholeStore ms calls now after more max
   begin-whole stays room_after types counted calls opened room more max whole counts fits reserved limited =
       let same : opened ≡ open_count (summary H) = counts ∙ sym (counted (keeping ms rows) H kept) in
       event-whole stays room_after types ms ms calls rows now H after (record { worker = w; kind = Begin t }) room more max whole begin-number

@@ -20,8 +20,8 @@ use Rattle.store.proofs.Opens.{open-alike}
 
 module _ (ms : List Meaning) (rows : List (Option Row)) (H : List Event) (max forgotten : ℕ) (s : Stored) (same : shown (keeping ms rows) H max forgotten ≡ s) where
   -- whether a transaction is open
-  pub open-shown : RowsSayWhoIsOpen → (t : ℕ) → IsKept (keeping ms rows) H → is_open (summary s.history) t ≡ table.is_open rows t
-  open-shown says t kept = subst (λ (z : Stored). is_open (summary z.history) t ≡ table.is_open rows t) same (open-alike says ms rows H t kept)
+  pub open-shown : RowsSayWhoIsOpen → (t : ℕ) → IsKept (keeping ms rows) H → is_open (summary s.history) t ≡ table.has_row rows t
+  open-shown says t kept = subst (λ (z : Stored). is_open (summary z.history) t ≡ table.has_row rows t) same (open-alike says ms rows H t kept)
 
   -- the calls of each object
   pub calls-shown : (calls : List (List NamedCall)) → HasCalls (types_of ms) calls → HasCalls s.types calls

@@ -51,7 +51,7 @@ abort-appends s w t going =
 
 -- the worker in the row of an open transaction is the one by whose event it began
 row-worker : (ms : List Meaning) (rows : List (Option Row)) (H : List Event) (t : ℕ) → IsKept (keeping ms rows) H
-    → table.is_open rows t ≡ true → closing_abort H t ≡ record { worker = worker_of (row rows t); kind = Abort t }
+    → table.has_row rows t ≡ true → closing_abort H t ≡ record { worker = worker_of (row rows t); kind = Abort t }
 row-worker ms rows H t kept going =
     let found = some-of (row rows t) going in
     elim (cases_lt t (length rows)) [
@@ -64,7 +64,7 @@ row-worker ms rows H t kept going =
 
 -- an abort by that worker is the abort of t at the end of a store
 pub aborts-once : (ms : List Meaning) (rows : List (Option Row)) (s new : Stored) (w t : ℕ) → IsKept (keeping ms rows) s.history
-    → table.is_open rows t ≡ true → is_open (summary s.history) t ≡ true → w ≡ worker_of (row rows t) → new ≡ stored_after s w (command.Abort t) → new ≡ aborted_once s t
+    → table.has_row rows t ≡ true → is_open (summary s.history) t ≡ true → w ≡ worker_of (row rows t) → new ≡ stored_after s w (command.Abort t) → new ≡ aborted_once s t
 aborts-once ms rows s new w t kept going opened by_its_own is =
     is ∙ abort-appends s w t opened
     ∙ ap (λ (e : Event). record s { history = s.history ++ e ∷ [] })
@@ -110,7 +110,7 @@ closing-none those H (suc n) none =
 
 -- so a store is as it was where the rows of those below n say that they ended
 pub closed-none : RowsSayWhoIsOpen → (those : List ℕ) (ms : List Meaning) (rows : List (Option Row)) (s : Stored) (n : ℕ)
-    → IsKept (keeping ms rows) s.history → ((t : ℕ) → t < n → table.is_open rows t ≡ false) → s ≡ closed_below those s n
+    → IsKept (keeping ms rows) s.history → ((t : ℕ) → t < n → table.has_row rows t ≡ false) → s ≡ closed_below those s n
 closed-none says those ms rows s n kept none =
     ap (λ K. record s { history = K }) (sym (closing-none those s.history n (λ t low. open-alike says ms rows s.history t kept ∙ none t low)))
 
@@ -247,7 +247,7 @@ closed-all goes_on now in_run opens began those s k K n kept run many is =
 -- and of a store as it is, where the rows of all say that they ended
 pub closed-already : RunGoesOn → SummaryAfter → TransactionsInRun → OpensAfter → BeginnersAfter → RowsSayWhoIsOpen → (ms : List Meaning)
     (rows : List (Option Row)) (K : List Event) (max forgotten n : ℕ) (s : Stored) → shown (keeping ms rows) K max forgotten ≡ s → IsKept (keeping ms rows) K
-    → n ≡ length rows → ((t : ℕ) → t < n → table.is_open rows t ≡ false) → IsClosed [] s s.history
+    → n ≡ length rows → ((t : ℕ) → t < n → table.has_row rows t ≡ false) → IsClosed [] s s.history
 closed-already goes_on now in_run opens began says ms rows K max forgotten n s same its many ended =
     let k = keeping ms rows in
     let kept = kept-shown k K max forgotten s same its in

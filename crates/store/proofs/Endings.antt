@@ -8,18 +8,18 @@ use Rattle.serial_order.specs.History.{Summary, summary, is_open}
 use Rattle.serial_order.specs.Machine.{MayFollow}
 use Rattle.serial_order.specs.Replay.{open_count, refusal, event_of}
 use Rattle.serial_order.specs.declared.refusal.Refusal.TheVariants.{NotOpen}
-use Rattle.object_calls.specs.Ends.{ChangesAt, IsEnd}
+use Rattle.object_calls.specs.Ends.{ChangesAt, EndsObject}
 use Rattle.object_calls.specs.declared.end.End.{End}
 use Rattle.object_calls.specs.declared.end.End.TheVariants as end
 use Rattle.open_transactions.specs.Transactions as table
-use Rattle.open_transactions.specs.Transactions.{Row, row, places_of, count_open}
+use Rattle.open_transactions.specs.Transactions.{Row, row, objects_of_row, count_open}
 use Rattle.object_calls.specs.declared.call.NamedCall.{NamedCall}
 use Rattle.store_laws.specs.Stored.{Stored, Steps}
 use Rattle.store_laws.specs.Kept.{keeping, objects_of, IsKept, IsStore}
 use Rattle.store_laws.specs.Moves.{Moves, StaysKept}
 use Rattle.store_laws.specs.Before.{RowsSayWhoIsOpen, RowsAreCounted}
-use Rattle.store_laws.specs.Events.{end_event, EndMoves, TypesStay, RoomAfter, takes}
-use Rattle.store.specs.Whole.{IsWhole}
+use Rattle.store_laws.specs.Events.{end_event, EndMoves, TypesStay, RoomAfter, room_taken}
+use Rattle.store.specs.Whole.{IsWholeStore}
 use Rattle.store.specs.Ends.{end_command}
 use Rattle.store.proofs.Stored.{shown, event-shown, event-whole}
 use Rattle.store.proofs.Opens.{its-row, row-places, open-alike}
@@ -42,7 +42,7 @@ end-makes : (how : End) (objects : List Object) (s : Summary) (t : ℕ) → even
 end-makes end.Commit objects s t = refl
 end-makes end.Abort objects s t = refl
 
-end-takes : (how : End) (t : ℕ) → takes (end_event how t) ≡ 0
+end-takes : (how : End) (t : ℕ) → room_taken (end_event how t) ≡ 0
 end-takes end.Commit t = refl
 end-takes end.Abort t = refl
 
@@ -60,7 +60,7 @@ end-room counted ms rows H room max left store one =
 -- each object where it has operations is as after its end, and it has no row
 module _ (how : End) (moves : EndMoves) (says : RowsSayWhoIsOpen) (ms ms_now : List Meaning)
     (rows now : List (Option Row)) (H after : List Event) (w t : ℕ) (places : List ℕ) (kept : IsKept (keeping ms rows) H)
-    (going : table.is_open rows t ≡ true) (its : places ≡ places_of (row rows t)) (objects : ChangesAt places (λ x m n. IsEnd how m t n) ms ms_now)
+    (going : table.has_row rows t ≡ true) (its : places ≡ objects_of_row (row rows t)) (objects : ChangesAt places (λ x m n. EndsObject how m t n) ms ms_now)
     (gone : now ≡ set rows t None) (appended : after ≡ H ++ (record { worker = w; kind = end_event how t }) ∷ []) where
   opened : is_open (summary H) t ≡ true
   opened = open-alike says ms rows H t kept ∙ going
@@ -71,17 +71,17 @@ module _ (how : End) (moves : EndMoves) (says : RowsSayWhoIsOpen) (ms ms_now : L
       let found = its-row ms rows H t places kept going its in
       let same = row-places ms rows H t places kept going its in
       moves how (keeping ms rows) (keeping ms_now now) H w t found.0 kept found.1
-      (subst (λ ps. ChangesAt ps (λ x m n. IsEnd how m t n) ms ms_now) (sym same) objects)
+      (subst (λ ps. ChangesAt ps (λ x m n. EndsObject how m t n) ms ms_now) (sym same) objects)
       gone
 
   -- the store stays whole
-  pub end-whole : StaysKept → RoomAfter → TypesStay → RowsAreCounted → (calls : List (List NamedCall)) (room more max : ℕ) → IsWhole ms calls rows H room max
-      → room ≤ more → max ≤ 4294967295 → count_open now + 1 ≡ count_open rows → IsWhole ms_now calls now after more max
+  pub end-whole : StaysKept → RoomAfter → TypesStay → RowsAreCounted → (calls : List (List NamedCall)) (room more max : ℕ) → IsWholeStore ms calls rows H room max
+      → room ≤ more → max ≤ 4294967295 → count_open now + 1 ≡ count_open rows → IsWholeStore ms_now calls now after more max
   end-whole stays room_after types counted calls room more max whole grown fits one =
       let low = (end-room counted ms rows H room max (count_open now) whole.store one).1 in
       let reserved = whole.store.reserved in
       let limited = whole.store.limited in
-      let free : takes (end_event how t) ≡ 0 = end-takes how t in
+      let free : room_taken (end_event how t) ≡ 0 = end-takes how t in
       event-whole stays room_after types ms ms_now calls rows now H after (record { worker = w; kind = end_event how t }) room more max whole
       (end-may how (objects_of ms) H w t opened) end-moved appended (omega (arith, low, fits))
       (subst (λ n. length H + open_count (summary H) + n ≤ more) (sym free) (omega (arith, reserved, grown)))

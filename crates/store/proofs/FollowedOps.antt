@@ -24,11 +24,11 @@ use Rattle.serial_order.specs.Answer as definition
 use Rattle.store_laws.specs.Stored.{Stored, objects, refusal_of}
 use Rattle.store_laws.specs.Words.{as_event}
 use Rattle.store.specs.Calls.{op_call_at, CallsIf}
-use Rattle.store.specs.Follows.{Follows, IsMade, IsByCall, IsAnswered, unreplied, made_or_stray}
+use Rattle.store.specs.Follows.{Follows, IsMade, IsByCall, HasAnswer, unreplied, made_or_stray}
 use Rattle.serial_order.specs.View.{is_of_call}
 use Rattle.type_table.specs.Least.{first_below, found_or}
 use Rattle.serial_order.specs.Answer.{blocker, busy_with, refused, is_free_reply, event_of_call}
-use Rattle.serial_order.specs.Replay.{is_full, call_event, call_at, event_of}
+use Rattle.serial_order.specs.Replay.{is_history_full, call_event, call_at, event_of}
 use Rattle.serial_order.specs.declared.entry.Entry.{Entry}
 use Rattle.serial_order.specs.declared.command.Command.{Command}
 use Rattle.serial_order.specs.declared.command.Command.TheVariants as command
@@ -162,7 +162,7 @@ event-place : (o : Object) (s : Summary) (x t c : ℕ) (found : Option ℕ) → 
 event-place o s x t c None = refused-place o s x t c _
 event-place o s x t c (Some k) = refl
 
-as-unreplied : (t x c : ℕ) (holder : Option ℕ) → as_event t x c (calls.busy_with holder) ≡ unreplied t x (place_of c) holder
+as-unreplied : (t x c : ℕ) (holder : Option ℕ) → as_event t x c (calls.busy_answer holder) ≡ unreplied t x (place_of c) holder
 as-unreplied t x c None = refl
 as-unreplied t x c (Some u) = refl
 
@@ -176,12 +176,12 @@ place-told t x place other (Some u) = refl
 
 -- a command that makes it is a call with that place, which has the answer
 unreplied-alone : (at : Option Object) (s : Summary) (t x place : ℕ) (holder : Option ℕ) (name : List ℕ) → call_event at s x t (call_at at name) ≡ Some (unreplied t x place holder)
-    → (d : ℕ) × (call_at at name ≡ Some d) × (place_of d ≡ place) × (call_event at s x t (Some d) ≡ Some (as_event t x d (calls.busy_with holder)))
+    → (d : ℕ) × (call_at at name ≡ Some d) × (place_of d ≡ place) × (call_event at s x t (Some d) ≡ Some (as_event t x d (calls.busy_answer holder)))
 unreplied-alone None s t x place holder name is = absurd (none-some (unreplied t x place holder) is)
 unreplied-alone (Some o) s t x place holder name is = found (first_op o.table name) refl is
   where
     found : (first : Option ℕ) → first_op o.table name ≡ first → call_event (Some o) s x t first ≡ Some (unreplied t x place holder)
-        → (d : ℕ) × (first_op o.table name ≡ Some d) × (place_of d ≡ place) × (call_event (Some o) s x t (Some d) ≡ Some (as_event t x d (calls.busy_with holder)))
+        → (d : ℕ) × (first_op o.table name ≡ Some d) × (place_of d ≡ place) × (call_event (Some o) s x t (Some d) ≡ Some (as_event t x d (calls.busy_answer holder)))
     found None finds makes = absurd (none-some (unreplied t x place holder) makes)
     found (Some d) finds makes =
         let one : event_of_call o s x t d ≡ unreplied t x place holder = same_Some (event_of_call o s x t d) (unreplied t x place holder) makes in
@@ -196,7 +196,7 @@ module _ (s : Stored) (e : Event) (t x place : ℕ) (holder : Option ℕ) (is : 
   its-refusal : refusal_of s (command.Call t x its-call.0) ≡ None
   its-refusal = sym (ap (refusal_of s) its-call.1) ∙ made.accepted
 
-  pub unreplied-answered : (d : ℕ) × (place_of d ≡ place) × (is : IsAnswered s t x d (calls.busy_with holder)) × (refusal_of s (command.Call t x is.0) ≡ None)
+  pub unreplied-answered : (d : ℕ) × (place_of d ≡ place) × (is : HasAnswer s t x d (calls.busy_answer holder)) × (refusal_of s (command.Call t x is.0) ≡ None)
   unreplied-answered =
       let its = unreplied-alone (slice_get (objects s) x) (summary s.history) t x place holder its-call.0 its-call.2 in
       (its.0, its.2, (its-call.0, its.1, its.3), its-refusal)
@@ -210,7 +210,7 @@ accepted-open s t x name accepted = by (is_open (summary s.history) t) refl
     by false is = absurd (none-some refusal.NotOpen (sym accepted ∙ rw is refl))
 
 -- which says that a call with the place has the answer
-pub unreplied-told : (happened : EventKind) (t x place c : ℕ) (holder : Option ℕ) → unreplied t x place holder ≡ happened → place_of c ≡ place → as_event t x c (calls.busy_with holder) ≡ happened
+pub unreplied-told : (happened : EventKind) (t x place c : ℕ) (holder : Option ℕ) → unreplied t x place holder ≡ happened → place_of c ≡ place → as_event t x c (calls.busy_answer holder) ≡ happened
 unreplied-told happened t x place c holder told placed = as-unreplied t x c holder ∙ ap (λ p. unreplied t x p holder) placed ∙ told
 
 -- why a call is refused, by what is found by its name
@@ -219,7 +219,7 @@ refusal-with s t x found =
     if not (is_open (summary s.history) t) then Some refusal.NotOpen
     else (if not (is_some (slice_get (objects s) x)) then Some refusal.NoObject
     else (if not (is_some found) then Some refusal.NoCall
-    else (if is_full s.max s.history 1 then Some refusal.HistoryFull else None)))
+    else (if is_history_full s.max s.history 1 then Some refusal.HistoryFull else None)))
 
 -- of two calls that are there one is refused where the other is
 refused-alike : (s : Stored) (t x c d : ℕ) (name other : List ℕ) → call_at (slice_get (objects s) x) name ≡ Some c → call_at (slice_get (objects s) x) other ≡ Some d
@@ -228,9 +228,9 @@ refused-alike s t x c d name other first second = ap (refusal-with s t x) first 
 
 -- what is found among the calls with a place, where some has the answer
 module _ (s : Stored) (e : Event) (t x place : ℕ) (holder : Option ℕ) (result : Option ℕ) (is : unreplied t x place holder ≡ e.kind)
-    (finds : is_open (summary s.history) t ≡ true → (d : ℕ) → place_of d ≡ place → IsAnswered s t x d (calls.busy_with holder)
-    → (c : ℕ) × (result ≡ Some c) × IsAnswered s t x c (calls.busy_with holder)) where
-  its-found : IsMade s e → (c : ℕ) × (result ≡ Some c) × IsAnswered s t x c (calls.busy_with holder)
+    (finds : is_open (summary s.history) t ≡ true → (d : ℕ) → place_of d ≡ place → HasAnswer s t x d (calls.busy_answer holder)
+    → (c : ℕ) × (result ≡ Some c) × HasAnswer s t x c (calls.busy_answer holder)) where
+  its-found : IsMade s e → (c : ℕ) × (result ≡ Some c) × HasAnswer s t x c (calls.busy_answer holder)
   its-found made =
       let d = unreplied-answered s e t x place holder is made in
       finds (accepted-open s t x d.2.0 d.3) d.0 d.1 d.2
@@ -240,7 +240,7 @@ module _ (s : Stored) (e : Event) (t x place : ℕ) (holder : Option ℕ) (resul
   unreplied-made c there placed made =
       let d = unreplied-answered s e t x place holder is made in
       let found = its-found made in
-      let answered : IsAnswered s t x c (calls.busy_with holder) = subst (λ n. IsAnswered s t x n (calls.busy_with holder)) (same_Some found.0 c (sym found.1 ∙ there)) found.2 in (
+      let answered : HasAnswer s t x c (calls.busy_answer holder) = subst (λ n. HasAnswer s t x n (calls.busy_answer holder)) (same_Some found.0 c (sym found.1 ∙ there)) found.2 in (
         answered.0,
         answered.1,
         (

@@ -16,8 +16,8 @@ use Rattle.serial_order.specs.declared.command.Command.TheVariants as command
 use Rattle.serial_order.specs.declared.refusal.Refusal.{Refusal}
 use Rattle.serial_order.specs.declared.refusal.Refusal.TheVariants as refusal
 use Rattle.store_laws.specs.Stored.{Stored, objects, refusal_of, stored_after, Steps, MayStep}
-use Rattle.store.specs.Follows.{IsMade, with_event, stray_of, told, Follows}
-use Rattle.store.specs.declared.stray.Stray.{Stray}
+use Rattle.store.specs.Follows.{IsMade, with_event, stray_of, told_stray, Follows}
+use Rattle.store.specs.declared.event_replay.Stray.{Stray}
 
 -- ---- which command makes an event
 
@@ -125,23 +125,23 @@ module _ (old : Stored) (w : ℕ) (C : Command) (happened : EventKind) (makes : 
   refused-follows refusal.BadRollback new reason is = (not-made refusal.BadRollback reason, is ∙ stays refusal.BadRollback reason)
 
   -- what becomes of it by what its command does
-  pub steps-follow : {T : Type 0} (r : Result T Refusal) (new : Stored) → Steps old w C r new → Follows old (record { worker = w; kind = happened }) (told r) new
+  pub steps-follow : {T : Type 0} (r : Result T Refusal) (new : Stored) → Steps old w C r new → Follows old (record { worker = w; kind = happened }) (told_stray r) new
   steps-follow (Ok x) new steps = (record { command = C; accepted = sym steps.0; makes = makes }, steps.1 ∙ goes (sym steps.0))
   steps-follow (Err r) new steps = refused-follows r new (sym steps.0) steps.1
 
-  pub may-follow : {T : Type 0} (r : Result T Refusal) (new : Stored) → MayStep old w C r new → Follows old (record { worker = w; kind = happened }) (told r) new
+  pub may-follow : {T : Type 0} (r : Result T Refusal) (new : Stored) → MayStep old w C r new → Follows old (record { worker = w; kind = happened }) (told_stray r) new
   may-follow r new (inl steps) = steps-follow r new steps
   may-follow r new (inr memory_refused) =
-      subst (λ z. Follows old (record { worker = w; kind = happened }) (told z) new) (sym memory_refused.1) memory_refused.2
+      subst (λ z. Follows old (record { worker = w; kind = happened }) (told_stray z) new) (sym memory_refused.1) memory_refused.2
 
 -- so of an event of this kind
 module _ (old : Stored) (e : Event) (C : Command) (happened : EventKind) (makes : event_of (objects old) (summary old.history) C ≡ Some happened)
     (only : (c : Command) → event_of (objects old) (summary old.history) c ≡ Some happened → c ≡ C) {T : Type 0} (r : Result T Refusal) (out : Result (Unit {0}) Stray) (new : Stored)
-    (is : e.kind ≡ happened) (tells : out ≡ told r) where
-  as-told : Follows old (record { worker = e.worker; kind = happened }) (told r) new → Follows old e out new
+    (is : e.kind ≡ happened) (tells : out ≡ told_stray r) where
+  as-told : Follows old (record { worker = e.worker; kind = happened }) (told_stray r) new → Follows old e out new
   as-told follows =
       subst (λ o. Follows old e o new) (sym tells)
-      (subst (λ k. Follows old (record { worker = e.worker; kind = k }) (told r) new) (sym is) follows)
+      (subst (λ k. Follows old (record { worker = e.worker; kind = k }) (told_stray r) new) (sym is) follows)
 
   pub steps-followed : Steps old e.worker C r new → Follows old e out new
   steps-followed steps = as-told (steps-follow old e.worker C happened makes only r new steps)

@@ -8,13 +8,13 @@ use Rattle.object_trait.specs.declared.event.EventKind.TheVariants as kind
 use Rattle.object_calls.specs.declared.answer.Answer.{Answer}
 use Rattle.object_calls.specs.declared.answer.Answer.TheVariants as answer
 use Rattle.serial_order.specs.History.{summary, is_open}
-use Rattle.serial_order.specs.Replay.{is_full, call_at, call_event}
+use Rattle.serial_order.specs.Replay.{is_history_full, call_at, call_event}
 use Rattle.serial_order.specs.declared.command.Command.TheVariants.{Call}
 use Rattle.serial_order.specs.declared.refusal.Refusal.{Refusal}
 use Rattle.serial_order.specs.declared.refusal.Refusal.TheVariants.{HistoryFull}
 use Rattle.store_laws.specs.Stored.{Stored, objects, refusal_of}
 use Rattle.store_laws.specs.Words.{as_event}
-use Rattle.store.specs.Calls.{Comes, ComesIf, CallsIf}
+use Rattle.store.specs.Calls.{AnswersCall, ComesIf, CallsIf}
 
 -- ---- one event says one answer
 
@@ -36,10 +36,10 @@ one-answer found t x c a b is also =
 
 -- so the answer that was given is the one that was chosen
 pub comes-as : (old new : Stored) (w t x c : ℕ) (a chosen b : Answer) → call_event (slice_get (objects old) x) (summary old.history) x t (Some c) ≡ Some (as_event t x c chosen) → chosen ≡ b
-    → Comes old w t x c (Ok a) new → Comes old w t x c (Ok b) new
+    → AnswersCall old w t x c (Ok a) new → AnswersCall old w t x c (Ok b) new
 comes-as old new w t x c a chosen b is same comes =
     let given : a ≡ b = one-answer (call_event (slice_get (objects old) x) (summary old.history) x t (Some c)) t x c a chosen comes.1 is ∙ same in
-    subst (λ (z : Answer). Comes old w t x c (Ok z) new) given comes
+    subst (λ (z : Answer). AnswersCall old w t x c (Ok z) new) given comes
 
 -- ---- what is known of each outcome
 
@@ -57,10 +57,10 @@ if-err old new w t x c a (Err r) comes = comes.0
 
 module _ (old new : Stored) (w t x c : ℕ) (name : List ℕ) (o : Object) (there : slice_get (objects old) x ≡ Some o) (going : is_open (summary old.history) t ≡ true)
     (named : call_at (slice_get (objects old) x) name ≡ Some c) where
-  with-room : is_full old.max old.history 1 ≡ false → refusal_of old (Call t x name) ≡ None
+  with-room : is_history_full old.max old.history 1 ≡ false → refusal_of old (Call t x name) ≡ None
   with-room room = rw (going, named, there, room) refl
 
-  without-room : is_full old.max old.history 1 ≡ true → refusal_of old (Call t x name) ≡ Some HistoryFull
+  without-room : is_history_full old.max old.history 1 ≡ true → refusal_of old (Call t x name) ≡ Some HistoryFull
   without-room full = rw (going, named, there, full) refl
 
   its-event : call_event (slice_get (objects old) x) (summary old.history) x t (call_at (slice_get (objects old) x) name) ≡ call_event (slice_get (objects old) x) (summary old.history) x t (Some c)

@@ -8,7 +8,7 @@ use Rattle.serial_order.specs.Operations.{of}
 use Rattle.serial_order.specs.History.{summary, is_open}
 use Rattle.object_calls.specs.Ends.{HasLast}
 use Rattle.open_transactions.specs.Transactions as table
-use Rattle.open_transactions.specs.Transactions.{Row, row, places_of}
+use Rattle.open_transactions.specs.Transactions.{Row, row, objects_of_row}
 use Rattle.store_laws.specs.Kept.{keeping, IsKept}
 use Rattle.store_laws.specs.Before.{last_places, RowsSayWhoIsOpen, PlacesAreCounted, PlacesAreFew, PlacesAreInside, HasWhatIsStruck}
 
@@ -19,18 +19,18 @@ some-of (Some a) there = (a, refl)
 
 -- what the table says of a transaction is what the history says
 pub open-alike : RowsSayWhoIsOpen → (ms : List Meaning) (rows : List (Option Row)) (H : List Event) (t : ℕ) → IsKept (keeping ms rows) H
-    → is_open (summary H) t ≡ table.is_open rows t
+    → is_open (summary H) t ≡ table.has_row rows t
 open-alike says ms rows H t kept = says (keeping ms rows) H t kept
 
 module _ (ms : List Meaning) (rows : List (Option Row)) (H : List Event) (t : ℕ) (places : List ℕ) (kept : IsKept (keeping ms rows) H)
-    (going : table.is_open rows t ≡ true) (its : places ≡ places_of (row rows t)) where
+    (going : table.has_row rows t ≡ true) (its : places ≡ objects_of_row (row rows t)) where
   -- its row
   pub its-row : (r : Row) × (row rows t ≡ Some r)
   its-row = some-of (row rows t) going
 
   -- with its places
   pub row-places : (its-row.0).places ≡ places
-  row-places = sym (its ∙ ap places_of its-row.1)
+  row-places = sym (its ∙ ap objects_of_row its-row.1)
 
   pub places-inside : PlacesAreInside → (n : ℕ) → length ms ≡ n → All (λ x. x < n) places
   places-inside inside n many =

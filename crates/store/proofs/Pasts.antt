@@ -7,7 +7,7 @@ use Rattle.object_trait.specs.Meaning.{Meaning}
 use Rattle.object_calls.specs.declared.call.NamedCall.{NamedCall}
 use Rattle.open_transactions.specs.Transactions.{Row}
 use Rattle.store_laws.specs.Stored.{Stored}
-use Rattle.store.specs.Whole.{IsWhole}
+use Rattle.store.specs.Whole.{IsWholeStore}
 use Rattle.store.proofs.Stored.{stored}
 
 -- one more in memory is one more of all
@@ -55,9 +55,9 @@ module _ (past K read gone left : List Event) (n : ℕ) (added : gone ≡ past +
 
 -- what is kept agrees with the same events, where there is at least as much room
 pub same-whole : (ms : List Meaning) (calls : List (List NamedCall)) (rows : List (Option Row)) (H after : List Event) (room more max : ℕ)
-    → IsWhole ms calls rows H room max → after ≡ H → room ≤ more → IsWhole ms calls rows after more max
+    → IsWholeStore ms calls rows H room max → after ≡ H → room ≤ more → IsWholeStore ms calls rows after more max
 same-whole ms calls rows H after room more max whole same wider =
-    subst (λ J. IsWhole ms calls rows J more max) (sym same) (record {
+    subst (λ J. IsWholeStore ms calls rows J more max) (sym same) (record {
       store = record { kept = whole.store.kept; reserved = omega (arith, whole.store.reserved, wider); limited = whole.store.limited };
       few = whole.few;
       known = whole.known;

@@ -5,9 +5,9 @@ use Rattle.std.proofs.lemmas.Option.{same_Some, slice_get-get_or}
 use Rattle.object_trait.specs.declared.event.Event.{Event}
 use Rattle.store_laws.specs.Stored.{Stored}
 use Rattle.store.specs.Follows.{IsMade, with_event, Follows}
-use Rattle.store.specs.Replays.{AreMade, with_events, IsStopped}
-use Rattle.store.specs.declared.stray.Stray.{Stray}
-use Rattle.store.specs.declared.stray.Stray.TheVariants.{NotMade, NoMemory}
+use Rattle.store.specs.Replays.{AreMade, with_events, StopsReplay}
+use Rattle.store.specs.declared.event_replay.Stray.{Stray}
+use Rattle.store.specs.declared.event_replay.Stray.TheVariants.{NotMade, NoMemory}
 
 -- none and one more
 pub with-none : (s : Stored) → with_events s [] ≡ s
@@ -38,7 +38,7 @@ module _ (old store : Stored) (es : List Event) (at : ℕ) (e d : Event) (before
   )
 
   -- or it wasn't
-  pub turn-stopped : (why : Stray) (new : Stored) → Follows store e (Err why) new → IsStopped old es (record { at = at; why = why }) new
+  pub turn-stopped : (why : Stray) (new : Stored) → Follows store e (Err why) new → StopsReplay old es (record { at = at; why = why }) new
   turn-stopped NotMade new stopped =
       record {
         inside = low;

@@ -12,19 +12,19 @@ use Rattle.object_trait.specs.declared.event.EventKind.TheVariants.{Rollback}
 use Rattle.serial_order.specs.Operations.{of}
 use Rattle.serial_order.specs.History.{summary, is_open}
 use Rattle.serial_order.specs.Machine.{MayFollow}
-use Rattle.serial_order.specs.Replay.{open_count, refusal, is_full}
+use Rattle.serial_order.specs.Replay.{open_count, refusal, is_history_full}
 use Rattle.serial_order.specs.declared.command.Command.TheVariants as command
 use Rattle.serial_order.specs.declared.refusal.Refusal.TheVariants.{NotOpen, BadRollback, HistoryFull}
-use Rattle.object_calls.specs.Ends.{ChangesAt, count_at}
+use Rattle.object_calls.specs.Ends.{ChangesAt, times_in}
 use Rattle.open_transactions.specs.Transactions as table
-use Rattle.open_transactions.specs.Transactions.{Row, row, places_of, count_open, changed}
+use Rattle.open_transactions.specs.Transactions.{Row, row, objects_of_row, count_open, changed}
 use Rattle.object_calls.specs.declared.call.NamedCall.{NamedCall}
 use Rattle.store_laws.specs.Stored.{Stored, Steps}
 use Rattle.store_laws.specs.Kept.{keeping, objects_of, IsKept}
 use Rattle.store_laws.specs.Moves.{Moves, StaysKept, without_places}
 use Rattle.store_laws.specs.Before.{last_places, RowsSayWhoIsOpen, RowsAreCounted, PlacesAreCounted}
 use Rattle.store_laws.specs.Events.{RollbackMoves, TypesStay, RoomAfter}
-use Rattle.store.specs.Whole.{IsWhole}
+use Rattle.store.specs.Whole.{IsWholeStore}
 use Rattle.store.proofs.Stored.{shown, event-shown, event-whole}
 use Rattle.store.proofs.Begins.{full-then, full-else}
 use Rattle.store.proofs.Opens.{its-row, row-places, open-alike, places-counted}
@@ -33,12 +33,12 @@ use Rattle.store.proofs.Opens.{its-row, row-places, open-alike, places-counted}
 
 -- by three tests, in this order
 rollback-refusal : (objects : List Object) (most : ℕ) (H : List Event) (t n : ℕ) (going bad full : Bool) → is_open (summary H) t ≡ going
-    → (n == 0 || nat_lt (length (of t (summary H).survives)) n) ≡ bad → is_full most H 1 ≡ full
+    → (n == 0 || nat_lt (length (of t (summary H).survives)) n) ≡ bad → is_history_full most H 1 ≡ full
     → refusal objects most H (command.Rollback t n)
     ≡ (if not going then Some NotOpen else (if bad then Some BadRollback else (if full then Some HistoryFull else None)))
 rollback-refusal objects most H t n going bad full open_is bad_is full_is =
-    ap (λ b. if not b then Some NotOpen else (if n == 0 || nat_lt (length (of t (summary H).survives)) n then Some BadRollback else (if is_full most H 1 then Some HistoryFull else None))) open_is
-    ∙ ap (λ b. if not going then Some NotOpen else (if b then Some BadRollback else (if is_full most H 1 then Some HistoryFull else None))) bad_is
+    ap (λ b. if not b then Some NotOpen else (if n == 0 || nat_lt (length (of t (summary H).survives)) n then Some BadRollback else (if is_history_full most H 1 then Some HistoryFull else None))) open_is
+    ∙ ap (λ b. if not going then Some NotOpen else (if b then Some BadRollback else (if is_history_full most H 1 then Some HistoryFull else None))) bad_is
     ∙ ap (λ b. if not going then Some NotOpen else (if bad then Some BadRollback else (if b then Some HistoryFull else None))) full_is
 
 -- a transaction can't strike none of its operations that survive, or more than there are
@@ -58,13 +58,13 @@ some-living living n some few =
 
 -- where the transaction has no row
 pub rollback-closed : RowsSayWhoIsOpen → (ms : List Meaning) (rows : List (Option Row)) (H : List Event) (t n max : ℕ) → IsKept (keeping ms rows) H
-    → table.is_open rows t ≡ false → refusal (objects_of ms) max H (command.Rollback t n) ≡ Some NotOpen
+    → table.has_row rows t ≡ false → refusal (objects_of ms) max H (command.Rollback t n) ≡ Some NotOpen
 rollback-closed says ms rows H t n max kept ended =
     rollback-refusal (objects_of ms) max H t n false _ _ (open-alike says ms rows H t kept ∙ ended) refl refl
 
 -- and where it has one
 module _ (says : RowsSayWhoIsOpen) (living : PlacesAreCounted) (ms : List Meaning) (rows : List (Option Row)) (H : List Event) (t n max : ℕ) (places : List ℕ)
-    (kept : IsKept (keeping ms rows) H) (going : table.is_open rows t ≡ true) (its : places ≡ places_of (row rows t)) where
+    (kept : IsKept (keeping ms rows) H) (going : table.has_row rows t ≡ true) (its : places ≡ objects_of_row (row rows t)) where
   -- it is open
   going-on : is_open (summary H) t ≡ true
   going-on = open-alike says ms rows H t kept ∙ going
@@ -110,8 +110,8 @@ places-from n places = take_rest places (length places - n)
 
 -- at each object where one of the last n operations is, as many are struck as are there
 module _ (moves : RollbackMoves) (ms ms_now : List Meaning) (rows now : List (Option Row)) (H after : List Event) (w t n left : ℕ)
-    (places struck : List ℕ) (kept : IsKept (keeping ms rows) H) (going : table.is_open rows t ≡ true) (its : places ≡ places_of (row rows t))
-    (ends : struck ≡ last_places n places) (objects : ChangesAt struck (λ x m k. IsStrike m t (count_at x struck) k) ms ms_now)
+    (places struck : List ℕ) (kept : IsKept (keeping ms rows) H) (going : table.has_row rows t ≡ true) (its : places ≡ objects_of_row (row rows t))
+    (ends : struck ≡ last_places n places) (objects : ChangesAt struck (λ x m k. IsStrike m t (times_in x struck) k) ms ms_now)
     (rest : left ≡ length places - n) (fewer : now ≡ changed rows t (table.kept left))
     (appended : after ≡ H ++ (record { worker = w; kind = Rollback t n }) ∷ []) where
   -- its row has the first places
@@ -128,13 +128,13 @@ module _ (moves : RollbackMoves) (ms ms_now : List Meaning) (rows now : List (Op
       let found = its-row ms rows H t places kept going its in
       let same : struck ≡ last_places n (found.0).places = ends ∙ ap (last_places n) (sym (row-places ms rows H t places kept going its)) in
       moves (keeping ms rows) (keeping ms_now now) H w t n found.0 kept found.1
-      (subst (λ ps. ChangesAt ps (λ x m k. IsStrike m t (count_at x ps) k) ms ms_now) same objects)
+      (subst (λ ps. ChangesAt ps (λ x m k. IsStrike m t (times_in x ps) k) ms ms_now) same objects)
       rows-left
 
   -- the store stays whole
   pub rollback-whole : StaysKept → RoomAfter → TypesStay → RowsAreCounted → MayFollow (objects_of ms) H (record { worker = w; kind = Rollback t n })
-      → (calls : List (List NamedCall)) (opened room more max : ℕ) → IsWhole ms calls rows H room max → opened ≡ count_open rows → max ≤ 4294967295
-      → length H + opened + 1 ≤ more → length H + opened + 1 ≤ max → IsWhole ms_now calls now after more max
+      → (calls : List (List NamedCall)) (opened room more max : ℕ) → IsWholeStore ms calls rows H room max → opened ≡ count_open rows → max ≤ 4294967295
+      → length H + opened + 1 ≤ more → length H + opened + 1 ≤ max → IsWholeStore ms_now calls now after more max
   rollback-whole stays room_after types counted may calls opened room more max whole counts fits reserved limited =
       let same : opened ≡ open_count (summary H) = counts ∙ sym (counted (keeping ms rows) H kept) in
       event-whole stays room_after types ms ms_now calls rows now H after (record { worker = w; kind = Rollback t n }) room more max whole may

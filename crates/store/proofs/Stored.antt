@@ -13,11 +13,11 @@ use Rattle.serial_order.specs.declared.refusal.Refusal.TheVariants.{NoMemory}
 use Rattle.store_laws.specs.Stored.{Stored, types_of, Steps, MayStep}
 use Rattle.store_laws.specs.Kept.{Keeping, keeping, objects_of, IsStore}
 use Rattle.store_laws.specs.Moves.{Moves, StaysKept}
-use Rattle.store_laws.specs.Events.{takes, TypesStay, RoomAfter}
+use Rattle.store_laws.specs.Events.{room_taken, TypesStay, RoomAfter}
 use Rattle.open_transactions.specs.Transactions.{Row}
 use Rattle.object_trait.specs.Meaning.{Meaning}
 use Rattle.object_calls.specs.declared.call.NamedCall.{NamedCall}
-use Rattle.store.specs.Whole.{HasCalls, IsWhole}
+use Rattle.store.specs.Whole.{HasCalls, IsWholeStore}
 use Rattle.store.proofs.Steps.{refused-steps, accepted-steps, memory_refused-steps}
 
 -- ---- what callers see
@@ -57,7 +57,7 @@ event-shown types T old new H after w max forgotten happened command x s same mo
 -- an event for which there is room
 pub event-store : StaysKept → RoomAfter → (old new : Keeping) (H after : List Event) (e : Event) (room more max : ℕ)
     → IsStore old H room max → MayFollow (objects_of old.meanings) H e → Moves old new H e → after ≡ H ++ e ∷ [] → length H < 4294967295
-    → length H + open_count (summary H) + takes e.kind ≤ more → length H + open_count (summary H) + takes e.kind ≤ max → IsStore new after more max
+    → length H + open_count (summary H) + room_taken e.kind ≤ more → length H + open_count (summary H) + room_taken e.kind ≤ max → IsStore new after more max
 event-store stays room_after old new H after e room more max store may moves appended short reserved limited =
     let longer = room_after (objects_of old.meanings) H e store.kept.run may in
     subst (λ K. IsStore new K more max) (sym appended)
@@ -69,9 +69,9 @@ event-store stays room_after old new H after e room more max store may moves app
 
 -- and so for all parts of a store
 pub event-whole : StaysKept → RoomAfter → TypesStay → (ms now : List Meaning) (calls : List (List NamedCall)) (rows left : List (Option Row))
-    (H after : List Event) (e : Event) (room more max : ℕ) → IsWhole ms calls rows H room max → MayFollow (objects_of ms) H e
+    (H after : List Event) (e : Event) (room more max : ℕ) → IsWholeStore ms calls rows H room max → MayFollow (objects_of ms) H e
     → Moves (keeping ms rows) (keeping now left) H e → after ≡ H ++ e ∷ [] → length H < 4294967295
-    → length H + open_count (summary H) + takes e.kind ≤ more → length H + open_count (summary H) + takes e.kind ≤ max → IsWhole now calls left after more max
+    → length H + open_count (summary H) + room_taken e.kind ≤ more → length H + open_count (summary H) + room_taken e.kind ≤ max → IsWholeStore now calls left after more max
 event-whole stays room_after types ms now calls rows left H after e room more max whole may moves appended short reserved limited =
     let same : types_of now ≡ types_of ms = types (keeping ms rows) (keeping now left) H e moves in
     let as_many : length now ≡ length ms = sym (length-map now (λ m. m.checked)) ∙ ap length same ∙ length-map ms (λ m. m.checked) in

@@ -14,7 +14,7 @@ use Rattle.store_laws.specs.Stored.{Stored}
 use Rattle.store_laws.specs.Kept.{keeping, IsKept}
 use Rattle.store_laws.specs.Words.{as_event, AnswersAsDefined}
 use Rattle.store_laws.proofs.Objects.{object-at}
-use Rattle.store.specs.Follows.{IsAnswered}
+use Rattle.store.specs.Follows.{HasAnswer}
 use Rattle.store.proofs.Answered.{event-defined}
 use Rattle.store.proofs.FollowedOps.{named}
 use Rattle.store.proofs.OneAnswer.{answer-of, answer-told}
@@ -26,14 +26,14 @@ IsFound m t a c = (first_op m.checked.file.table (call_of m.checked.file.table c
 
 module _ (defined : AnswersAsDefined) (ms : List Meaning) (rows : List (Option Row)) (H : List Event) (max forgotten : ℕ) (t x : ℕ) (m : Meaning) (a : Answer)
     (kept : IsKept (keeping ms rows) H) (there : slice_get ms x ≡ Some m) (going : is_open (summary H) t ≡ true) where
-  found-answered : (c : ℕ) → IsFound m t a c → IsAnswered (shown (keeping ms rows) H max forgotten) t x c a
+  found-answered : (c : ℕ) → IsFound m t a c → HasAnswer (shown (keeping ms rows) H max forgotten) t x c a
   found-answered c is = (
     call_of m.checked.file.table c,
     ap (λ o. call_at o (call_of m.checked.file.table c)) (object-at ms x m there) ∙ is.0,
     event-defined defined ms rows H t x c m kept going there ∙ ap (λ b. Some (as_event t x c b)) is.1,
   )
 
-  answered-found : (c : ℕ) → IsAnswered (shown (keeping ms rows) H max forgotten) t x c a → IsFound m t a c
+  answered-found : (c : ℕ) → HasAnswer (shown (keeping ms rows) H max forgotten) t x c a → IsFound m t a c
   answered-found c is =
       let first : first_op m.checked.file.table is.0 ≡ Some c = sym (ap (λ o. call_at o is.0) (object-at ms x m there)) ∙ is.1 in
       let event : as_event t x c (answer_of m t c) ≡ as_event t x c a =
@@ -47,9 +47,9 @@ pub found-shown : AnswersAsDefined → (ms : List Meaning) (rows : List (Option 
     → shown (keeping ms rows) H max forgotten ≡ s → IsKept (keeping ms rows) H → slice_get ms x ≡ Some m
     → ((d : ℕ) → first_op m.checked.file.table (call_of m.checked.file.table d) ≡ Some d → place_of d ≡ place → answer_of m t d ≡ a
     → (c : ℕ) × (result ≡ Some c) × (first_op m.checked.file.table (call_of m.checked.file.table c) ≡ Some c) × (answer_of m t c ≡ a))
-    → is_open (summary s.history) t ≡ true → (d : ℕ) → place_of d ≡ place → IsAnswered s t x d a → (c : ℕ) × (result ≡ Some c) × IsAnswered s t x c a
+    → is_open (summary s.history) t ≡ true → (d : ℕ) → place_of d ≡ place → HasAnswer s t x d a → (c : ℕ) × (result ≡ Some c) × HasAnswer s t x c a
 found-shown defined ms rows H max forgotten s t x place m a result same kept there finds =
-    subst (λ (z : Stored). is_open (summary z.history) t ≡ true → (d : ℕ) → place_of d ≡ place → IsAnswered z t x d a → (c : ℕ) × (result ≡ Some c) × IsAnswered z t x c a) same
+    subst (λ (z : Stored). is_open (summary z.history) t ≡ true → (d : ℕ) → place_of d ≡ place → HasAnswer z t x d a → (c : ℕ) × (result ≡ Some c) × HasAnswer z t x c a) same
     (λ going d placed answered.
     let is = answered-found defined ms rows H max forgotten t x m a kept there going d answered in
     let found = finds d is.0 placed is.1 in

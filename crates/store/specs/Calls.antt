@@ -4,7 +4,7 @@ use Rattle.type_table.specs.Table.{call_of, first_op}
 use Rattle.object_trait.specs.Object.{Object}
 use Rattle.object_trait.specs.declared.event.EventKind.{EventKind}
 use Rattle.serial_order.specs.History.{summary, is_open}
-use Rattle.serial_order.specs.Replay.{is_full, call_at, call_event, event_of}
+use Rattle.serial_order.specs.Replay.{is_history_full, call_at, call_event, event_of}
 use Rattle.serial_order.specs.declared.command.Command.TheVariants.{Call}
 use Rattle.serial_order.specs.declared.refusal.Refusal.{Refusal}
 use Rattle.serial_order.specs.declared.refusal.Refusal.TheVariants.{NotOpen, NoObject, NoCall, HistoryFull, NoMemory}
@@ -23,30 +23,30 @@ abbrev pub HasCall : Option Object → calls.Call → Type 0
 HasCall at call = (o : Object) × (at ≡ Some o) × IsCall o.table call
 
 -- the event that was appended says the answer of t's call c at x
-abbrev pub Answers : Stored → ℕ → ℕ → ℕ → ℕ → Result Answer Refusal → Stored → Type 0
-Answers old w t x c (Ok a) new = new ≡ noted old w (as_event t x c a)
-Answers old w t x c (Err r) new = Unit {0}
+abbrev pub NotesAnswer : Stored → ℕ → ℕ → ℕ → ℕ → Result Answer Refusal → Stored → Type 0
+NotesAnswer old w t x c (Ok a) new = new ≡ noted old w (as_event t x c a)
+NotesAnswer old w t x c (Err r) new = Unit {0}
 
 -- what comes of t's call c at x: the event that the history defines, or nothing where there is no room
-abbrev pub Comes : Stored → ℕ → ℕ → ℕ → ℕ → Result Answer Refusal → Stored → Type 0
-Comes old w t x c (Ok a) new =
-    (is_full old.max old.history 1 ≡ false) × (call_event (slice_get (objects old) x) (summary old.history) x t (Some c) ≡ Some (as_event t x c a))
+abbrev pub AnswersCall : Stored → ℕ → ℕ → ℕ → ℕ → Result Answer Refusal → Stored → Type 0
+AnswersCall old w t x c (Ok a) new =
+    (is_history_full old.max old.history 1 ≡ false) × (call_event (slice_get (objects old) x) (summary old.history) x t (Some c) ≡ Some (as_event t x c a))
     × (new ≡ noted old w (as_event t x c a))
-Comes old w t x c (Err r) new =
+AnswersCall old w t x c (Err r) new =
     (new ≡ old)
-    × (((is_full old.max old.history 1 ≡ true) × (r ≡ HistoryFull)) ⊎ ((is_full old.max old.history 1 ≡ false) × (r ≡ NoMemory)))
+    × (((is_history_full old.max old.history 1 ≡ true) × (r ≡ HistoryFull)) ⊎ ((is_history_full old.max old.history 1 ≡ false) × (r ≡ NoMemory)))
 
 -- and so where its answer, which is given, is a
-abbrev pub Gives : Stored → ℕ → ℕ → ℕ → ℕ → Answer → Result (Unit {0}) Refusal → Stored → Type 0
-Gives old w t x c a (Ok given) new = Comes old w t x c (Ok a) new
-Gives old w t x c a (Err r) new = Comes old w t x c (Err r) new
+abbrev pub GivesAnswer : Stored → ℕ → ℕ → ℕ → ℕ → Answer → Result (Unit {0}) Refusal → Stored → Type 0
+GivesAnswer old w t x c a (Ok given) new = AnswersCall old w t x c (Ok a) new
+GivesAnswer old w t x c a (Err r) new = AnswersCall old w t x c (Err r) new
 
 -- what comes of t's call c at x where it is made only if it has this answer
 abbrev pub ComesIf : Stored → ℕ → ℕ → ℕ → ℕ → Answer → Result Bool Refusal → Stored → Type 0
-ComesIf old w t x c a (Ok true) new = Comes old w t x c (Ok a) new
+ComesIf old w t x c a (Ok true) new = AnswersCall old w t x c (Ok a) new
 ComesIf old w t x c a (Ok false) new =
     (call_event (slice_get (objects old) x) (summary old.history) x t (Some c) ≡ Some (as_event t x c a) → ⊥) × (new ≡ old)
-ComesIf old w t x c a (Err r) new = Comes old w t x c (Err r) new
+ComesIf old w t x c a (Err r) new = AnswersCall old w t x c (Err r) new
 
 -- and so of a call that is named, whose number is c: its event is made where it has this answer, else nothing changes
 abbrev pub CallsIf : Stored → ℕ → ℕ → ℕ → List ℕ → ℕ → Answer → Result Bool Refusal → Stored → Type 0
@@ -61,8 +61,8 @@ CallsIf old w t x name c a (Err r) new =
 -- what t's call c at x would come to now, memory aside
 abbrev pub WouldCome : Stored → ℕ → ℕ → ℕ → Result Answer Refusal → Type 0
 WouldCome s t x c (Ok a) =
-    (is_full s.max s.history 1 ≡ false) × (call_event (slice_get (objects s) x) (summary s.history) x t (Some c) ≡ Some (as_event t x c a))
-WouldCome s t x c (Err r) = (is_full s.max s.history 1 ≡ true) × (r ≡ HistoryFull)
+    (is_history_full s.max s.history 1 ≡ false) × (call_event (slice_get (objects s) x) (summary s.history) x t (Some c) ≡ Some (as_event t x c a))
+WouldCome s t x c (Err r) = (is_history_full s.max s.history 1 ≡ true) × (r ≡ HistoryFull)
 
 -- and so of a call that is named: its refusal, or the answer whose event the history defines
 abbrev pub Would : Stored → ℕ → ℕ → List ℕ → Result Answer Refusal → Type 0

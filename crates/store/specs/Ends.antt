@@ -35,12 +35,12 @@ abbrev pub is_limit : ℕ → Bool
 is_limit max = nat_lt 1 max && nat_le max longest_history
 
 -- why no store is made of these objects, memory aside: the first reason that holds
-abbrev pub Refuses : List Meaning → ℕ → NewRefusal → Type 0
-Refuses ms max NoObjects = length ms ≡ 0
-Refuses ms max TooManyObjects = most_objects < length ms
-Refuses ms max NotFresh = (0 < length ms) × (length ms ≤ most_objects) × (AreFresh ms → ⊥)
-Refuses ms max BadMax = (0 < length ms) × (length ms ≤ most_objects) × AreFresh ms × (is_limit max ≡ false)
-Refuses ms max NoMemory = (0 < length ms) × (length ms ≤ most_objects) × AreFresh ms × (is_limit max ≡ true)
+abbrev pub RefusesNew : List Meaning → ℕ → NewRefusal → Type 0
+RefusesNew ms max NoObjects = length ms ≡ 0
+RefusesNew ms max TooManyObjects = most_objects < length ms
+RefusesNew ms max NotFresh = (0 < length ms) × (length ms ≤ most_objects) × (AreFresh ms → ⊥)
+RefusesNew ms max BadMax = (0 < length ms) × (length ms ≤ most_objects) × AreFresh ms × (is_limit max ≡ false)
+RefusesNew ms max NoMemory = (0 < length ms) × (length ms ≤ most_objects) × AreFresh ms × (is_limit max ≡ true)
 
 -- what a store may be made of
 pub record MayBegin (ms : List Meaning) (max : ℕ) : Type 0 where

@@ -7,20 +7,20 @@ use Rattle.store_laws.specs.Stored.{Stored}
 use Rattle.store_laws.specs.Examples.{stored}
 
 -- an event by this worker
-abbrev pub by : ℕ → EventKind → Event
-by w happened = record { worker = w; kind = happened }
+abbrev pub event_by : ℕ → EventKind → Event
+event_by w happened = record { worker = w; kind = happened }
 
 -- two transactions of worker 4, and one of worker 7, which commits
 abbrev pub two_left_open : List Event
-two_left_open = by 4 (Begin 0) ∷ by 7 (Begin 1) ∷ by 4 (Begin 2) ∷ by 7 (Commit 1) ∷ []
+two_left_open = event_by 4 (Begin 0) ∷ event_by 7 (Begin 1) ∷ event_by 4 (Begin 2) ∷ event_by 7 (Commit 1) ∷ []
 
 -- a transaction counts up at the first object while another is open
 abbrev pub up_beside_another : List Event
-up_beside_another = by 4 (Begin 0) ∷ by 4 (Begin 1) ∷ by 4 (Op 0 0 0) ∷ []
+up_beside_another = event_by 4 (Begin 0) ∷ event_by 4 (Begin 1) ∷ event_by 4 (Op 0 0 0) ∷ []
 
 -- a transaction counts up at the first object, and commits
 abbrev pub up_in_place : List Event
-up_in_place = by 7 (Begin 0) ∷ by 7 (Op 0 0 0) ∷ by 7 (Commit 0) ∷ []
+up_in_place = event_by 7 (Begin 0) ∷ event_by 7 (Op 0 0 0) ∷ event_by 7 (Commit 0) ∷ []
 
 -- the two counters with this history, and room for more
 abbrev pub roomy : List Event → Stored

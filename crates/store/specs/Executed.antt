@@ -14,6 +14,6 @@ pub record IsExecuted (t x k : ℕ) (ms now : List Meaning) (rows left : List (O
   pub row : left ≡ changed rows t (pushed x)
 
 -- a reply executes its operation, and any other answer changes nothing
-abbrev pub IsDone : Answer → ℕ → ℕ → List Meaning → List Meaning → List (Option Row) → List (Option Row) → Type 0
-IsDone (answer.Reply k) t x ms now rows left = IsExecuted t x k ms now rows left
-IsDone a t x ms now rows left = (now ≡ ms) × (left ≡ rows)
+abbrev pub ExecutesAnswer : Answer → ℕ → ℕ → List Meaning → List Meaning → List (Option Row) → List (Option Row) → Type 0
+ExecutesAnswer (answer.Reply k) t x ms now rows left = IsExecuted t x k ms now rows left
+ExecutesAnswer a t x ms now rows left = (now ≡ ms) × (left ≡ rows)

@@ -12,8 +12,8 @@ use Rattle.serial_order.specs.declared.refusal.Refusal.TheVariants as refusal
 use Rattle.object_calls.specs.declared.answer.Answer.{Answer}
 use Rattle.store_laws.specs.Stored.{Stored, objects, refusal_of}
 use Rattle.store_laws.specs.Words.{as_event}
-use Rattle.store.specs.declared.stray.Stray.{Stray}
-use Rattle.store.specs.declared.stray.Stray.TheVariants.{NotMade, NoMemory}
+use Rattle.store.specs.declared.event_replay.Stray.{Stray}
+use Rattle.store.specs.declared.event_replay.Stray.TheVariants.{NotMade, NoMemory}
 
 -- some command that isn't refused makes the event
 pub record IsMade (s : Stored) (e : Event) : Type 0 where
@@ -22,12 +22,12 @@ pub record IsMade (s : Stored) (e : Event) : Type 0 where
   pub makes : event_of (objects s) (summary s.history) command ≡ Some e.kind
 
 -- this command isn't refused, and makes the event
-abbrev pub Makes : Stored → Command → EventKind → Type 0
-Makes s command happened = (refusal_of s command ≡ None) × (event_of (objects s) (summary s.history) command ≡ Some happened)
+abbrev pub MakesEvent : Stored → Command → EventKind → Type 0
+MakesEvent s command happened = (refusal_of s command ≡ None) × (event_of (objects s) (summary s.history) command ≡ Some happened)
 
 -- where some command makes the event, t's call c at x does
 abbrev pub IsByCall : Stored → Event → ℕ → ℕ → ℕ → Type 0
-IsByCall s e t x c = IsMade s e → (name : List ℕ) × (call_at (slice_get (objects s) x) name ≡ Some c) × Makes s (Call t x name) e.kind
+IsByCall s e t x c = IsMade s e → (name : List ℕ) × (call_at (slice_get (objects s) x) name ≡ Some c) × MakesEvent s (Call t x name) e.kind
 
 -- the event of an answer without a reply: `None`, or `Busy` with who holds what it waits for. It says the place of its call's first operation
 abbrev pub unreplied : ℕ → ℕ → ℕ → Option ℕ → EventKind
@@ -35,8 +35,8 @@ unreplied t x place None = kind.None t x place
 unreplied t x place (Some u) = kind.Busy place t x u
 
 -- t's call c at x, which is there, has the answer
-abbrev pub IsAnswered : Stored → ℕ → ℕ → ℕ → Answer → Type 0
-IsAnswered s t x c a =
+abbrev pub HasAnswer : Stored → ℕ → ℕ → ℕ → Answer → Type 0
+HasAnswer s t x c a =
     (name : List ℕ) × (call_at (slice_get (objects s) x) name ≡ Some c)
     × (call_event (slice_get (objects s) x) (summary s.history) x t (Some c) ≡ Some (as_event t x c a))
 
@@ -48,9 +48,9 @@ abbrev pub stray_of : Refusal → Stray
 stray_of refusal.NoMemory = NoMemory
 stray_of _ = NotMade
 
-abbrev pub told : {T : Type 0} → Result T Refusal → Result (Unit {0}) Stray
-told (Ok x) = Ok tt
-told (Err r) = Err (stray_of r)
+abbrev pub told_stray : {T : Type 0} → Result T Refusal → Result (Unit {0}) Stray
+told_stray (Ok x) = Ok tt
+told_stray (Err r) = Err (stray_of r)
 
 abbrev pub made_or_stray : Result Bool Refusal → Result (Unit {0}) Stray
 made_or_stray (Ok true) = Ok tt

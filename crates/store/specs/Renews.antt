@@ -25,8 +25,8 @@ pub record AreRenewed (ms now : List Meaning) : Type 0 where
   pub each : (x : ℕ) (m new : Meaning) → slice_get ms x ≡ Some m → slice_get now x ≡ Some new → IsRenewed m new
 
 -- at each state its type may begin
-abbrev pub AreInside : List Meaning → Type 0
-AreInside ms = (x : ℕ) (m : Meaning) (s : ℕ) → slice_get ms x ≡ Some m → state_of m ≡ Some s → IsInside m.checked s
+abbrev pub AreBeginStates : List Meaning → Type 0
+AreBeginStates ms = (x : ℕ) (m : Meaning) (s : ℕ) → slice_get ms x ≡ Some m → state_of m ≡ Some s → IsInside m.checked s
 
 -- ---- a store
 

@@ -16,7 +16,7 @@ pub record HasCalls (types : List Checked) (calls : List (List NamedCall)) : Typ
   pub each : (x : ℕ) (c : Checked) (its : List NamedCall) → slice_get types x ≡ Some c → slice_get calls x ≡ Some its → HoldsCalls c.file.table its
 
 -- what is kept agrees with the history, there are at most 256 objects, and the calls that are held are those of their types
-pub record IsWhole (ms : List Meaning) (calls : List (List NamedCall)) (rows : List (Option Row)) (H : List Event) (capacity max : ℕ) : Type 0 where
+pub record IsWholeStore (ms : List Meaning) (calls : List (List NamedCall)) (rows : List (Option Row)) (H : List Event) (capacity max : ℕ) : Type 0 where
   pub store : IsStore (keeping ms rows) H capacity max
   pub few : length ms ≤ most_objects
   pub known : HasCalls (types_of ms) calls

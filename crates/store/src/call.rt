@@ -1,21 +1,31 @@
-//! Calls of a transaction.
+//! Calls of a transaction, and what comes of them.
 
 ghost use Rattle.std.specs.Prelude.{◌≡◌, ℕ, ◌<◌, List, true, Some, Err, IfOk, IfErr, OnOk, slice_get};
 ghost use Rattle.type_table.specs.Table.{call_of, first_op};
-ghost use Rattle.table_checker.specs.Declarations.{table_of};
+ghost use Rattle.declared_types.specs.Declarations.{table_of};
 ghost use Rattle.object_trait.specs.Object.{object_of};
 ghost use Rattle.serial_order.specs.History.{summary, is_open};
-ghost use Rattle.serial_order.specs.Replay.{call_at};
-ghost use Rattle.serial_order.specs.declared.command.Command.TheVariants as command;
+ghost use Rattle.serial_order.specs.Replay.{call_at, call_event};
 ghost use Rattle.store_laws.specs.Stored.{objects, refusal_of, MayStep};
-ghost use Rattle.store.specs.Calls.{Answers, HasCall, unnumbered, op_call_at};
+ghost use Rattle.store.specs.Calls.{NotesAnswer, HasCall, unnumbered, op_call_at, AnswersCall, GivesAnswer};
+ghost use Rattle.serial_order.specs.Laws.{FirstOpIsLeast, AnswerMayFollow, MachineMayApply};
+ghost use Rattle.serial_order.specs.After.{LogsAreCounted};
+ghost use Rattle.store_laws.specs.Words.{as_event};
+ghost use Rattle.serial_order.specs.declared.command.Command.TheVariants as command;
 
+use crate::execution::do_answer;
+use crate::room::has_room;
 use crate::store::Store;
+use declared_types::DeclaredType;
 use object_calls::{Answer, Call};
-use object_trait::Recovery;
-use serial_order::Refusal;
-use store_laws::rows_say_who_is_open;
-use table_checker::DeclaredType;
+use object_trait::{Event, EventKind, Recovery};
+use serial_order::{
+    Refusal, answer_may_follow, first_op_is_least, logs_are_counted, machine_may_apply,
+};
+use store_laws::{
+    op_moves, quiet_moves, room_after, rows_are_counted, rows_say_who_is_open, stays_kept,
+    types_stay,
+};
 use type_table::Operation;
 
 impl<R: Recovery> Store<R> {
@@ -26,7 +36,7 @@ impl<R: Recovery> Store<R> {
     /// `NotOpen`, `NoObject`, `NoCall`, `HistoryFull`, or `NoMemory`, and the store is as it was.
     pub fn call(&mut self, w: u8, t: u32, x: u32, name: &str) -> Result<Answer, Refusal>
         ensures step { MayStep self.old w (command.Call t x name.now) result self.new }
-        ensures answer { (c : ℕ) → call_at (slice_get (objects self.old) x) name.now ≡ Some c → Answers self.old w t x c result self.new }
+        ensures answer { (c : ℕ) → call_at (slice_get (objects self.old) x) name.now ≡ Some c → NotesAnswer self.old w t x c result self.new }
     {
         self.call_bytes(w, t, x, name.as_bytes())
     }
@@ -38,7 +48,7 @@ impl<R: Recovery> Store<R> {
     /// As `call`.
     pub fn call_bytes(&mut self, w: u8, t: u32, x: u32, name: &[u8]) -> Result<Answer, Refusal>
         ensures step { MayStep self.old w (command.Call t x name.now) result self.new }
-        ensures answer { (c : ℕ) → call_at (slice_get (objects self.old) x) name.now ≡ Some c → Answers self.old w t x c result self.new }
+        ensures answer { (c : ℕ) → call_at (slice_get (objects self.old) x) name.now ≡ Some c → NotesAnswer self.old w t x c result self.new }
     {
         let call = self.named_call(t, x, name)?;
         self.answer(w, t, x as u8, &call)
@@ -52,7 +62,7 @@ impl<R: Recovery> Store<R> {
     #[inline(always)]
     pub fn call_op(&mut self, w: u8, t: u32, x: u32, c: Operation) -> Result<Answer, Refusal>
         ensures step { (name : List ℕ) → call_at (slice_get (objects self.old) x) name ≡ Some c → MayStep self.old w (command.Call t x name) result self.new }
-        ensures answer { Answers self.old w t x c result self.new }
+        ensures answer { NotesAnswer self.old w t x c result self.new }
         ensures unnumbered { ((name : List ℕ) → call_at (slice_get (objects self.old) x) name ≡ Some c → ⊥) → (result ≡ Err (unnumbered self.old t x)) × (self.new ≡ self.old) }
     {
         let call = self.numbered_call(t, x, c)?;
@@ -137,6 +147,57 @@ impl<R: Recovery> Store<R> {
         };
         Ok(object)
     }
+
+    /// Answers t's call at object x, which has it.
+    #[inline(always)]
+    pub(crate) fn answer(&mut self, w: u8, t: u32, x: u8, call: &Call) -> Result<Answer, Refusal>
+        requires still_open { is_open (summary self.old.history) t ≡ true }
+        requires call { HasCall (slice_get (objects self.old) x) call.now }
+        ensures { AnswersCall self.old w t x call.now.first result self.new }
+    {
+        let answer = self.chosen(t, x, call);
+        self.give(w, t, x, call, &answer)?;
+        Ok(answer)
+    }
+
+    /// Gives t's call at object x the answer that it has there.
+    #[inline(always)]
+    pub(crate) fn give(
+        &mut self,
+        w: u8,
+        t: u32,
+        x: u8,
+        call: &Call,
+        answer: &Answer,
+    ) -> Result<(), Refusal>
+        requires still_open { is_open (summary self.old.history) t ≡ true }
+        requires call { HasCall (slice_get (objects self.old) x) call.now }
+        requires chosen { call_event (slice_get (objects self.old) x) (summary self.old.history) x t (Some call.now.first) ≡ Some (as_event t x call.now.first answer.now) }
+        ensures { GivesAnswer self.old w t x call.now.first answer.now result self.new }
+    {
+        rows_say_who_is_open();
+        rows_are_counted();
+        answers_are_known();
+        quiet_moves();
+        op_moves();
+        stays_kept();
+        room_after();
+        types_stay();
+        let opened = self.transactions.open_count();
+        if !has_room(self.forgotten, &self.history, opened, 1, self.max_events) {
+            return Err(Refusal::HistoryFull);
+        }
+        if self.history.reserve(opened as usize + 1).is_err() {
+            return Err(Refusal::NoMemory);
+        }
+        let done = do_answer(&mut self.objects, &mut self.transactions, t, x, answer);
+        if done.is_err() {
+            return Err(Refusal::NoMemory);
+        }
+        let kind = kind_of(answer, t, u32::from(x), call.first);
+        self.history.push_reserved(Event { worker: w, kind });
+        Ok(())
+    }
 }
 
 /// The number of the call of operation k of the type that is declared so.
@@ -145,4 +206,33 @@ fn call_of_operation(declared: &DeclaredType, k: Operation) -> Option<Operation>
 {
     let op = declared.op(k)?;
     declared.first_op(op.call.as_bytes())
+}
+
+/// What is known of the answer of a call: its event may follow, and its operation may be executed.
+fn answers_are_known()
+    ensures least { FirstOpIsLeast }
+    ensures follows { AnswerMayFollow }
+    ensures applies { MachineMayApply }
+    ensures counted { LogsAreCounted }
+{
+    first_op_is_least();
+    answer_may_follow();
+    machine_may_apply();
+    logs_are_counted();
+}
+
+/// The event of an answer of t's call c at object x.
+fn kind_of(answer: &Answer, t: u32, x: u32, c: Operation) -> EventKind
+    ensures { result ≡ as_event t x c answer.now }
+{
+    match *answer {
+        Answer::Reply(k) => EventKind::Op { t, x, k },
+        Answer::Busy(u) => EventKind::Busy {
+            c: c.place(),
+            t,
+            x,
+            u,
+        },
+        Answer::None => EventKind::None { t, x, c: c.place() },
+    }
 }

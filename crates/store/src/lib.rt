@@ -1,34 +1,23 @@
 //! Transactions over many shared objects.
 #![tactic(auto)]
 
-mod answer;
-mod begin;
 mod call;
-mod close;
-mod ends;
-mod executing;
-mod expected;
-mod following;
-mod forget;
+mod call_tables;
+mod conditional_call;
+mod current_answer;
+mod event_replay;
+mod execution;
 mod laws;
-mod parts;
 mod past;
 mod refusals;
-mod renew;
-mod renewed;
-mod replaying;
-mod rollback;
+mod renewed_objects;
 mod room;
 mod store;
-mod stray;
-mod would;
 
-pub use following::follow;
+pub use event_replay::{ReplayFault, Stray, follow, replay};
 pub use laws::renewals_are_serial;
 pub use object_calls::Answer;
 pub use refusals::{NewRefusal, RenewRefusal};
-pub use replaying::{ReplayFault, replay};
 pub use store::Store;
-pub use stray::Stray;
 
 pub mod worked;

@@ -1,27 +1,41 @@
-//! The store, and what is read of it.
+//! The store: what is read of it, how its transactions begin and end, its own end, and the epoch after it.
 
-ghost use Rattle.std.specs.Prelude.{◌≡◌, ◌≤◌, [], map, length, drop, nat_lt, slice_get, is_some, Some, IfOk, IfErr, IfSome};
-ghost use Rattle.serial_order.specs.History.{begins, summary};
+ghost use Rattle.std.specs.Prelude.{◌≡◌, ◌≤◌, [], map, length, drop, nat_lt, slice_get, is_some, Some, IfOk, IfErr, IfSome, ◌+◌, ◌-◌, min, vec_len, vec_capacity, ℕ, ◌∷◌, ◌++◌, true, false, ◌&&◌};
+ghost use Rattle.serial_order.specs.History.{begins, summary, is_open};
 ghost use Rattle.serial_order.specs.Laws.{AreChecked};
 ghost use Rattle.serial_order.specs.Machine.{IsRun};
 ghost use Rattle.serial_order.specs.Replay.{open_count};
 ghost use Rattle.serial_order.specs.Serial.{IsSerial};
-ghost use Rattle.store_laws.specs.Stored.{objects, types_of};
-ghost use Rattle.store.specs.Ends.{MayBegin, Refuses};
+ghost use Rattle.store_laws.specs.Stored.{objects, types_of, MayStep, Steps};
+ghost use Rattle.store.specs.Ends.{MayBegin, RefusesNew, end_command, closing, closing_abort, closing_but, is_other, IsHandedOut};
 ghost use Rattle.store.specs.KeptState.{IsKeptState};
+ghost use Rattle.store_laws.specs.Events.{end_event};
+ghost use Rattle.object_trait.specs.Meaning.{Meaning};
+ghost use Rattle.serial_order.specs.Operations.{is_among};
+ghost use Rattle.store.specs.Renews.{RefusesRenew, Renews};
+ghost use Rattle.serial_order.specs.declared.command.Command.TheVariants as command;
 
-use crate::parts::checked_calls;
+use crate::call_tables::checked_calls;
 use crate::past::Past;
-use crate::refusals::NewRefusal;
-use object_calls::CallTable;
-use object_trait::{Event, Recovery, Renew};
+use crate::refusals::{NewRefusal, RenewRefusal};
+use crate::renewed_objects::renewed_objects;
+use crate::room::has_room;
+use object_calls::{CallTable, End, end_at, strike_at};
+use object_trait::{Event, EventKind, Recovery, Renew};
 use open_transactions::OpenTransactions;
-use serial_order::checked_headline;
-use std::alloc::Global;
+use serial_order::{
+    Refusal, beginners_after, checked_headline, closed_is_epoch, idle_is_closed, opens_after,
+    run_goes_on, states_are_inside, summary_after, transactions_in_run,
+};
+use std::alloc::{AllocError, Global};
 use std::marker::Model;
-use store_laws::{new_is_kept, rows_are_counted};
+use store_laws::{
+    begin_moves, end_moves, has_what_is_struck, new_is_kept, places_are_counted, places_are_few,
+    places_are_inside, rollback_moves, room_after, rows_are_counted, rows_are_few,
+    rows_say_who_is_open, stays_kept, types_stay,
+};
 use table_checker::CheckedType;
-use type_table::runs_along;
+use type_table::{MOST_OPEN, runs_along};
 
 /// Transactions over shared objects, each of which has a checked type and a way of recovering from
 /// aborts.
@@ -46,7 +60,7 @@ pub struct Store<R: Recovery> {
 impl<R: Recovery> Model for Store<R> {
     ghost use Rattle.std.specs.Prelude.{◌≡◌, ◌+◌, ◌++◌, map, length, vec_capacity};
     ghost use Rattle.store_laws.specs.Stored.{Stored, types_of};
-    ghost use Rattle.store.specs.Whole.{IsWhole};
+    ghost use Rattle.store.specs.Whole.{IsWholeStore};
 
     ghost Value = { Stored };
 
@@ -57,7 +71,7 @@ impl<R: Recovery> Model for Store<R> {
       forgotten = s.forgotten;
     } };
 
-    ghost invariant = { λ s. (s.forgotten ≡ length s.past.items) × IsWhole (map R.meaning s.objects.items) s.calls.items s.transactions.rows (s.past.items ++ s.history.items) (s.forgotten + vec_capacity s.history) s.max_events };
+    ghost invariant = { λ s. (s.forgotten ≡ length s.past.items) × IsWholeStore (map R.meaning s.objects.items) s.calls.items s.transactions.rows (s.past.items ++ s.history.items) (s.forgotten + vec_capacity s.history) s.max_events };
 }
 
 impl<R: Recovery> Store<R> {
@@ -74,7 +88,7 @@ impl<R: Recovery> Store<R> {
     ) -> Result<Store<R>, (Vec<R>, NewRefusal)>
         ensures made { IfOk result (λ s. MayBegin (map R.meaning objects.items) max_events
             × (s ≡ record { types = types_of (map R.meaning objects.items); history = []; max = max_events; forgotten = 0 })) }
-        ensures refused { IfErr result (λ e. Refuses (map R.meaning objects.items) max_events e.1) }
+        ensures refused { IfErr result (λ e. RefusesNew (map R.meaning objects.items) max_events e.1) }
         ensures back { IfErr result (λ e. e.0.items ≡ objects.items) }
     {
         new_is_kept();
@@ -144,6 +158,240 @@ impl<R: Recovery> Store<R> {
         let object = self.objects.get(x as usize)?;
         Some(object.state())
     }
+
+    /// How many events there were, forgotten ones too.
+    pub fn event_count(&self) -> u32
+        ensures exact { result ≡ length self.now.history }
+        ensures within { self.now.forgotten ≤ result }
+    {
+        // (read for its range, which the sum is within)
+        let _max = self.max_events;
+        self.forgotten + self.history.len() as u32
+    }
+
+    /// Lets go of the first n events that are in memory, or of all where there are fewer: contracts go on
+    /// to speak of them, but `history` doesn't have them. It takes no memory.
+    pub fn forget(&mut self, n: usize)
+        ensures { self.new ≡ record self.old { forgotten = min (self.old.forgotten + n) (length self.old.history) } }
+    {
+        let count = n.min(self.history.len());
+        self.past.add(&self.history[..count]);
+        self.forgotten += count as u32;
+        remove_front(&mut self.history, count);
+    }
+
+    /// Begins a transaction, as worker w. Its number is the number of transactions before it.
+    ///
+    /// # Errors
+    ///
+    /// `TooManyOpen`, `HistoryFull`, or `NoMemory`, and the store is as it was.
+    #[inline(always)]
+    pub fn begin(&mut self, w: u8) -> Result<u32, Refusal>
+        ensures number { IfOk result (λ t. t ≡ begins self.old.history) }
+        ensures step { MayStep self.old w command.Begin result self.new }
+    {
+        rows_are_counted();
+        rows_are_few();
+        begin_moves();
+        stays_kept();
+        room_after();
+        types_stay();
+        let opened = self.transactions.open_count();
+        if opened >= MOST_OPEN {
+            return Err(Refusal::TooManyOpen);
+        }
+        if !has_room(self.forgotten, &self.history, opened, 2, self.max_events) {
+            return Err(Refusal::HistoryFull);
+        }
+        if self.history.reserve(opened as usize + 2).is_err() {
+            return Err(Refusal::NoMemory);
+        }
+        if self.transactions.reserve_begin().is_err() {
+            return Err(Refusal::NoMemory);
+        }
+        let t = self.transactions.begin(w);
+        self.history.push_reserved(Event {
+            worker: w,
+            kind: EventKind::Begin { t },
+        });
+        Ok(t)
+    }
+
+    /// Strikes the last n surviving operations of transaction t, over all objects together, as worker w.
+    /// The transaction stays open.
+    ///
+    /// # Errors
+    ///
+    /// `NotOpen`, `BadRollback`, `HistoryFull`, or `NoMemory`, and the store is as it was.
+    pub fn rollback(&mut self, w: u8, t: u32, n: u32) -> Result<(), Refusal>
+        ensures { MayStep self.old w (command.Rollback t n) result self.new }
+    {
+        rows_say_who_is_open();
+        rows_are_counted();
+        places_are_counted();
+        places_are_few();
+        places_are_inside();
+        has_what_is_struck();
+        rollback_moves();
+        stays_kept();
+        room_after();
+        types_stay();
+        if !self.transactions.is_open(t) {
+            return Err(Refusal::NotOpen);
+        }
+        let places = self.transactions.places(t);
+        let living = places.len() as u32;
+        if n == 0 || n > living {
+            return Err(Refusal::BadRollback);
+        }
+        let opened = self.transactions.open_count();
+        if !has_room(self.forgotten, &self.history, opened, 1, self.max_events) {
+            return Err(Refusal::HistoryFull);
+        }
+        if self.history.reserve(opened as usize + 1).is_err() {
+            return Err(Refusal::NoMemory);
+        }
+        let left = living - n;
+        strike_at(&mut self.objects, &places[left as usize..], t);
+        self.transactions.keep_places(t, left);
+        self.history.push_reserved(Event {
+            worker: w,
+            kind: EventKind::Rollback { t, n },
+        });
+        Ok(())
+    }
+
+    /// Commits transaction t, as worker w. It takes no memory, and always succeeds where t is open.
+    ///
+    /// # Errors
+    ///
+    /// `NotOpen`, and the store is as it was.
+    #[inline(always)]
+    pub fn commit(&mut self, w: u8, t: u32) -> Result<(), Refusal>
+        ensures { Steps self.old w (command.Commit t) result self.new }
+    {
+        self.end(w, t, End::Commit)
+    }
+
+    /// Aborts transaction t, as worker w: all its operations are struck. It takes no memory, and
+    /// always succeeds where t is open.
+    ///
+    /// # Errors
+    ///
+    /// `NotOpen`, and the store is as it was.
+    pub fn abort(&mut self, w: u8, t: u32) -> Result<(), Refusal>
+        ensures { Steps self.old w (command.Abort t) result self.new }
+    {
+        self.end(w, t, End::Abort)
+    }
+
+    /// Ends transaction t, as worker w.
+    #[inline(always)]
+    fn end(&mut self, w: u8, t: u32, how: End) -> Result<(), Refusal>
+        ensures { Steps self.old w (end_command how t) result self.new }
+    {
+        rows_say_who_is_open();
+        rows_are_counted();
+        places_are_inside();
+        end_moves();
+        stays_kept();
+        room_after();
+        types_stay();
+        if !self.transactions.is_open(t) {
+            return Err(Refusal::NotOpen);
+        }
+        end_at(&mut self.objects, self.transactions.places(t), t, how);
+        self.transactions.end(t);
+        let kind = kind_of_end(how, t);
+        self.history.push_reserved(Event { worker: w, kind });
+        Ok(())
+    }
+
+    /// Aborts each open transaction, in ascending order of numbers, as the worker that began it, and
+    /// hands out the history and the objects, in their order. None of them has an open entry.
+    pub fn close(mut self) -> (Vec<Event>, Vec<R>)
+        ensures history { result.0.items ≡ drop self.forgotten (self.history ++ closing self.history) }
+        ensures run { IsRun (objects self) (self.history ++ closing self.history) }
+        ensures types { types_of (map R.meaning result.1.items) ≡ self.types }
+        ensures objects { (x : ℕ) (m : Meaning) → slice_get (map R.meaning result.1.items) x ≡ Some m → IsHandedOut m x (self.history ++ closing self.history) }
+    {
+        idle_is_closed();
+        self.abort_all();
+        let Store {
+            objects,
+            calls: _,
+            transactions: _,
+            past: _,
+            forgotten: _,
+            history,
+            max_events: _,
+        } = self;
+        (history, objects)
+    }
+
+    /// Aborts each open transaction, in ascending order of numbers, as the worker that began it. It
+    /// takes no memory.
+    pub fn abort_all(&mut self)
+        ensures aborts { self.new ≡ record self.old { history = self.old.history ++ closing self.old.history } }
+        ensures none { (t : ℕ) → is_open (summary self.new.history) t ≡ false }
+    {
+        self.abort_all_but(&[]);
+    }
+
+    /// Aborts each open transaction but those, in ascending order of numbers, as the worker that began
+    /// it. It takes no memory.
+    pub fn abort_all_but(&mut self, those: &[u32])
+        ensures aborts { self.new ≡ record self.old { history = self.old.history ++ closing_but those.now self.old.history } }
+        ensures left { (t : ℕ) → is_open (summary self.new.history) t ≡ (is_among those.now t && is_open (summary self.old.history) t) }
+    {
+        rows_say_who_is_open();
+        run_goes_on();
+        summary_after();
+        transactions_in_run();
+        opens_after();
+        beginners_after();
+        for t in self.transactions.oldest()..self.transactions.begun() {
+            self.abort_other(those, t);
+        }
+    }
+
+    /// Aborts t where it is open and none of those.
+    fn abort_other(&mut self, those: &[u32], t: u32)
+        ensures aborts { is_other those.now (summary self.old.history) t ≡ true → self.new ≡ record self.old { history = self.old.history ++ closing_abort self.old.history t ∷ [] } }
+        ensures stays { is_other those.now (summary self.old.history) t ≡ false → self.new ≡ self.old }
+    {
+        if !is_among(those, t) {
+            self.abort_open(t);
+        }
+    }
+
+    /// Aborts t where it is open, as the worker that began it.
+    fn abort_open(&mut self, t: u32)
+        ensures aborts { is_open (summary self.old.history) t ≡ true → self.new ≡ record self.old { history = self.old.history ++ closing_abort self.old.history t ∷ [] } }
+        ensures stays { is_open (summary self.old.history) t ≡ false → self.new ≡ self.old }
+    {
+        rows_say_who_is_open();
+        if self.transactions.is_open(t) {
+            let w = self.transactions.worker(t);
+            // t is open, so it isn't refused
+            let _ = self.abort(w, t);
+        }
+    }
+
+    /// Whether a transaction is open.
+    pub(crate) fn has_open(&self) -> bool
+        ensures some { result ≡ true → (t : ℕ) × (is_open (summary self.now.history) t ≡ true) }
+        ensures none { result ≡ false → (t : ℕ) → is_open (summary self.now.history) t ≡ false }
+        ensures closed { result ≡ false → self.now.history ++ closing self.now.history ≡ self.now.history }
+    {
+        rows_say_who_is_open();
+        run_goes_on();
+        summary_after();
+        transactions_in_run();
+        opens_after();
+        beginners_after();
+        self.transactions.oldest() < self.transactions.begun()
+    }
 }
 
 impl<R: Renew> Store<R> {
@@ -155,4 +403,76 @@ impl<R: Renew> Store<R> {
         let object = self.objects.get(x as usize)?;
         Some(object.checked())
     }
+
+    /// Begins an epoch: a store of the same types at the states that were kept, with no event yet and the
+    /// same limit of events, beside the events of this one that weren't forgotten. The objects of this one are let go.
+    ///
+    /// # Errors
+    ///
+    /// `StillOpen` where a transaction is open, or `NoMemory`, and the store comes back as it was.
+    pub fn renew(self, alloc: Global) -> Result<(Store<R>, Vec<Event>), (Store<R>, RenewRefusal)>
+        ensures renewed { IfOk result (λ p. Renews self p.0) }
+        ensures history { IfOk result (λ p. p.1.items ≡ drop self.forgotten self.history) }
+        ensures back { IfErr result (λ e. e.0 ≡ self) }
+        ensures refused { IfErr result (λ e. RefusesRenew self e.1) }
+    {
+        if self.has_open() {
+            return Err((self, RenewRefusal::StillOpen));
+        }
+        match self.renewed(alloc) {
+            Ok(store) => {
+                let (history, _objects) = self.close();
+                Ok((store, history))
+            }
+            Err(AllocError) => Err((self, RenewRefusal::NoMemory)),
+        }
+    }
+
+    /// A store of the same types at the states that this one keeps, in which no transaction is open.
+    ///
+    /// # Errors
+    ///
+    /// Memory was refused.
+    fn renewed(&self, alloc: Global) -> Result<Store<R>, AllocError>
+        requires { (t : ℕ) → is_open (summary self.now.history) t ≡ false }
+        ensures { IfOk result (λ store. Renews self.now store) }
+    {
+        checked_headline();
+        runs_along();
+        closed_is_epoch();
+        states_are_inside();
+        let objects = renewed_objects(alloc, &self.objects)?;
+        match Store::new(alloc, objects, self.max_events) {
+            Ok(store) => Ok(store),
+            Err(_) => Err(AllocError),
+        }
+    }
+}
+
+/// Takes out the first n events.
+fn remove_front(history: &mut Vec<Event>, n: usize)
+    requires { n ≤ length history.old.items }
+    ensures items { history.new.items ≡ drop n history.old.items }
+    ensures capacity { vec_capacity history.new ≡ vec_capacity history.old }
+{
+    let len = history.len();
+    history.copy_within(n..len, 0);
+    history.truncate(len - n);
+}
+
+/// The event of an end of t.
+fn kind_of_end(how: End, t: u32) -> EventKind
+    ensures { result ≡ end_event how t }
+{
+    match how {
+        End::Commit => EventKind::Commit { t },
+        End::Abort => EventKind::Abort { t },
+    }
+}
+
+/// Whether t is one of those.
+fn is_among(those: &[u32], t: u32) -> bool
+    ensures { result ≡ is_among those.now t }
+{
+    those.contains(&t)
 }

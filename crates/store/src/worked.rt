@@ -4,19 +4,18 @@
 ghost use Rattle.std.specs.Prelude.{◌≡◌, ◌<◌, List, ◌++◌, [], ◌∷◌, length, take, drop, true, false, Ok, Err, codes};
 ghost use Rattle.object_trait.specs.Meaning.{Meaning};
 ghost use Rattle.object_trait.specs.Examples.{held, counter_at};
-ghost use Rattle.store_laws.specs.Examples.{stored, new_counters, counted, one_up, one_back, undo_counter, deferred_counter};
-ghost use Rattle.store.specs.Calls.{Answers, CallsIf, Would, unnumbered};
-ghost use Rattle.store.specs.Ends.{closing, is_limit, Refuses, IsHandedOut};
+ghost use Rattle.store_laws.specs.Examples.{stored, new_counters, counted, one_up, one_back, undo_counter_type, deferred_counter_type};
+ghost use Rattle.store.specs.Calls.{NotesAnswer, CallsIf, Would, unnumbered};
+ghost use Rattle.store.specs.Ends.{closing, is_limit, RefusesNew, IsHandedOut};
 ghost use Rattle.store.specs.KeptState.{IsKeptState};
-ghost use Rattle.store.specs.Examples.{by, roomy, two_left_open, up_beside_another, up_in_place};
+ghost use Rattle.store.specs.Examples.{event_by, roomy, two_left_open, up_beside_another, up_in_place};
 ghost use Rattle.store.specs.Follows.{Follows, IsMade};
 ghost use Rattle.store.specs.Replays.{Replays};
 ghost use Rattle.store.specs.Renews.{Renews, RefusesRenew};
 
+use crate::event_replay::{ReplayFault, Stray};
 use crate::refusals::{NewRefusal, RenewRefusal};
-use crate::replaying::ReplayFault;
 use crate::store::Store;
-use crate::stray::Stray;
 use object_calls::Answer;
 use object_trait::{EventKind, Recovery};
 use serial_order::Refusal;
@@ -25,7 +24,7 @@ use type_table::Kind;
 /// The end of a store aborts the open transactions in ascending order, each by the worker that began
 /// it.
 pub fn the_open_are_aborted_in_order()
-    ensures { closing two_left_open ≡ by 4 (EventKind.Abort 0) ∷ by 4 (EventKind.Abort 2) ∷ [] }
+    ensures { closing two_left_open ≡ event_by 4 (EventKind.Abort 0) ∷ event_by 4 (EventKind.Abort 2) ∷ [] }
 {}
 
 /// A history may have at least 2 events, and at most 4,294,967,295.
@@ -38,15 +37,15 @@ pub fn limits_have_a_range()
 
 /// That there is no object comes before any other reason.
 pub fn no_objects_is_the_first_reason()
-    ensures { Refuses [] 1 NewRefusal.NoObjects }
+    ensures { RefusesNew [] 1 NewRefusal.NoObjects }
 {}
 
 /// Where one reason holds, none that comes later is given.
 pub fn no_later_reason_is_given()
-    ensures no_objects { Refuses [] 1 NewRefusal.BadMax → ⊥ }
-    ensures too_many { (ms : List Meaning) → 256 < length ms → Refuses ms 1 NewRefusal.NotFresh → ⊥ }
-    ensures not_fresh { Refuses counted.meanings 1 NewRefusal.BadMax → ⊥ }
-    ensures bad_max { Refuses new_counters.meanings 1 NewRefusal.NoMemory → ⊥ }
+    ensures no_objects { RefusesNew [] 1 NewRefusal.BadMax → ⊥ }
+    ensures too_many { (ms : List Meaning) → 256 < length ms → RefusesNew ms 1 NewRefusal.NotFresh → ⊥ }
+    ensures not_fresh { RefusesNew counted.meanings 1 NewRefusal.BadMax → ⊥ }
+    ensures bad_max { RefusesNew new_counters.meanings 1 NewRefusal.NoMemory → ⊥ }
 {}
 
 /// An object with an open entry isn't handed out, also where it represents the history.
@@ -61,9 +60,9 @@ pub fn a_state_may_not_be_the_kept_one()
 
 /// Each event says its answer.
 pub fn an_answer_is_told_by_its_event()
-    ensures reply { Answers (stored two_left_open) 9 0 1 0 (Ok (Answer.Reply 0)) (stored (two_left_open ++ by 9 (EventKind.Op 0 0 1) ∷ [])) }
-    ensures busy { Answers (stored two_left_open) 9 2 1 0 (Ok (Answer.Busy 0)) (stored (two_left_open ++ by 9 (EventKind.Busy 0 2 1 0) ∷ [])) }
-    ensures none { Answers (stored two_left_open) 9 2 1 1 (Ok Answer.None) (stored (two_left_open ++ by 9 (EventKind.None 2 1 1) ∷ [])) }
+    ensures reply { NotesAnswer (stored two_left_open) 9 0 1 0 (Ok (Answer.Reply 0)) (stored (two_left_open ++ event_by 9 (EventKind.Op 0 0 1) ∷ [])) }
+    ensures busy { NotesAnswer (stored two_left_open) 9 2 1 0 (Ok (Answer.Busy 0)) (stored (two_left_open ++ event_by 9 (EventKind.Busy 0 2 1 0) ∷ [])) }
+    ensures none { NotesAnswer (stored two_left_open) 9 2 1 1 (Ok Answer.None) (stored (two_left_open ++ event_by 9 (EventKind.None 2 1 1) ∷ [])) }
 {}
 
 /// A number that is that of no call is refused for the transaction first, then for the object.
@@ -76,17 +75,17 @@ pub fn a_number_of_no_call_is_refused()
 /// An event is made where a command makes it: of a transaction that ended nothing does.
 #[tactic(auto, unfolding(type_table::specs::Table::next))]
 pub fn an_event_is_made_or_not()
-    ensures made { IsMade (stored (take 1 one_up)) (by 7 (EventKind.Op 0 0 1)) }
-    ensures ended { IsMade (stored one_up) (by 7 (EventKind.Commit 0)) → ⊥ }
-    ensures another { IsMade (stored (take 1 one_up)) (by 7 (EventKind.Op 1 0 1)) → ⊥ }
+    ensures made { IsMade (stored (take 1 one_up)) (event_by 7 (EventKind.Op 0 0 1)) }
+    ensures ended { IsMade (stored one_up) (event_by 7 (EventKind.Commit 0)) → ⊥ }
+    ensures another { IsMade (stored (take 1 one_up)) (event_by 7 (EventKind.Op 1 0 1)) → ⊥ }
 {}
 
 /// A store that follows an event has it after the others, or is as it was.
 pub fn a_store_follows_or_stays()
-    ensures follows { Follows (stored (take 1 one_up)) (by 7 (EventKind.Op 0 0 1)) (Ok tt) (stored (take 2 one_up)) }
-    ensures stays { Follows (stored one_up) (by 7 (EventKind.Commit 0)) (Err Stray.NotMade) (stored one_up) }
-    ensures not_without_it { Follows (stored (take 1 one_up)) (by 7 (EventKind.Op 0 0 1)) (Ok tt) (stored (take 1 one_up)) → ⊥ }
-    ensures not_for_nothing { Follows (stored (take 1 one_up)) (by 7 (EventKind.Op 0 0 1)) (Err Stray.NotMade) (stored (take 1 one_up)) → ⊥ }
+    ensures follows { Follows (stored (take 1 one_up)) (event_by 7 (EventKind.Op 0 0 1)) (Ok tt) (stored (take 2 one_up)) }
+    ensures stays { Follows (stored one_up) (event_by 7 (EventKind.Commit 0)) (Err Stray.NotMade) (stored one_up) }
+    ensures not_without_it { Follows (stored (take 1 one_up)) (event_by 7 (EventKind.Op 0 0 1)) (Ok tt) (stored (take 1 one_up)) → ⊥ }
+    ensures not_for_nothing { Follows (stored (take 1 one_up)) (event_by 7 (EventKind.Op 0 0 1)) (Err Stray.NotMade) (stored (take 1 one_up)) → ⊥ }
 {
     an_event_is_made_or_not();
 }

@@ -1,7 +1,7 @@
 -- The answer to a history that was read.
 use Rattle.std.proofs.Common.{◌≡◌, ◌≢◌, ◌∙◌, ℕ, List, Result, Ok, Err, subst}
 use Rattle.type_table.specs.Table.{Table}
-use Rattle.table_checker.specs.declared.declared_type.Declaration.{Declaration}
+use Rattle.declared_types.specs.declared.declared_type.Declaration.{Declaration}
 use Rattle.object_trait.specs.declared.event.Event.{Event}
 use Rattle.store_text.specs.declared.line.ObjectLine.{ObjectLine}
 use Rattle.history_text.specs.declared.history_file.HistoryFile.{HistoryFile}

@@ -1,6 +1,6 @@
 -- What comes of a command that a part of it refused.
 use Rattle.std.proofs.Common.{◌≡◌, ℕ, List, Option, Result, Ok, Err, IsErrAnd, subst, sym}
-use Rattle.command_files.specs.Answers.{Answers, ComesOr, Faults, Refuses}
+use Rattle.command_files.specs.Answers.{Answers, ComesOr, Faults, IsEarlyFault}
 use Rattle.command_files.specs.declared.fault.Fault.{Fault}
 use Rattle.command_files.specs.declared.status.Verdict.{Verdict}
 use Rattle.command_files.proofs.Comes.{refuses}
@@ -13,5 +13,5 @@ exits whole begun answers bad (Err d) e old new is faults = subst (λ (x : Fault
 
 -- one before anything was written
 pub exits_early : (whole begun : List ℕ → Type 0) (answers : Answers) (bad bad' : Type 0) (r : Result Verdict Fault) (e : Fault) (old : Option (List ℕ)) → IsErrAnd r (λ d. d ≡ e)
-    → (bad → bad') → Refuses bad e → ComesOr whole begun answers bad' r old old
+    → (bad → bad') → IsEarlyFault bad e → ComesOr whole begun answers bad' r old old
 exits_early whole begun answers bad bad' r e old is worse refused = exits whole begun answers bad' r e old old is (refuses whole begun bad bad' old e worse refused)

@@ -3,7 +3,7 @@ use Rattle.std.proofs.Common.{◌≡◌, ℕ, List, Option, IfSome, subst}
 use Rattle.table_checker.specs.Checked.{Checked}
 use Rattle.table_checker.specs.declared.refusal.CheckRefusal.{CheckRefusal}
 use Rattle.store_text.specs.declared.line.ObjectLine.{ObjectLine}
-use Rattle.store_files.specs.ObjectTypes.{AreTypesAt, HasNoEscrow, HasNoType, HasTypeFault, IsRefusedAt, in_type, no_escrow, no_type}
+use Rattle.store_files.specs.ObjectTypes.{AreTypesAt, HasNoEscrow, HasNoType, HasTypeFault, IsRefusedObject, in_type, no_escrow, no_type}
 use Rattle.store_files.specs.Types.{AreReadAt, Held, IsFirstFaultyOf}
 
 module _ (holds later : Held) (kept : (other : List ℕ) → later other ≡ holds other) where
@@ -27,8 +27,8 @@ module _ (holds later : Held) (kept : (other : List ℕ) → later other ≡ hol
   pub types_kept : (words : List (List ℕ)) (objects : List ObjectLine) (types : List Checked) → AreTypesAt later words objects types → AreTypesAt holds words objects types
   types_kept words objects types at = record { declared = at.declared; held = files_kept words at.declared at.held; fit = at.fit; are = at.are }
 
-  pub refused_kept : (words : List (List ℕ)) (objects : List ObjectLine) (x : ℕ) (refusal : CheckRefusal) → IsRefusedAt later words objects x refusal
-      → IsRefusedAt holds words objects x refusal
+  pub refused_kept : (words : List (List ℕ)) (objects : List ObjectLine) (x : ℕ) (refusal : CheckRefusal) → IsRefusedObject later words objects x refusal
+      → IsRefusedObject holds words objects x refusal
   refused_kept words objects x refusal at = record { declared = at.declared; held = files_kept words at.declared at.held; first = at.first }
 
   no_type_kept : (words : List (List ℕ)) (objects : List ObjectLine) → HasNoType later words objects → HasNoType holds words objects

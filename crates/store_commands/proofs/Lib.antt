@@ -7,7 +7,7 @@ pub mod Kept
 pub mod Passed
 pub mod Runs
 pub mod Works
-pub mod Reading
+pub mod RunTexts
 pub mod OpRanges
 pub mod RunsRead
 pub mod WorksRead

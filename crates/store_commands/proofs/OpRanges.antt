@@ -10,14 +10,14 @@ use Rattle.type_table.specs.Operation.{amount_by, place_of}
 use Rattle.type_table.specs.Table.{Table, IsTable, call_of}
 use Rattle.type_table.specs.declared.op.Op.{Op}
 use Rattle.type_table.proofs.Elements.{element_at}
-use Rattle.number_text.specs.NumberFile.{Number, IsNumber}
-use Rattle.number_text.specs.Operations.{op_at}
-use Rattle.number_text.specs.declared.number_op.NumberOp.{NumberOp}
-use Rattle.number_text.proofs.Tables.{below_count, found, has_what_is_there}
+use Rattle.number_types.specs.Number.{Number, IsNumber}
+use Rattle.number_types.specs.Operations.{op_at}
+use Rattle.number_types.specs.declared.number_op.NumberOp.{NumberOp}
+use Rattle.number_types.proofs.Tables.{below_count, found, has_what_is_there}
 use Rattle.table_checker.specs.Checked.{Checked}
-use Rattle.table_checker.specs.Declarations.{table_of, IsFitDeclaration}
-use Rattle.table_checker.specs.declared.declared_type.Declaration.{Declaration}
-use Rattle.table_checker.specs.declared.declared_type.Declaration.TheVariants as declared
+use Rattle.declared_types.specs.Declarations.{table_of, IsFitDeclaration}
+use Rattle.declared_types.specs.declared.declared_type.Declaration.{Declaration}
+use Rattle.declared_types.specs.declared.declared_type.Declaration.TheVariants as declared
 use Rattle.store_text.specs.declared.line.ObjectLine.{ObjectLine}
 use Rattle.object_types.specs.Types.{AreTypesOf}
 use Rattle.script_run.specs.Laws.{AreOpsInRange, IsOpInRange}

@@ -11,7 +11,7 @@ use Rattle.history_audit.specs.declared.outcome.Audit.{Audit}
 use Rattle.history_audit.specs.declared.outcome.AuditFault.{AuditFault}
 use Rattle.history_audit.specs.declared.outcome.AuditFault.TheVariants.{BadEvent, IllegalOp, NoMemory}
 use Rattle.object_types.specs.Types.{value_of}
-use Rattle.store_commands.specs.Passing.{HasSerialRun, IsPassed, table_of, tables}
+use Rattle.store_commands.specs.StoreAudit.{HasSerialRun, IsPassed, table_of_checked, tables}
 
 -- the tables of objects are those of their types
 pub tables_of_objects : (types : List Checked) → map (λ (o : Object). o.table) (map object_of types) ≡ map (λ (c : Checked). c.file.table) types
@@ -19,9 +19,9 @@ tables_of_objects [] = refl
 tables_of_objects (c ∷ types) = ap (λ (ts : List Table). c.file.table ∷ ts) (tables_of_objects types)
 
 -- and those behind pointers
-pub tables_of_types : {A : Type 0} (types : List (Arc Checked A)) → map (λ (c : Checked). c.file.table) (map value_of types) ≡ map table_of types
+pub tables_of_types : {A : Type 0} (types : List (Arc Checked A)) → map (λ (c : Checked). c.file.table) (map value_of types) ≡ map table_of_checked types
 tables_of_types [] = refl
-tables_of_types (c ∷ types) = ap (λ (ts : List Table). table_of c ∷ ts) (tables_of_types types)
+tables_of_types (c ∷ types) = ap (λ (ts : List Table). table_of_checked c ∷ ts) (tables_of_types types)
 
 -- the audit of a serial history passes
 pub passed : (s : Stored) (outcome : Result Audit AuditFault) → Audits (tables s) s.history outcome → Passes outcome → HasSerialRun s → IsPassed s outcome

@@ -7,8 +7,8 @@ use Rattle.outputs.specs.declared.out.OutFault.{OutFault}
 use Rattle.table_checker.specs.Checked.{Checked}
 use Rattle.store_laws.specs.Stored.{Stored, objects}
 use Rattle.script_text.specs.declared.script.Script.{Script}
-use Rattle.script_run.specs.Running.{RunsScript}
-use Rattle.script_run.specs.Turns.{line_of, script_turns, text_of}
+use Rattle.script_run.specs.Runs.{RunsScript}
+use Rattle.script_run.specs.Turns.{line_of, script_turns, text_of_turns}
 use Rattle.history_audit.specs.Text.{audit_text}
 use Rattle.history_audit.specs.declared.outcome.AuditFault.TheVariants as none
 use Rattle.command_files.specs.Answers.{ComesOr, IsThis}
@@ -20,7 +20,7 @@ use Rattle.command_files.specs.declared.status.Verdict.TheVariants.{Yes, No}
 use Rattle.store_text.specs.declared.line.ObjectLine.{ObjectLine}
 use Rattle.store_files.specs.ObjectTypes.{AreTypesAt, SaysRefused}
 use Rattle.store_files.specs.Types.{Held}
-use Rattle.store_commands.specs.Passing.{TellsAudit, new_store}
+use Rattle.store_commands.specs.StoreAudit.{TellsAudit, new_store}
 use Rattle.store_commands.specs.Runs.{BeginsRun, BeginsRunFile, IsScriptAt, IsWholeRun, RunsFile, RunsOf, StopsRun, WritesRunFile}
 use Rattle.store_commands.proofs.Kept.{types_kept}
 
@@ -33,7 +33,7 @@ pub record HasText (old : Stored) (script : Script) (before after : Option (List
 text_of_run : (old : Stored) (script : Script) (before after : Option (List ℕ)) (fault : Option OutFault) (left : Stored) (done : Unit {0})
     → RunsScript old script before after fault left (Ok done) → HasText old script before after left
 text_of_run old script before after fault left done ran = record {
-  text = text_of (script_turns (objects old) old.max ran.memory_refused ran.kept old.history script.objects.items script.commands);
+  text = text_of_turns (script_turns (objects old) old.max ran.memory_refused ran.kept old.history script.objects.items script.commands);
   ran = record {
     memory_refused = ran.memory_refused;
     may_refuse_memory = ran.may_refuse_memory;
@@ -92,7 +92,7 @@ module _ (script : Script) (types : List Checked) (old : Stored) (before after :
   here = subst (λ (s : Stored). RunsScript s script before after fault left (Err e)) fresh ran
 
   taken : List ℕ
-  taken = text_of (take here.writes.written.place (script_turns (objects (new_store types script.max)) script.max here.memory_refused here.kept [] script.objects.items script.commands))
+  taken = text_of_turns (take here.writes.written.place (script_turns (objects (new_store types script.max)) script.max here.memory_refused here.kept [] script.objects.items script.commands))
       ++ take here.writes.written.taken (line_of here.writes.written.turn)
 
   stops : StopsRun script types taken

@@ -13,40 +13,40 @@ use Rattle.object_trait.specs.declared.event.Event.{Event}
 use Rattle.serial_order.specs.After.{NumbersInRun}
 use Rattle.store_laws.specs.Stored.{Stored, objects}
 use Rattle.store_text.specs.Body.{store_rules}
-use Rattle.store_text.specs.Said.{objects_of, entries_of}
+use Rattle.store_text.specs.Said.{said_objects, entries_of}
 use Rattle.store_text.specs.declared.line.ObjectLine.{ObjectLine}
 use Rattle.script_text.specs.Script.{IsFit}
 use Rattle.script_text.specs.declared.script.Script.{Script}
 use Rattle.history_text.specs.Canonical.{AreInRange, CanonicalIsRead, canonical_lines}
-use Rattle.history_text.specs.Events.{event_of, events}
+use Rattle.history_text.specs.Events.{event_in_line, history_body}
 use Rattle.script_run.specs.Laws.{AreOpsInRange, RunIsInRange, ScriptIsByOne, ScriptIsRead}
-use Rattle.script_run.specs.Running.{AreKept}
-use Rattle.script_run.specs.Turns.{history_after, script_turns, text_of}
+use Rattle.script_run.specs.Runs.{AreKept}
+use Rattle.script_run.specs.Turns.{history_after, script_turns, text_of_turns}
 use Rattle.history_audit.specs.Audit.{Audits}
 use Rattle.history_audit.specs.Laws.{AlikeIsWritten, AuditsAgree}
 use Rattle.history_audit.specs.Text.{audit_text}
 use Rattle.history_audit.specs.declared.outcome.Audit.{Audit}
 use Rattle.work_text.proofs.Comments.{audit_comments}
-use Rattle.store_commands.specs.Passing.{new_store, tables}
-use Rattle.store_commands.specs.Reading.{IsAuditedAs, IsReadAs}
+use Rattle.store_commands.specs.StoreAudit.{new_store, tables}
+use Rattle.store_commands.specs.HistoryTexts.{IsAuditedAs, IsReadAs}
 use Rattle.store_commands.specs.Runs.{IsRunOf}
-use Rattle.store_commands.proofs.Reading.{audit_short, mapped}
+use Rattle.store_commands.proofs.RunTexts.{audit_short, mapped}
 
 same_Ok : {A E : Type 0} (r : Result A E) (x y : A) → r ≡ Ok x → r ≡ Ok y → x ≡ y
 same_Ok r x y first second = let same : x ≡ y = cc in same
 
 -- a text whose value is that of the canonical text is read as its objects and events
 pub read_as : CanonicalIsRead → (lines : List ObjectLine) (s : Stored) (text : List ℕ) → AreInRange lines s.history
-    → outcome_of (store_rules events) text ≡ Ok (canonical_lines lines s.history) → IsReadAs lines s text
+    → outcome_of (store_rules history_body) text ≡ Ok (canonical_lines lines s.history) → IsReadAs lines s text
 read_as canonical lines s text fit value =
     let its = canonical lines s.history fit in
     record {
       value = value;
       file = λ back reads.
-          let same = same_Ok (outcome_of (store_rules events) text) reads.0 (canonical_lines lines s.history) reads.1 value in
+          let same = same_Ok (outcome_of (store_rules history_body) text) reads.0 (canonical_lines lines s.history) reads.1 value in
           record {
-            objects_are = reads.2.objects ∙ ap objects_of same ∙ its.objects_said;
-            events_are = reads.2.events ∙ ap (λ ls. map event_of (entries_of ls)) same ∙ its.events_said;
+            objects_are = reads.2.objects ∙ ap said_objects same ∙ its.objects_said;
+            events_are = reads.2.events ∙ ap (λ ls. map event_in_line (entries_of ls)) same ∙ its.events_said;
           };
     }
 
@@ -106,10 +106,10 @@ module _ (script : Script) (types : List Checked) (text : List ℕ) (fit : IsFit
       let read = script_read (objects start) start.max its.ran.memory_refused its.ran.kept lines script.commands comments.lines ranges_here
       (omega (arith, its.ran.all_kept, few)) (kept_short left its.ran.kept its.ran.are_kept) comments.are
       in
-      let whole : text ≡ text_of turns ++ lines_text comments.lines =
-      its.is ∙ ap (λ (t : List ℕ). t ++ audit_text (Ok its.audit)) its.ran.writes.written.bytes ∙ ap (λ (t : List ℕ). text_of turns ++ t) comments.is
+      let whole : text ≡ text_of_turns turns ++ lines_text comments.lines =
+      its.is ∙ ap (λ (t : List ℕ). t ++ audit_text (Ok its.audit)) its.ran.writes.written.bytes ∙ ap (λ (t : List ℕ). text_of_turns turns ++ t) comments.is
       in
-      let value : outcome_of (store_rules events) text ≡ Ok (canonical_lines lines left.history) =
-      ap (outcome_of (store_rules events)) whole ∙ read ∙ ap (λ (es : List Event). Ok (canonical_lines lines es)) (sym history_is)
+      let value : outcome_of (store_rules history_body) text ≡ Ok (canonical_lines lines left.history) =
+      ap (outcome_of (store_rules history_body)) whole ∙ read ∙ ap (λ (es : List Event). Ok (canonical_lines lines es)) (sym history_is)
       in
       read_as canonical lines left text ranges value

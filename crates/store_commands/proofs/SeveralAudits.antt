@@ -2,7 +2,7 @@
 use Rattle.std.proofs.Common.{◌≡◌, ◌∙◌, ◌<◌, ℕ, List, [], ◌∷◌, length, Result, Ok, Vec, IfSome, subst, arith}
 use Rattle.std.specs.declared.alloc.Global.{Global}
 use Rattle.type_table.specs.Table.{Table}
-use Rattle.table_checker.specs.declared.declared_type.Declaration.{Declaration}
+use Rattle.declared_types.specs.declared.declared_type.Declaration.{Declaration}
 use Rattle.object_trait.specs.declared.event.Event.{Event}
 use Rattle.store_text.specs.declared.line.ObjectLine.{ObjectLine}
 use Rattle.history_text.specs.declared.history_file.HistoryFile.{HistoryFile}

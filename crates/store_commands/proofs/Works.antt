@@ -23,7 +23,7 @@ use Rattle.command_files.specs.declared.fault.Fault.{Fault}
 use Rattle.command_files.specs.declared.fault.Fault.TheVariants.{Usage, Text, NoType, NeedsEscrow, ObjectNeedsEscrow, OtherObjects, Order, HasEvents, BadParameter, TooLarge, CannotRead, Database, NoStore, NoMemory, Output}
 use Rattle.command_files.specs.declared.status.Verdict.{Verdict}
 use Rattle.command_files.specs.declared.status.Verdict.TheVariants.{Yes, No}
-use Rattle.store_commands.specs.Works.{AreJobsAt, BeginsWork, BeginsWorkFile, IsTextOf, IsWholeTextOf, IsWholeWork, TellsWork, WorksFile, WorksOf, WritesWorkFile, start_of_work}
+use Rattle.store_commands.specs.Works.{AreJobsAt, BeginsWork, BeginsWorkFile, IsTextOf, IsWholeTextOf, IsWholeWorkText, TellsWork, WorksFile, WorksOf, WritesWorkFile, start_of_work}
 
 module _ (file : JobsFile) (types : List Checked) (tries : ℕ) (o : Start) (left : Stored) (reports : List Report) (lines : List ObjectLine) (fault : Option WorkFault)
     (opens : o ≡ start_of_work file types tries) (lines_are : lines ≡ file.objects.items) (works : Works o fault left reports) where
@@ -32,7 +32,7 @@ module _ (file : JobsFile) (types : List Checked) (tries : ℕ) (o : Start) (lef
 
   -- what is written of workers is what comes of their jobs
   pub told : (result : Result Verdict Fault) (old new : Option (List ℕ)) → TellsWork left lines reports fault result old new
-      → ComesOr (IsWholeWork file types tries) (BeginsWork file types tries) (WorksOf file types tries) ⊥ result old new
+      → ComesOr (IsWholeWorkText file types tries) (BeginsWork file types tries) (WorksOf file types tries) ⊥ result old new
   told (Ok Yes) old new t =
       let passed = t.2 in (
         t.3,
@@ -129,12 +129,12 @@ module _ (holds later : Held) (kept : (other : List ℕ) → later other ≡ hol
   -- what comes of the jobs at their path
   pub works_file : (objects : List ObjectLine) (types : List Checked) (bad : Type 0) (result : Result Verdict Fault) (old new : Option (List ℕ)) → objects ≡ file.objects.items
       → AreTypesAt later words objects types
-      → ComesOr (IsWholeWork file types tries) (BeginsWork file types tries) (WorksOf file types tries) ⊥ result old new
+      → ComesOr (IsWholeWorkText file types tries) (BeginsWork file types tries) (WorksOf file types tries) ⊥ result old new
       → ComesOr (WritesWorkFile holds workers tries path words) (BeginsWorkFile holds workers tries path words) (WorksFile holds workers tries path words) bad result old new
   works_file objects types bad result old new are found comes =
       let here : AreTypesAt holds words file.objects.items types =
       types_kept holds later kept words file.objects.items types (subst (λ (os : List ObjectLine). AreTypesAt later words os types) are found) in
-      comes_or (IsWholeWork file types tries) (WritesWorkFile holds workers tries path words) (BeginsWork file types tries) (BeginsWorkFile holds workers tries path words)
+      comes_or (IsWholeWorkText file types tries) (WritesWorkFile holds workers tries path words) (BeginsWork file types tries) (BeginsWorkFile holds workers tries path words)
       (WorksOf file types tries) (WorksFile holds workers tries path words) ⊥ bad
       result old new (λ text whole. (file, types, at, here, whole)) (λ text begun. inl (file, types, at, here, begun)) (answers types here) (λ none. absurd none) comes
 

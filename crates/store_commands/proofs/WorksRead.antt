@@ -16,20 +16,20 @@ use Rattle.serial_order.specs.After.{NumbersInRun}
 use Rattle.serial_order.specs.History.{commits}
 use Rattle.store_laws.specs.Stored.{Stored, objects}
 use Rattle.store_text.specs.Body.{store_rules}
-use Rattle.jobs_text.specs.Jobs.{IsFit, calls_in}
+use Rattle.jobs_text.specs.Jobs.{AreJobsFit, calls_in}
 use Rattle.jobs_text.specs.declared.jobs_file.Job.{Job}
 use Rattle.jobs_text.specs.declared.jobs_file.JobsFile.{JobsFile}
 use Rattle.history_text.specs.Canonical.{AreInRange, CanonicalIsRead}
-use Rattle.history_text.specs.Events.{events}
+use Rattle.history_text.specs.Events.{history_body}
 use Rattle.script_run.specs.Laws.{AreOpsInRange, RunIsInRange}
 use Rattle.worker_turns.specs.declared.outcome.Outcome.{Outcome}
 use Rattle.worker_turns.specs.declared.outcome.Outcome.TheVariants.{Committed, GaveUp, Refused, NotRun}
 use Rattle.worker_turns.specs.declared.outcome.Report.{Report}
 use Rattle.workers.specs.Worked.{HasWorked}
-use Rattle.work_text.specs.Reading.{IsShort, IsShortOutcome, IsShortReport, WorkIsRead}
-use Rattle.store_commands.specs.Reading.{IsReadAs}
+use Rattle.work_text.specs.TextHistory.{IsShort, IsShortOutcome, IsShortReport, WorkIsRead}
+use Rattle.store_commands.specs.HistoryTexts.{IsReadAs}
 use Rattle.store_commands.specs.Works.{IsWorkOf, start_of_work}
-use Rattle.store_commands.proofs.Reading.{audit_short, commits_short, mapped}
+use Rattle.store_commands.proofs.RunTexts.{audit_short, commits_short, mapped}
 use Rattle.store_commands.proofs.RunsRead.{kept_short, read_as}
 
 -- an outcome is short where the transaction that it names is
@@ -39,7 +39,7 @@ outcome_short GaveUp short = tt
 outcome_short (Refused r) short = tt
 outcome_short NotRun short = tt
 
-module _ (file : JobsFile) (types : List Checked) (tries : ℕ) (text : List ℕ) (fit : IsFit file) (checked : (x : ℕ) (c : Checked) → slice_get types x ≡ Some c → IsChecked c)
+module _ (file : JobsFile) (types : List Checked) (tries : ℕ) (text : List ℕ) (fit : AreJobsFit file) (checked : (x : ℕ) (c : Checked) → slice_get types x ≡ Some c → IsChecked c)
     (in_ranges : (x : ℕ) (c : Checked) → slice_get types x ≡ Some c → AreOpsInRange c.file.table) (as_many : length types ≡ length file.objects.items) (its : IsWorkOf file types tries text) where
   worked : HasWorked (start_of_work file types tries) (length file.jobs.items) its.left its.reports
   worked = subst (λ n. HasWorked (start_of_work file types tries) n its.left its.reports) (length-map file.jobs.items calls_in) its.worked.2
@@ -112,4 +112,4 @@ module _ (file : JobsFile) (types : List Checked) (tries : ℕ) (text : List ℕ
         jobs = each-places IsShortReport its.reports (report_short short);
       })
       in
-      read_as canonical lines left text ranges (ap (outcome_of (store_rules events)) its.told.is ∙ value)
+      read_as canonical lines left text ranges (ap (outcome_of (store_rules history_body)) its.told.is ∙ value)

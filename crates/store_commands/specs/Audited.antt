@@ -3,7 +3,7 @@ use Rattle.std.specs.Prelude.{◌≡◌, ◌≢◌, ◌⊎◌, ℕ, List, [], �
 use Rattle.std.specs.declared.alloc.Global.{Global}
 use Rattle.std.specs.List.{AllByRecursion}
 use Rattle.type_table.specs.Table.{Table}
-use Rattle.table_checker.specs.declared.declared_type.Declaration.{Declaration}
+use Rattle.declared_types.specs.declared.declared_type.Declaration.{Declaration}
 use Rattle.history_text.specs.declared.history_file.HistoryFile.{HistoryFile}
 use Rattle.object_trait.specs.declared.event.Event.{Event}
 use Rattle.history_audit.specs.Audit.{Audits}

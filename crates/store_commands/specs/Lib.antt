@@ -1,6 +1,6 @@
 pub mod Audited
 pub mod Ordered
-pub mod Passing
+pub mod StoreAudit
 pub mod Runs
 pub mod Works
-pub mod Reading
+pub mod HistoryTexts

@@ -1,7 +1,7 @@
 -- What `audit --order T,T,.. HISTORY TYPE...` answers.
 use Rattle.std.specs.Prelude.{◌⊎◌, ℕ, List, [], IfSome, Result, Ok, Err}
 use Rattle.type_table.specs.Table.{Table}
-use Rattle.table_checker.specs.declared.declared_type.Declaration.{Declaration}
+use Rattle.declared_types.specs.declared.declared_type.Declaration.{Declaration}
 use Rattle.history_text.specs.declared.history_file.HistoryFile.{HistoryFile}
 use Rattle.history_audit.specs.InOrder.{AuditsInOrder}
 use Rattle.history_audit.specs.declared.in_order_fault.InOrderFault.{InOrderFault}

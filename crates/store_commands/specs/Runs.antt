@@ -5,7 +5,7 @@ use Rattle.table_checker.specs.Checked.{Checked}
 use Rattle.store_laws.specs.Stored.{Stored}
 use Rattle.script_text.specs.Script.{IsFit}
 use Rattle.script_text.specs.declared.script.Script.{Script}
-use Rattle.script_run.specs.Running.{RunsScript}
+use Rattle.script_run.specs.Runs.{RunsScript}
 use Rattle.history_audit.specs.Audit.{Audits}
 use Rattle.history_audit.specs.Text.{audit_text}
 use Rattle.history_audit.specs.declared.outcome.Audit.{Audit}
@@ -15,7 +15,7 @@ use Rattle.command_files.specs.declared.status.Verdict.TheVariants.{Yes, No}
 use Rattle.store_files.specs.ObjectTypes.{AreTypesAt, HasFault, SaysRefused}
 use Rattle.store_files.specs.Scripts.{DescribesScript, IsFaultyScript}
 use Rattle.store_files.specs.Types.{Held}
-use Rattle.store_commands.specs.Passing.{HasSerialRun, IsPassed, new_store, tables}
+use Rattle.store_commands.specs.StoreAudit.{HasSerialRun, IsPassed, new_store, tables}
 
 -- the text is that of a run of the script at a new store of these types, and then the lines of an audit of the store's history that says
 -- yes; and the history is a serial run

@@ -9,7 +9,7 @@ use Rattle.store_laws.specs.Stored.{Stored}
 use Rattle.history_audit.specs.Audit.{Audits}
 use Rattle.history_audit.specs.declared.outcome.Audit.{Audit}
 use Rattle.history_audit.specs.declared.outcome.AuditFault.{AuditFault}
-use Rattle.script_run.specs.Running.{AreKept}
+use Rattle.script_run.specs.Runs.{AreKept}
 use Rattle.work_text.specs.Text.{work_text}
 use Rattle.worker_turns.specs.declared.outcome.Report.{Report}
 use Rattle.workers.specs.SharedState.{Start}
@@ -23,7 +23,7 @@ use Rattle.command_files.specs.declared.status.Verdict.TheVariants.{Yes, No}
 use Rattle.store_files.specs.Jobs.{AreJobsFor, DescribesJobs, IsFaultyJobs}
 use Rattle.store_files.specs.ObjectTypes.{AreTypesAt, HasFault, SaysRefused}
 use Rattle.store_files.specs.Types.{Held}
-use Rattle.store_commands.specs.Passing.{HasSerialRun, IsPassed, new_store, tables}
+use Rattle.store_commands.specs.StoreAudit.{HasSerialRun, IsPassed, new_store, tables}
 
 -- the work that begins at a new store of these types: these jobs, each tried this often
 abbrev pub start_of_work : JobsFile → List Checked → ℕ → Start
@@ -58,7 +58,7 @@ did_nothing fault reports = is_some fault && length reports == 0
 
 -- the text of what workers did, all of them or those before one that wasn't started, with an audit that says yes, or without one where
 -- memory was refused for it
-pub record IsWholeWork (file : JobsFile) (types : List Checked) (tries : ℕ) (text : List ℕ) : Type 0 where
+pub record IsWholeWorkText (file : JobsFile) (types : List Checked) (tries : ℕ) (text : List ℕ) : Type 0 where
   pub left : Stored
   pub reports : List Report
   pub fault : Option WorkFault
@@ -111,7 +111,7 @@ WorksFile holds workers tries path words No text = (file : JobsFile) × AreJobsA
 -- what it writes as a whole where memory was refused
 abbrev pub WritesWorkFile : Held → ℕ → ℕ → List ℕ → List (List ℕ) → List ℕ → Type 0
 WritesWorkFile holds workers tries path words text =
-    (file : JobsFile) × (types : List Checked) × AreJobsAt holds workers path file × AreTypesAt holds words file.objects.items types × IsWholeWork file types tries text
+    (file : JobsFile) × (types : List Checked) × AreJobsAt holds workers path file × AreTypesAt holds words file.objects.items types × IsWholeWorkText file types tries text
 
 -- what it begins to write
 abbrev pub BeginsWorkFile : Held → ℕ → ℕ → List ℕ → List (List ℕ) → List ℕ → Type 0

@@ -10,12 +10,12 @@ ghost use Rattle.object_types.specs.Types.{IsUnplaced};
 
 use crate::several::{audit_each, same_objects};
 use command_files::{Fault, Source, Verdict, put_answer, read_file};
+use declared_types::DeclaredType;
 use history_audit::{Audit, AuditFault, audit, write_audit};
 use history_text::HistoryFile;
 use outputs::{Out, Sink};
 use std::alloc::Global;
 use store_files::{HistoryFormat, declared_for, read_declared, read_histories};
-use table_checker::DeclaredType;
 
 /// `audit HISTORY [--then HISTORY]... TYPE...`: the histories are read in the order of the words and then the
 /// types, each parsed before the next is opened; then the objects of each history that follows are compared

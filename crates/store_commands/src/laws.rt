@@ -1,7 +1,7 @@
 //! Laws of what the commands write: each is a function that does nothing, whose contract is the law. It
 //! calls the laws on which it depends.
 
-ghost use Rattle.store_commands.specs.Reading.{RunIsRead, WorksAreRead};
+ghost use Rattle.store_commands.specs.HistoryTexts.{RunIsRead, WorksAreRead};
 
 use history_audit::audits_agree;
 use history_text::canonical_is_read;

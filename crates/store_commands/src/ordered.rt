@@ -2,7 +2,7 @@
 //! given, give the same replies.
 
 ghost use Rattle.std.specs.Prelude.{◌≡◌, ◌⊎◌, Ok, Err, None, map, IfErr, IfOk};
-ghost use Rattle.command_files.specs.Answers.{Comes, Refuses};
+ghost use Rattle.command_files.specs.Answers.{Comes, IsEarlyFault};
 ghost use Rattle.history_audit.specs.declared.in_order_fault.InOrderFault.TheVariants as no;
 ghost use Rattle.history_audit.specs.declared.in_order_fault.OrderFault.{OrderFault as WhyNot};
 ghost use Rattle.object_types.specs.Types.{IsUnplaced};
@@ -10,12 +10,12 @@ ghost use Rattle.store_commands.specs.Ordered.{AuditsOrdered, AuditsOrderedRead,
 
 use crate::audit::put_audit;
 use command_files::{Fault, OrderFault, Source, Verdict, read_file};
+use declared_types::DeclaredType;
 use history_audit::{Audit, AuditFault, InOrderFault, OrderFault as AuditedOrder, audit_in_order};
 use history_text::HistoryFile;
 use outputs::Out;
 use std::alloc::Global;
 use store_files::{HistoryFormat, declared_for, read_declared};
-use table_checker::DeclaredType;
 
 /// `audit --order T,T,.. HISTORY TYPE...`: the history is read and then the types, each parsed before the next is
 /// opened; then the place of each object is tested; no type is checked for a kind.
@@ -66,7 +66,7 @@ fn audited<'a>(
     outcome: Result<Audit, InOrderFault>,
 ) -> Result<Result<Audit, AuditFault>, Fault<'a>>
     ensures said { IfOk result (λ r. outcome ≡ in_order r) }
-    ensures amiss { IfErr result (Refuses ((fault : WhyNot) × (outcome ≡ Err (no.Order fault)))) }
+    ensures amiss { IfErr result (IsEarlyFault ((fault : WhyNot) × (outcome ≡ Err (no.Order fault)))) }
 {
     match outcome {
         Ok(audit) => Ok(Ok(audit)),

@@ -4,10 +4,10 @@ ghost use Rattle.std.specs.Prelude.{◌≡◌, [], None, length, map};
 ghost use Rattle.command_files.specs.Answers.{ComesOr};
 ghost use Rattle.store.specs.Ends.{AreFresh};
 ghost use Rattle.object_types.specs.Types.{value_of};
-ghost use Rattle.store_commands.specs.Passing.{new_store};
+ghost use Rattle.store_commands.specs.StoreAudit.{new_store};
 ghost use Rattle.store_commands.specs.Runs.{BeginsRun, BeginsRunFile, HasRunFault, IsWholeRun, RunsFile, RunsOf, WritesRunFile};
 
-use crate::passing::tell_audit;
+use crate::store_audit::tell_audit;
 use command_files::{Fault, Source, Verdict, put_answer, read_file};
 use object_trait::Recovery;
 use objects::new_objects;

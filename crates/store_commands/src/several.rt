@@ -2,13 +2,14 @@
 
 ghost use Rattle.std.specs.Prelude.{◌≡◌, [], ◌∷◌, None, Some, map, length, slice_get, IfOk, IfErr, OnOk};
 ghost use Rattle.command_files.specs.declared.fault.Fault.TheVariants.{NoMemory};
-ghost use Rattle.command_files.specs.Answers.{Comes, Refuses};
+ghost use Rattle.command_files.specs.Answers.{Comes, IsEarlyFault};
 ghost use Rattle.history_audit.specs.EpochText.{epochs_text};
 ghost use Rattle.store_commands.specs.Audited.{AuditsEach, HaveObjects, events_of};
 ghost use Rattle.object_types.specs.Types.{IsUnplaced};
 ghost use Rattle.std.specs.Bool.{Decides};
 
 use command_files::{Fault, Verdict, put_answer};
+use declared_types::DeclaredType;
 use history_audit::{Audit, AuditFault, EpochFault, audit_epochs, write_epochs};
 use history_text::HistoryFile;
 use object_trait::Event;
@@ -16,7 +17,6 @@ use outputs::{Out, Sink};
 use std::alloc::{AllocError, Global};
 use store_files::declared_for;
 use store_text::ObjectLine;
-use table_checker::DeclaredType;
 
 /// Tests that each history that follows the one at a path is one of its objects.
 ///
@@ -31,7 +31,7 @@ pub(crate) fn same_objects<'a>(
 ) -> Result<(), Fault<'a>>
     requires { length others.now ≡ length later.now }
     ensures same { OnOk result (HaveObjects first.now later.now) }
-    ensures other { IfErr result (Refuses (¬ (HaveObjects first.now later.now))) }
+    ensures other { IfErr result (IsEarlyFault (¬ (HaveObjects first.now later.now))) }
 {
     for (n, next) in later.iter().enumerate() {
         if !same_lines(&next.objects, &first.objects) {

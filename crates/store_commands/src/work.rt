@@ -4,11 +4,11 @@ ghost use Rattle.std.specs.Prelude.{◌≡◌, None, map};
 ghost use Rattle.command_files.specs.Answers.{ComesOr};
 ghost use Rattle.jobs_text.specs.Jobs.{calls_in};
 ghost use Rattle.object_types.specs.Types.{value_of};
-ghost use Rattle.store_commands.specs.Works.{BeginsWork, BeginsWorkFile, HasWorkFault, IsWholeWork, TellsWork, WorksFile, WorksOf, WritesWorkFile, did_nothing};
+ghost use Rattle.store_commands.specs.Works.{BeginsWork, BeginsWorkFile, HasWorkFault, IsWholeWorkText, TellsWork, WorksFile, WorksOf, WritesWorkFile, did_nothing};
 ghost use Rattle.workers.specs.Worked.{Works};
 
-use crate::passing::audit_of;
 use crate::schedule::Schedule;
+use crate::store_audit::audit_of;
 use command_files::{Fault, Source, Verdict, put_answer, read_file};
 use jobs_text::{Job, JobsFile};
 use object_trait::Recovery;
@@ -81,7 +81,7 @@ fn work_at<'a, H: AllocGlobal + Threads + Wait + Sync, W: Out>(
     out: &mut W,
 ) -> Result<Verdict, Fault<'a>>
     requires { W.fault out.old ≡ None }
-    ensures { ComesOr (IsWholeWork file (map value_of types.now) work.tries) (BeginsWork file (map value_of types.now) work.tries) (WorksOf file (map value_of types.now) work.tries) ⊥ result (W.taken out.old) (W.taken out.new) }
+    ensures { ComesOr (IsWholeWorkText file (map value_of types.now) work.tries) (BeginsWork file (map value_of types.now) work.tries) (WorksOf file (map value_of types.now) work.tries) ⊥ result (W.taken out.old) (W.taken out.new) }
 {
     let alloc = rt.alloc();
     let objects = new_objects(alloc, types)?;

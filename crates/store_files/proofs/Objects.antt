@@ -5,12 +5,12 @@ use Rattle.std.specs.Option.{option_map}
 use Rattle.std.proofs.lemmas.Option.{slice_get-get_or, slice_get-map}
 use Rattle.type_table.specs.Table.{Table}
 use Rattle.type_table.proofs.Elements.{take-found}
-use Rattle.table_checker.specs.declared.declared_type.Declaration.{Declaration}
+use Rattle.declared_types.specs.declared.declared_type.Declaration.{Declaration}
 use Rattle.store_text.specs.declared.line.ObjectLine.{ObjectLine}
-use Rattle.object_types.specs.Types.{HasPlace, IsFirstWith}
+use Rattle.object_types.specs.Types.{HasDeclaration, IsFirstWith}
 use Rattle.object_types.specs.declared.object_fault.ObjectFault.TheVariants.{NoType}
 use Rattle.object_types.proofs.Pairs.{each_has, each_push, one_more}
-use Rattle.store_files.specs.Types.{Held, AreReadAt, AreTablesOf, IsFirstFaultyOf, IsTableOf}
+use Rattle.store_files.specs.Types.{Held, AreReadAt, AreTablesOf, IsFirstFaultyOf, IsTableOfObject}
 
 -- ---- files
 
@@ -37,23 +37,23 @@ module _ {T : Type 0} (describes : List ℕ → T → Type 0) (is_faulty : List 
 
 -- one more object has its table
 pub tables_push : (declared : List Declaration) (objects : List ObjectLine) (tables new : List Table) (i : ℕ) (o : ObjectLine) (table : Table) → slice_get objects i ≡ Some o
-    → AreTablesOf declared (take i objects) tables → IsTableOf declared o table → new ≡ tables ++ table ∷ [] → AreTablesOf declared (take (i + 1) objects) new
+    → AreTablesOf declared (take i objects) tables → IsTableOfObject declared o table → new ≡ tables ++ table ∷ [] → AreTablesOf declared (take (i + 1) objects) new
 tables_push declared objects tables new i o table there known here is =
     let grown : AreTablesOf declared (take i objects ++ o ∷ []) (tables ++ table ∷ []) = record {
       as_many = one_more (take i objects) o tables table known.as_many;
-      each = each_push (IsTableOf declared) (take i objects) tables o table known.as_many known.each here;
+      each = each_push (IsTableOfObject declared) (take i objects) tables o table known.as_many known.each here;
     } in
     subst (λ (os : List ObjectLine). AreTablesOf declared os new) (sym (take-found objects i o there)) (subst (AreTablesOf declared (take i objects ++ o ∷ [])) (sym is) grown)
 
 -- the first object without one
 pub first_without : (declared : List Declaration) (objects : List ObjectLine) (x : ℕ) (o : ObjectLine) (tables : List Table) → slice_get objects x ≡ Some o
-    → AreTablesOf declared (take x objects) tables → slice_get declared o.file ≡ None → IsFirstWith HasPlace declared objects (NoType x o.file)
+    → AreTablesOf declared (take x objects) tables → slice_get declared o.file ≡ None → IsFirstWith HasDeclaration declared objects (NoType x o.file)
 first_without declared objects x o tables there known none = record {
   x = x;
   o = o;
   there = there;
   before = λ y p got.
-      let has = each_has (IsTableOf declared) (take x objects) tables known.as_many known.each y p got in
+      let has = each_has (IsTableOfObject declared) (take x objects) tables known.as_many known.each y p got in
       (has.2.declaration, has.2.there);
   at = (refl, refl, none);
 }

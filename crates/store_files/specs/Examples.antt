@@ -9,7 +9,7 @@ use Rattle.script_text.specs.Examples.{ended, script_text}
 use Rattle.store_files.specs.Types.{Held}
 
 -- the script has this limit, these objects and these commands
-pub record Has (max : ℕ) (objects : List ObjectLine) (commands : List Command) (script : Script) : Type 0 where
+pub record HasScript (max : ℕ) (objects : List ObjectLine) (commands : List Command) (script : Script) : Type 0 where
   pub max_is : script.max ≡ max
   pub objects_are : script.objects.items ≡ objects
   pub commands_are : script.commands ≡ commands

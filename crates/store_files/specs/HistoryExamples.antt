@@ -3,13 +3,13 @@ use Rattle.std.specs.Prelude.{◌≡◌, ℕ, List, take}
 use Rattle.object_trait.specs.declared.event.Event.{Event}
 use Rattle.store_text.specs.declared.line.ObjectLine.{ObjectLine}
 use Rattle.history_text.specs.declared.history_file.HistoryFile.{HistoryFile}
-use Rattle.history_text.specs.Examples.{ended, history_text}
+use Rattle.history_text.specs.Examples.{ended, two_objects_text}
 
 -- the history has these objects and events
-pub record Has (objects : List ObjectLine) (events : List Event) (history : HistoryFile) : Type 0 where
+pub record HasHistory (objects : List ObjectLine) (events : List Event) (history : HistoryFile) : Type 0 where
   pub objects_are : history.objects.items ≡ objects
   pub events_are : history.events.items ≡ events
 
 -- the text of a history without its `end`
 abbrev pub endless_history : List ℕ
-endless_history = ended (take 11 history_text)
+endless_history = ended (take 11 two_objects_text)

@@ -6,7 +6,7 @@ use Rattle.jobs_text.specs.Jobs.{Call, calls_in}
 use Rattle.jobs_text.specs.declared.jobs_file.JobsFile.{JobsFile}
 
 -- the jobs have this limit, these objects and these lists
-pub record Has (max : ℕ) (objects : List ObjectLine) (lists : List (List (List Call))) (file : JobsFile) : Type 0 where
+pub record HasJobs (max : ℕ) (objects : List ObjectLine) (lists : List (List (List Call))) (file : JobsFile) : Type 0 where
   pub max_is : file.max ≡ max
   pub objects_are : file.objects.items ≡ objects
   pub jobs_are : map calls_in file.jobs.items ≡ lists

@@ -5,7 +5,7 @@ use Rattle.line_text.specs.declared.fault.TextFault.{TextFault}
 use Rattle.store_text.specs.Body.{store_rules}
 use Rattle.store_text.specs.declared.line.Line.{Line}
 use Rattle.jobs_text.specs.JobLines.{jobs}
-use Rattle.jobs_text.specs.Jobs.{IsJobsOf, IsFit}
+use Rattle.jobs_text.specs.Jobs.{IsJobsOf, AreJobsFit}
 use Rattle.jobs_text.specs.declared.job_line.JobLine.{JobLine}
 use Rattle.jobs_text.specs.declared.jobs_file.JobsFile.{JobsFile}
 
@@ -22,4 +22,4 @@ IsFaultyJobs workers text = (f : TextFault) × (outcome_of (store_rules (jobs wo
 -- whatever the text was: there is a list of jobs for each worker, and the numbers and counts are in their ranges
 pub record AreJobsFor (workers : ℕ) (file : JobsFile) : Type 0 where
   pub lists : length file.jobs.items ≡ workers
-  pub fit : IsFit file
+  pub fit : AreJobsFit file

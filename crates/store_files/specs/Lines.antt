@@ -5,5 +5,5 @@ use Rattle.table_checker.specs.declared.refusal.CheckRefusal.{CheckRefusal}
 use Rattle.command_files.specs.Refusals.{no_line}
 
 -- `# object X no ..`
-abbrev pub object_line : ℕ → CheckRefusal → List ℕ
-object_line x refusal = codes "# object " ++ (decimal x ++ (codes " " ++ no_line refusal))
+abbrev pub refused_object_line : ℕ → CheckRefusal → List ℕ
+refused_object_line x refusal = codes "# object " ++ (decimal x ++ (codes " " ++ no_line refusal))

@@ -2,8 +2,8 @@
 use Rattle.std.specs.Prelude.{◌≡◌, ℕ, List, Option, Some, IfSome, length, take, slice_get}
 use Rattle.type_table.specs.Table.{Table}
 use Rattle.store_text.specs.declared.line.ObjectLine.{ObjectLine}
-use Rattle.table_checker.specs.Declarations.{table_of}
-use Rattle.table_checker.specs.declared.declared_type.Declaration.{Declaration}
+use Rattle.declared_types.specs.Declarations.{table_of}
+use Rattle.declared_types.specs.declared.declared_type.Declaration.{Declaration}
 use Rattle.declared_text.specs.Declared.{Declares}
 use Rattle.command_files.specs.Files.{IsFaultyDeclaration}
 
@@ -39,7 +39,7 @@ IsFirstFaultyDeclaration = IsFirstFaultyOf Declares IsFaultyDeclaration
 -- ---- the tables of objects
 
 -- the table of an object: that of the type at the place that it names
-pub record IsTableOf (declared : List Declaration) (o : ObjectLine) (table : Table) : Type 0 where
+pub record IsTableOfObject (declared : List Declaration) (o : ObjectLine) (table : Table) : Type 0 where
   pub declaration : Declaration
   pub there : slice_get declared o.file ≡ Some declaration
   pub is : table ≡ table_of declaration
@@ -47,4 +47,4 @@ pub record IsTableOf (declared : List Declaration) (o : ObjectLine) (table : Tab
 -- one for each object
 pub record AreTablesOf (declared : List Declaration) (objects : List ObjectLine) (tables : List Table) : Type 0 where
   pub as_many : length tables ≡ length objects
-  pub each : (x : ℕ) (o : ObjectLine) (table : Table) → slice_get objects x ≡ Some o → slice_get tables x ≡ Some table → IsTableOf declared o table
+  pub each : (x : ℕ) (o : ObjectLine) (table : Table) → slice_get objects x ≡ Some o → slice_get tables x ≡ Some table → IsTableOfObject declared o table

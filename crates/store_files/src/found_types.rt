@@ -3,7 +3,7 @@
 ghost use Rattle.std.specs.Prelude.{map};
 ghost use Rattle.store_files.specs.ObjectTypes.{FindsTypes};
 
-use crate::reading::read_declared;
+use crate::several_files::read_declared;
 use command_files::{Fault, Source};
 use object_types::{ObjectFault, accept_types};
 use std::alloc::Global;

@@ -4,14 +4,14 @@
 
 mod formats;
 mod found_types;
-mod reading;
 mod refused_line;
+mod several_files;
 mod tables;
 
 pub use formats::{HistoryFormat, JobsFormat, ScriptFormat};
 pub use found_types::{ObjectTypes, types_for};
-pub use reading::{read_declared, read_histories};
 pub use refused_line::object_line;
+pub use several_files::{read_declared, read_histories};
 pub use tables::declared_for;
 
 pub mod worked;

@@ -1,5 +1,5 @@
 ghost use Rattle.std.specs.Prelude.{◌≡◌, IfOk};
-ghost use Rattle.store_files.specs.Lines.{object_line};
+ghost use Rattle.store_files.specs.Lines.{refused_object_line};
 
 use command_files::no_line;
 use std::alloc::{AllocError, Global};
@@ -7,7 +7,7 @@ use table_checker::CheckRefusal;
 
 /// The line of an object whose type isn't accepted: `# object X no ..`.
 pub fn object_line(alloc: Global, x: usize, refusal: CheckRefusal) -> Result<String, AllocError>
-    ensures { IfOk result (λ line. line.bytes.items ≡ object_line x refusal) }
+    ensures { IfOk result (λ line. line.bytes.items ≡ refused_object_line x refusal) }
 {
     let why = no_line(alloc, refusal)?;
     format!(in alloc; "# object {x} {why}")

@@ -17,14 +17,14 @@ use Rattle.serial_order.specs.History.{Summary, summary}
 use Rattle.serial_order.specs.Represent.{struck_at, Changes}
 use Rattle.serial_order.specs.After.{CountsTo, SummaryAfter, TransactionsInRun, OpensAfter, LogsAreCounted}
 use Rattle.serial_order.specs.Replay.{open_count}
-use Rattle.object_calls.specs.Ends.{count_at, ChangesAt, IsEnd}
+use Rattle.object_calls.specs.Ends.{times_in, ChangesAt, EndsObject}
 use Rattle.object_calls.specs.declared.end.End.{End}
 use Rattle.object_calls.specs.declared.end.End.TheVariants as end
 use Rattle.open_transactions.specs.Transactions.{Row}
 use Rattle.store_laws.specs.Kept.{Keeping, IsKept}
-use Rattle.store_laws.specs.Moves.{IsRowMoved, RowsMove}
+use Rattle.store_laws.specs.Moves.{IsKeptRowMoved, KeptRowsMove}
 use Rattle.store_laws.specs.Before.{IsOpenRow, last_places}
-use Rattle.store_laws.specs.Events.{QuietMoves, BeginMoves, OpMoves, end_event, EndMoves, RollbackMoves, TypesStay, takes, RoomAfter}
+use Rattle.store_laws.specs.Events.{QuietMoves, BeginMoves, OpMoves, end_event, EndMoves, RollbackMoves, TypesStay, room_taken, RoomAfter}
 use Rattle.store_laws.proofs.Filters.{count-none}
 use Rattle.store_laws.proofs.Untouched.{strike-untouched}
 use Rattle.store_laws.proofs.Places.{row-at, entries-count, count-elsewhere, struck-count}
@@ -97,27 +97,27 @@ cases-at places change old new changes x a b was is =
 
 module _ (counted : LogsAreCounted) (k : Keeping) (H : List Event) (t : ℕ) (row : Row) (kept : IsKept k H) (there : IsOpenRow k t row) where
   -- an object where it has no operation is as after either end
-  end-untouched : UntouchedStays → (how : End) (m : Meaning) → IsSound m → open_of t m.log ≡ [] → IsEnd how m t m
+  end-untouched : UntouchedStays → (how : End) (m : Meaning) → IsSound m → open_of t m.log ≡ [] → EndsObject how m t m
   end-untouched untouched end.Commit m sound none = (untouched m t sound none).0
   end-untouched untouched end.Abort m sound none = (untouched m t sound none).1 0
 
-  end-objects : UntouchedStays → (how : End) (new : List Meaning) → ChangesAt row.places (λ x m n. IsEnd how m t n) k.meanings new
-      → (x : ℕ) (m n : Meaning) → slice_get k.meanings x ≡ Some m → slice_get new x ≡ Some n → IsEnd how m t n
+  end-objects : UntouchedStays → (how : End) (new : List Meaning) → ChangesAt row.places (λ x m n. EndsObject how m t n) k.meanings new
+      → (x : ℕ) (m n : Meaning) → slice_get k.meanings x ≡ Some m → slice_get new x ≡ Some n → EndsObject how m t n
   end-objects untouched how new changes x m n was is =
-      elim (cases-at row.places (λ y a b. IsEnd how a t b) k.meanings new changes x m n was is) [
+      elim (cases-at row.places (λ y a b. EndsObject how a t b) k.meanings new changes x m n was is) [
         | inl here ↦ here
         | inr apart ↦
-            subst (IsEnd how m t) (sym apart.1)
+            subst (EndsObject how m t) (sym apart.1)
             (end-untouched untouched how m (kept.objects x m was).sound
             (nil_from_length (open_of t m.log) (entries-count k H t row kept there counted x m was ∙ count-elsewhere k H t row kept there x apart.0)))
       ]
 
 -- its event says the same of an object and of the rows
-end-changes : (how : End) (x : ℕ) (s : Summary) (t : ℕ) (m n : Meaning) → IsEnd how m t n → Changes x s (end_event how t) m n
+end-changes : (how : End) (x : ℕ) (s : Summary) (t : ℕ) (m n : Meaning) → EndsObject how m t n → Changes x s (end_event how t) m n
 end-changes end.Commit x s t m n is = is
 end-changes end.Abort x s t m n is = is
 
-end-rows : (how : End) (w t : ℕ) (old new : List (Option Row)) → IsRowMoved old new t (λ r. None) → RowsMove w (end_event how t) old new
+end-rows : (how : End) (w t : ℕ) (old new : List (Option Row)) → IsKeptRowMoved old new t (λ r. None) → KeptRowsMove w (end_event how t) old new
 end-rows end.Commit w t old new moved = moved
 end-rows end.Abort w t old new moved = moved
 
@@ -138,10 +138,10 @@ module _ (k : Keeping) (H : List Event) (t n : ℕ) (row : Row) (kept : IsKept k
   none-struck x none = struck-count k H t row kept there x n ∙ count-none (λ y. y == x) (last_places n row.places) none
 
   -- as many entries are struck at each object as its event says
-  rollback-objects : (new : List Meaning) → ChangesAt (last_places n row.places) (λ x m now. IsStrike m t (count_at x (last_places n row.places)) now) k.meanings new
+  rollback-objects : (new : List Meaning) → ChangesAt (last_places n row.places) (λ x m now. IsStrike m t (times_in x (last_places n row.places)) now) k.meanings new
       → (x : ℕ) (m now : Meaning) → slice_get k.meanings x ≡ Some m → slice_get new x ≡ Some now → IsStrike m t (struck_at x (summary H) t n) now
   rollback-objects new changes x m now was is =
-      elim (cases-at (last_places n row.places) (λ y a b. IsStrike a t (count_at y (last_places n row.places)) b) k.meanings new changes x m now was is) [
+      elim (cases-at (last_places n row.places) (λ y a b. IsStrike a t (times_in y (last_places n row.places)) b) k.meanings new changes x m now was is) [
         | inl here ↦ subst (λ c. IsStrike m t c now) (sym (struck-count k H t row kept there x n)) here
         | inr apart ↦
             subst (λ (b : Meaning). IsStrike m t (struck_at x (summary H) t n) b) (sym apart.1)
@@ -163,7 +163,7 @@ types_stay = λ old new H e moves.
     same-types old.meanings new.meanings moves.as_many (λ x m n was is. same-type x (summary H) e.kind m n (moves.objects x m n was is))
 
 -- how much room an event takes, where this many are open before and after it
-room : (happened : EventKind) (before now n : ℕ) → CountsTo happened before now → n + 1 + now ≡ n + before + takes happened
+room : (happened : EventKind) (before now n : ℕ) → CountsTo happened before now → n + 1 + now ≡ n + before + room_taken happened
 room (Begin t) before now n counts = omega (arith, counts)
 room (Op k t x) before now n counts = omega (arith, counts)
 room (Busy c t x u) before now n counts = omega (arith, counts)

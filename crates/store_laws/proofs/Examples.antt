@@ -16,7 +16,7 @@ use Rattle.object_calls.specs.declared.end.End.TheVariants as end
 use Rattle.store_laws.specs.Kept.{IsKept}
 use Rattle.store_laws.specs.Moves.{Moves, StaysKept}
 use Rattle.store_laws.specs.Events.{OpMoves, EndMoves, RollbackMoves}
-use Rattle.store_laws.specs.Examples.{by_seven, one_up, new_counters, begun, counted, committed}
+use Rattle.store_laws.specs.Examples.{by_seven, one_up, new_counters, counters_begun, counted, committed}
 
 -- ---- two objects
 
@@ -32,7 +32,7 @@ both-change s happened a b c d first second (suc (suc x)) m n was is = absurd (n
 -- ---- each event
 
 -- the transaction begins
-begins : Moves new_counters begun [] (record { worker = 7; kind = Begin 0 })
+begins : Moves new_counters counters_begun [] (record { worker = 7; kind = Begin 0 })
 begins = record {
   as_many = refl;
   objects = both-change (summary []) (Begin 0) _ _ _ _ refl refl;
@@ -40,7 +40,7 @@ begins = record {
 }
 
 -- counts up at the second object
-counts : Moves begun counted (take 1 one_up) (record { worker = 7; kind = Op 0 0 1 })
+counts : Moves counters_begun counted (take 1 one_up) (record { worker = 7; kind = Op 0 0 1 })
 counts = record {
   as_many = refl;
   objects = both-change (summary (take 1 one_up)) (Op 0 0 1) _ _ _ _ refl refl;
@@ -82,14 +82,14 @@ changes-second change a b c second = record { as_many = refl; changed = at-secon
     first change a b c (suc (suc x)) outside = refl
 
 -- the transaction counts up
-pub counts-by_law : OpMoves → IsKept begun (take 1 one_up) → Moves begun counted (take 1 one_up) (record { worker = 7; kind = Op 0 0 1 })
+pub counts-by_law : OpMoves → IsKept counters_begun (take 1 one_up) → Moves counters_begun counted (take 1 one_up) (record { worker = 7; kind = Op 0 0 1 })
 counts-by_law moves kept =
-    moves begun counted (take 1 one_up) 7 0 1 0 (by_seven []) (object.counter_at Intentions 0 []) kept refl refl refl refl
+    moves counters_begun counted (take 1 one_up) 7 0 1 0 (by_seven []) (object.counter_at Intentions 0 []) kept refl refl refl refl
 
 -- takes it back
-pub takes_back-by_law : RollbackMoves → IsKept counted (take 2 one_up) → Moves counted begun (take 2 one_up) (record { worker = 7; kind = Rollback 0 1 })
+pub takes_back-by_law : RollbackMoves → IsKept counted (take 2 one_up) → Moves counted counters_begun (take 2 one_up) (record { worker = 7; kind = Rollback 0 1 })
 takes_back-by_law moves kept =
-    moves counted begun (take 2 one_up) 7 0 1 (by_seven (1 ∷ [])) kept refl
+    moves counted counters_begun (take 2 one_up) 7 0 1 (by_seven (1 ∷ [])) kept refl
     (changes-second _ _ _ _ (record { checked = refl; strike = record { same_base = refl; rest = refl } }))
     refl
 
@@ -105,12 +105,12 @@ commits-by_law moves kept =
 -- ---- what is kept after each
 
 module _ (stays : StaysKept) (new : IsKept new_counters []) where
-  pub begun-kept : IsKept begun (take 1 one_up)
-  begun-kept = stays new_counters begun [] (record { worker = 7; kind = Begin 0 }) new refl begins (omega arith)
+  pub begun-kept : IsKept counters_begun (take 1 one_up)
+  begun-kept = stays new_counters counters_begun [] (record { worker = 7; kind = Begin 0 }) new refl begins (omega arith)
 
   pub counted-kept : IsKept counted (take 2 one_up)
   unfolding next
-  counted-kept = stays begun counted (take 1 one_up) (record { worker = 7; kind = Op 0 0 1 }) begun-kept (refl, (refl, refl, tt)) counts (omega arith)
+  counted-kept = stays counters_begun counted (take 1 one_up) (record { worker = 7; kind = Op 0 0 1 }) begun-kept (refl, (refl, refl, tt)) counts (omega arith)
 
   pub committed-kept : IsKept committed one_up
   committed-kept = stays counted committed (take 2 one_up) (record { worker = 7; kind = Commit 0 }) counted-kept refl commits (omega arith)

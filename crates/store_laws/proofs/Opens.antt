@@ -14,7 +14,7 @@ use Rattle.serial_order.specs.Laws.{FreshRepresents}
 use Rattle.serial_order.specs.declared.entry.Entry.{Entry}
 use Rattle.open_transactions.specs.Transactions.{Row}
 use Rattle.store_laws.specs.Kept.{Keeping, IsKept}
-use Rattle.store_laws.specs.Before.{NewIsKept, row_of, RowsSayWhoIsOpen, RowsAreCounted, PlacesAreCounted, RowsAreFew, PlacesAreFew}
+use Rattle.store_laws.specs.Before.{NewIsKept, row_before, RowsSayWhoIsOpen, RowsAreCounted, PlacesAreCounted, RowsAreFew, PlacesAreFew}
 use Rattle.serial_order.proofs.Living.{living_of-length}
 use Rattle.store_laws.proofs.Places.{row-places}
 
@@ -35,11 +35,11 @@ new_is_kept covers sound represents = λ k new.
 -- ---- who is open
 
 -- by a row that is there
-open-row : (k : Keeping) (H : List Event) (t : ℕ) (row : Option Row) → IsKept k H → slice_get k.rows t ≡ Some row → is_open (summary H) t ≡ is_some (row_of k t)
+open-row : (k : Keeping) (H : List Event) (t : ℕ) (row : Option Row) → IsKept k H → slice_get k.rows t ≡ Some row → is_open (summary H) t ≡ is_some (row_before k t)
 open-row k H t row kept there = sym (kept.transactions t row there).going ∙ ap is_some (sym (get_or_from_slice_get k.rows t row None there))
 
 -- a transaction that never began
-never-began : (k : Keeping) (H : List Event) (t : ℕ) → IsKept k H → length k.rows ≤ t → is_open (summary H) t ≡ is_some (row_of k t)
+never-began : (k : Keeping) (H : List Event) (t : ℕ) → IsKept k H → length k.rows ≤ t → is_open (summary H) t ≡ is_some (row_before k t)
 never-began k H t kept past =
     let begun = kept.begun in
     and_left _ _ (le-ltb t (summary H).begun (omega (arith, begun, past))) ∙ ap is_some (sym (get_or_past k.rows t None past))

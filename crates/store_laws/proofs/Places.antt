@@ -15,9 +15,9 @@ use Rattle.serial_order.specs.Serial.{surviving_at}
 use Rattle.serial_order.specs.Represent.{struck_at}
 use Rattle.serial_order.specs.After.{OperationsInRun, LogsAreCounted}
 use Rattle.serial_order.specs.declared.entry.Entry.{Entry}
-use Rattle.object_calls.specs.Ends.{count_at}
+use Rattle.object_calls.specs.Ends.{times_in}
 use Rattle.open_transactions.specs.Transactions.{Row}
-use Rattle.store_laws.specs.Kept.{Keeping, objects_of, places_of, IsKept}
+use Rattle.store_laws.specs.Kept.{Keeping, objects_of, worked_objects, IsKept}
 use Rattle.store_laws.specs.Before.{IsOpenRow, last_places, PlacesAreInside, HasWhatIsStruck}
 use Rattle.store_laws.proofs.Filters.{count-map, count-none, count-drop}
 use Rattle.store_laws.proofs.Lists.{inside-at}
@@ -40,13 +40,13 @@ module _ (k : Keeping) (H : List Event) (t : ℕ) (row : Row) (kept : IsKept k H
   open-now = sym (kept.transactions t (Some row) row-at).going
 
   -- its places
-  pub row-places : row.places ≡ places_of t (summary H)
+  pub row-places : row.places ≡ worked_objects t (summary H)
   row-places = (kept.transactions t (Some row) row-at).places row refl
 
   -- how many of its operations are at x, by its row
-  pub own-count : (x : ℕ) → count_at x row.places ≡ length (of t (surviving_at x H))
+  pub own-count : (x : ℕ) → times_in x row.places ≡ length (of t (surviving_at x H))
   own-count x =
-      ap (count_at x) row-places
+      ap (times_in x) row-places
       ∙ count-map (λ (e : Entry). e.at) (λ y. y == x) (of t (surviving H))
       ∙ ap length (filter-turned (λ (e : Entry). e.at == x) (is_by t) (surviving H))
 
@@ -62,12 +62,12 @@ module _ (k : Keeping) (H : List Event) (t : ℕ) (row : Row) (kept : IsKept k H
   count-elsewhere x none = sym (own-count x) ∙ count-none (λ y. y == x) row.places none
 
   -- how many of its last n operations are at x
-  pub struck-count : (x n : ℕ) → struck_at x (summary H) t n ≡ count_at x (last_places n row.places)
+  pub struck-count : (x n : ℕ) → struck_at x (summary H) t n ≡ times_in x (last_places n row.places)
   struck-count x n =
       sym
-      (ap (λ places. count_at x (last_places n places)) row-places
-      ∙ ap (λ all. count_at x (drop (all - n) (places_of t (summary H)))) (length-map (of t (surviving H)) (λ (e : Entry). e.at))
-      ∙ ap (count_at x) (drop-mapped (λ (e : Entry). e.at) (length (of t (surviving H)) - n) (of t (surviving H)))
+      (ap (λ places. times_in x (last_places n places)) row-places
+      ∙ ap (λ all. times_in x (drop (all - n) (worked_objects t (summary H)))) (length-map (of t (surviving H)) (λ (e : Entry). e.at))
+      ∙ ap (times_in x) (drop-mapped (λ (e : Entry). e.at) (length (of t (surviving H)) - n) (of t (surviving H)))
       ∙ count-map (λ (e : Entry). e.at) (λ y. y == x) (drop (length (of t (surviving H)) - n) (of t (surviving H))))
 
 -- ---- what the calls at the objects need
@@ -102,7 +102,7 @@ module _ (operations : OperationsInRun) (k : Keeping) (H : List Event) (kept : I
   living = All-from_recursion (λ (e : Entry). IsOperation (slice_get (tables_of k.meanings) e.at) e.op) (surviving H) (operations (objects_of k.meanings) H kept.run)
 
   -- the places of one transaction's
-  inside : (t : ℕ) → All (λ x. x < length k.meanings) (places_of t (summary H))
+  inside : (t : ℕ) → All (λ x. x < length k.meanings) (worked_objects t (summary H))
   inside t =
       All-map (λ x. x < length k.meanings) (λ (e : Entry). e.at) (of t (surviving H))
       (All-filter (is_by t) (λ (e : Entry). e.at < length k.meanings) (surviving H)
@@ -112,4 +112,4 @@ module _ (operations : OperationsInRun) (k : Keeping) (H : List Event) (kept : I
 
 pub places_are_inside : OperationsInRun → PlacesAreInside
 places_are_inside operations = λ k H t row kept there.
-    All-same (λ x. x < length k.meanings) row.places (places_of t (summary H)) (row-places k H t row kept there) (inside operations k H kept t)
+    All-same (λ x. x < length k.meanings) row.places (worked_objects t (summary H)) (row-places k H t row kept there) (inside operations k H kept t)

@@ -16,8 +16,8 @@ use Rattle.serial_order.specs.After.{summary_next, AreInRun, is_open_after, begi
 use Rattle.serial_order.specs.Held.{own_after}
 use Rattle.serial_order.specs.declared.entry.Entry.{Entry}
 use Rattle.open_transactions.specs.Transactions.{Row}
-use Rattle.store_laws.specs.Kept.{places_of}
-use Rattle.store_laws.specs.Moves.{at_too, without_places, IsRowMoved, RowsMove}
+use Rattle.store_laws.specs.Kept.{worked_objects}
+use Rattle.store_laws.specs.Moves.{at_too, without_places, IsKeptRowMoved, KeptRowsMove}
 use Rattle.store_laws.proofs.Lists.{before-more}
 
 -- ---- what a row says, by what is seen and who began each transaction
@@ -25,14 +25,14 @@ use Rattle.store_laws.proofs.Lists.{before-more}
 pub record IsRowOf (row : Option Row) (t : ℕ) (s : Summary) (B : List ℕ) : Type 0 where
   pub going : is_some row ≡ is_open s t
   pub worker : (r : Row) → row ≡ Some r → slice_get B t ≡ Some r.worker
-  pub places : (r : Row) → row ≡ Some r → r.places ≡ places_of t s
+  pub places : (r : Row) → row ≡ Some r → r.places ≡ worked_objects t s
 
 pub record AreRows (rows : List (Option Row)) (s : Summary) (B : List ℕ) : Type 0 where
   pub begun : length rows ≡ s.begun
   pub each : (t : ℕ) (row : Option Row) → slice_get rows t ≡ Some row → IsRowOf row t s B
 
 -- the row of an open transaction, of which the worker and the places are known
-open-row : (r : Row) (t : ℕ) (s : Summary) (B : List ℕ) → is_open s t ≡ true → slice_get B t ≡ Some r.worker → r.places ≡ places_of t s → IsRowOf (Some r) t s B
+open-row : (r : Row) (t : ℕ) (s : Summary) (B : List ℕ) → is_open s t ≡ true → slice_get B t ≡ Some r.worker → r.places ≡ worked_objects t s → IsRowOf (Some r) t s B
 open-row r t s B open_now worker places = record {
   going = sym open_now;
   worker = λ q is. worker ∙ ap (λ (o : Row). Some o.worker) (same_Some r q is);
@@ -60,7 +60,7 @@ same-row row t s now B C opens own begun known = record {
 
 -- where the moved row is right, and nothing happened to other transactions
 rows-moved : (old new : List (Option Row)) (t : ℕ) (moved : Row → Option Row) (s now : Summary) (B : List ℕ)
-    → AreRows old s B → IsRowMoved old new t moved → now.begun ≡ s.begun
+    → AreRows old s B → IsKeptRowMoved old new t moved → now.begun ≡ s.begun
     → ((r : Row) → IsRowOf (Some r) t s B → IsRowOf (moved r) t now B)
     → ((u : ℕ) → (u == t) ≡ false → is_open now u ≡ is_open s u) → ((u : ℕ) → (t == u) ≡ false → of u now.survives ≡ of u s.survives)
     → AreRows new now B
@@ -85,7 +85,7 @@ module _ (old new : List (Option Row)) (s : Summary) (B : List ℕ) (known : Are
 
   -- an operation
   rows-op : (t x k : ℕ) → is_open s t ≡ true → ((u : ℕ) → of u (summary_next s (Op k t x)).survives ≡ own_after u s (Op k t x))
-      → IsRowMoved old new t (λ r. Some (at_too x r)) → AreRows new (summary_next s (Op k t x)) B
+      → IsKeptRowMoved old new t (λ r. Some (at_too x r)) → AreRows new (summary_next s (Op k t x)) B
   rows-op t x k open_now own move =
       rows-moved old new t (λ r. Some (at_too x r)) s (summary_next s (Op k t x)) B known move refl
       (λ r was. open-row (at_too x r) t (summary_next s (Op k t x)) B open_now (was.worker r refl) (places r (was.places r refl)))
@@ -95,7 +95,7 @@ module _ (old new : List (Option Row)) (s : Summary) (B : List ℕ) (known : Are
       mine : of t (summary_next s (Op k t x)).survives ≡ of t s.survives ++ (record { by = t; at = x; op = k }) ∷ []
       mine = own t ∙ rw (eq-eqb t t refl) refl
 
-      places : (r : Row) → r.places ≡ places_of t s → r.places ++ x ∷ [] ≡ places_of t (summary_next s (Op k t x))
+      places : (r : Row) → r.places ≡ worked_objects t s → r.places ++ x ∷ [] ≡ worked_objects t (summary_next s (Op k t x))
       places r was =
           ap (λ ps. ps ++ x ∷ []) was
           ∙ sym (map-append (λ (e : Entry). e.at) (of t s.survives) ((record { by = t; at = x; op = k }) ∷ []))
@@ -103,7 +103,7 @@ module _ (old new : List (Option Row)) (s : Summary) (B : List ℕ) (known : Are
 
   -- the end of a transaction
   rows-end : (t : ℕ) (now : Summary) → now.begun ≡ s.begun → ((u : ℕ) → is_open now u ≡ (not (u == t) && is_open s u))
-      → ((u : ℕ) → (t == u) ≡ false → of u now.survives ≡ of u s.survives) → IsRowMoved old new t (λ r. None) → AreRows new now B
+      → ((u : ℕ) → (t == u) ≡ false → of u now.survives ≡ of u s.survives) → IsKeptRowMoved old new t (λ r. None) → AreRows new now B
   rows-end t now begun opens own move =
       rows-moved old new t (λ r. None) s now B known move begun
       (λ r was. closed-row t now B (opens t ∙ rw (eq-eqb t t refl) refl))
@@ -112,7 +112,7 @@ module _ (old new : List (Option Row)) (s : Summary) (B : List ℕ) (known : Are
 
   -- a rollback
   rows-rollback : (t n : ℕ) → is_open s t ≡ true → ((u : ℕ) → of u (summary_next s (Rollback t n)).survives ≡ own_after u s (Rollback t n))
-      → IsRowMoved old new t (λ r. Some (without_places n r)) → AreRows new (summary_next s (Rollback t n)) B
+      → IsKeptRowMoved old new t (λ r. Some (without_places n r)) → AreRows new (summary_next s (Rollback t n)) B
   rows-rollback t n open_now own move =
       rows-moved old new t (λ r. Some (without_places n r)) s (summary_next s (Rollback t n)) B known move refl
       (λ r was. open-row (without_places n r) t (summary_next s (Rollback t n)) B open_now (was.worker r refl) (places r (was.places r refl)))
@@ -122,10 +122,10 @@ module _ (old new : List (Option Row)) (s : Summary) (B : List ℕ) (known : Are
       mine : of t (summary_next s (Rollback t n)).survives ≡ take (length (of t s.survives) - n) (of t s.survives)
       mine = own t ∙ rw (eq-eqb t t refl) refl
 
-      places : (r : Row) → r.places ≡ places_of t s → take (length r.places - n) r.places ≡ places_of t (summary_next s (Rollback t n))
+      places : (r : Row) → r.places ≡ worked_objects t s → take (length r.places - n) r.places ≡ worked_objects t (summary_next s (Rollback t n))
       places r was =
           ap (λ ps. take (length ps - n) ps) was
-          ∙ ap (λ l. take (l - n) (places_of t s)) (length-map (of t s.survives) (λ (e : Entry). e.at))
+          ∙ ap (λ l. take (l - n) (worked_objects t s)) (length-map (of t s.survives) (λ (e : Entry). e.at))
           ∙ take-map (λ (e : Entry). e.at) (length (of t s.survives) - n) (of t s.survives)
           ∙ ap (map (λ (e : Entry). e.at)) (sym mine)
 
@@ -162,7 +162,7 @@ module _ (old new : List (Option Row)) (s : Summary) (B : List ℕ) (known : Are
 pub rows-after : (objects : List Object) (old new : List (Option Row)) (s : Summary) (B : List ℕ) (w : ℕ) (happened : EventKind)
     → AreRows old s B → AreInRun s → length B ≡ s.begun → May objects s happened
     → ((u : ℕ) → is_open (summary_next s happened) u ≡ is_open_after s happened u) → ((u : ℕ) → of u (summary_next s happened).survives ≡ own_after u s happened)
-    → RowsMove w happened old new → AreRows new (summary_next s happened) (B ++ beginner w happened)
+    → KeptRowsMove w happened old new → AreRows new (summary_next s happened) (B ++ beginner w happened)
 rows-after objects old new s B w (Begin t) known in_run workers may opens own move = rows-begin old new s B known w t in_run workers may opens move
 rows-after objects old new s B w (Op k t x) known in_run workers may opens own move = rw (append-nil B) (rows-op old new s B known t x k may.0 own move)
 rows-after objects old new s B w (Busy c t x u) known in_run workers may opens own move = rw (append-nil B) (rows-same old new s B known move)

@@ -12,7 +12,7 @@ use Rattle.serial_order.specs.Laws.{RunGoesOn, RepresentsOn, MachineMayApply}
 use Rattle.serial_order.specs.After.{SummaryAfter, TransactionsInRun, OpensAfter, beginners, BeginnersAfter, LogsAreCounted}
 use Rattle.serial_order.specs.Held.{OwnAfter}
 use Rattle.open_transactions.specs.Transactions.{Row}
-use Rattle.store_laws.specs.Kept.{Keeping, objects_of, IsObject, IsRow, IsKept}
+use Rattle.store_laws.specs.Kept.{Keeping, objects_of, IsObject, IsKeptRow, IsKept}
 use Rattle.store_laws.specs.Moves.{Moves, StaysKept}
 use Rattle.store_laws.proofs.Objects.{same-type, same-types, object-at, object-after}
 use Rattle.store_laws.proofs.Rows.{IsRowOf, AreRows, rows-after}
@@ -57,7 +57,7 @@ module _ (old new : Keeping) (H : List Event) (e : Event) (known : IsKept old H)
 
 -- ---- all of it
 
-row-of : (row : Option Row) (t : ℕ) (H : List Event) → IsRowOf row t (summary H) (beginners H) → IsRow row t H
+row-of : (row : Option Row) (t : ℕ) (H : List Event) → IsRowOf row t (summary H) (beginners H) → IsKeptRow row t H
 row-of row t H is = record { going = is.going; worker = is.worker; places = is.places }
 
 -- the law, from those on which it depends

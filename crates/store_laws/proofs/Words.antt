@@ -42,43 +42,43 @@ module _ (alike : AllowsAlike) (blocks : StopperIsBlocker) (objects : List Objec
   legal k = let both = alike m x H t k open_now represents in both_ways _ _ (λ is. both.0 is) (λ is. both.1 is)
 
   -- of which operations are replies
-  reply : (k : ℕ) → k < length m.checked.file.table.ops → calls.is_reply m t c k ≡ order.is_reply (object m) (summary H) x t c k
+  reply : (k : ℕ) → k < length m.checked.file.table.ops → calls.is_call_reply m t c k ≡ order.is_reply (object m) (summary H) x t c k
   reply k low =
       ap (λ b. is_same_call m.checked.file.table k c && b) (legal k)
       ∙ ap (λ b. (b && is_same_call m.checked.file.table k c) && is_legal_for (object m) (summary H) x t k) (sym (lt-ltb k (length m.checked.file.table.ops) low))
 
   -- and of which nobody blocks
-  free_reply : (k : ℕ) → k < length m.checked.file.table.ops → calls.is_free_reply m t c k ≡ order.is_free_reply (object m) (summary H) x t c k
+  free_reply : (k : ℕ) → k < length m.checked.file.table.ops → calls.is_free_answer m t c k ≡ order.is_free_reply (object m) (summary H) x t c k
   free_reply k low =
       ap (λ b. b && not (is_some (stopper m t k))) (reply k low)
       ∙ ap (λ b. order.is_reply (object m) (summary H) x t c k && not b)
       (ap is_some (sym (blocked k)) ∙ some-map (λ (e : Entry). e.by) (blocker (object m) (summary H) x t k))
 
   -- `Busy` with who blocks
-  busy : (o : Option Entry) → as_event t x c (calls.busy_with (option_map (λ (e : Entry). e.by) o)) ≡ order.busy_with o t x c
+  busy : (o : Option Entry) → as_event t x c (calls.busy_answer (option_map (λ (e : Entry). e.by) o)) ≡ order.busy_with o t x c
   busy None = refl
   busy (Some e) = refl
 
   -- with the first reply, where there is one
-  refused : (found : Option ℕ) → as_event t x c (calls.refused m t c found) ≡ order.refused (object m) (summary H) x t c found
+  refused : (found : Option ℕ) → as_event t x c (calls.refused_answer m t c found) ≡ order.refused (object m) (summary H) x t c found
   refused None = refl
   refused (Some k) =
-      ap (λ b. as_event t x c (calls.busy_with b)) (sym (blocked k)) ∙ busy (blocker (object m) (summary H) x t k)
+      ap (λ b. as_event t x c (calls.busy_answer b)) (sym (blocked k)) ∙ busy (blocker (object m) (summary H) x t k)
 
   -- with the first free one, where there is one
   answered : (found : Option ℕ) → as_event t x c (calls.answer_of_first m t c found) ≡ order.event_of_first (object m) (summary H) x t c found
   answered None =
-      refused (first_below (length m.checked.file.table.ops) (calls.is_reply m t c))
+      refused (first_below (length m.checked.file.table.ops) (calls.is_call_reply m t c))
       ∙ ap (order.refused (object m) (summary H) x t c)
-      (first_below-agree (length m.checked.file.table.ops) (calls.is_reply m t c) (order.is_reply (object m) (summary H) x t c) reply)
+      (first_below-agree (length m.checked.file.table.ops) (calls.is_call_reply m t c) (order.is_reply (object m) (summary H) x t c) reply)
   answered (Some k) = refl
 
   -- the answer
   answer : as_event t x c (answer_of m t c) ≡ order.event_of_call (object m) (summary H) x t c
   answer =
-      answered (first_below (length m.checked.file.table.ops) (calls.is_free_reply m t c))
+      answered (first_below (length m.checked.file.table.ops) (calls.is_free_answer m t c))
       ∙ ap (order.event_of_first (object m) (summary H) x t c)
-      (first_below-agree (length m.checked.file.table.ops) (calls.is_free_reply m t c) (order.is_free_reply (object m) (summary H) x t c) free_reply)
+      (first_below-agree (length m.checked.file.table.ops) (calls.is_free_answer m t c) (order.is_free_reply (object m) (summary H) x t c) free_reply)
 
 pub answers_as_defined : AllowsAlike → StopperIsBlocker → AnswersAsDefined
 answers_as_defined alike blocks = λ objects m x H t c run_is represents open_now. answer alike blocks objects m x H t c run_is represents open_now

@@ -7,13 +7,13 @@ use Rattle.serial_order.specs.declared.command.Command.TheVariants.{Call}
 use Rattle.serial_order.specs.declared.refusal.Refusal.{Refusal}
 use Rattle.serial_order.specs.declared.refusal.Refusal.TheVariants.{NoMemory}
 use Rattle.object_calls.specs.declared.answer.Answer.{Answer}
-use Rattle.store_laws.specs.Stored.{Stored, objects, refused, MayStep}
+use Rattle.store_laws.specs.Stored.{Stored, objects, refusal_in, MayStep}
 use Rattle.store_laws.specs.Words.{as_event}
 
 -- ---- what was asked
 
 -- a worker's command, why it was refused, None where it wasn't, and the store that it left
-pub record Asked : Type 0 where
+pub record AskedCommand : Type 0 where
   pub worker : ℕ
   pub command : Command
   pub reason : Option Refusal
@@ -25,54 +25,54 @@ result_of None = Ok tt
 result_of (Some r) = Err r
 
 -- it was asked at this store: what the clause of its call says
-abbrev pub IsAsked : Stored → Asked → Type 0
-IsAsked old a = MayStep old a.worker a.command (result_of a.reason) a.left
+abbrev pub IsAskedAt : Stored → AskedCommand → Type 0
+IsAskedAt old a = MayStep old a.worker a.command (result_of a.reason) a.left
 
 -- commands were asked one after another, each at the store that the one before left
-abbrev pub AreAsked : Stored → List Asked → Type 0
+abbrev pub AreAsked : Stored → List AskedCommand → Type 0
 AreAsked old [] = Unit {0}
-AreAsked old (a ∷ asked) = IsAsked old a × AreAsked a.left asked
+AreAsked old (a ∷ asked) = IsAskedAt old a × AreAsked a.left asked
 
 -- the store that the last one left
-abbrev pub left_by : Stored → List Asked → Stored
-left_by old [] = old
-left_by old (a ∷ asked) = left_by a.left asked
+abbrev pub store_left_by : Stored → List AskedCommand → Stored
+store_left_by old [] = old
+store_left_by old (a ∷ asked) = store_left_by a.left asked
 
 -- ---- their replay
 
-abbrev pub commands_of : List Asked → List (ℕ × Command)
-commands_of asked = map (λ (a : Asked). (a.worker, a.command)) asked
+abbrev pub commands_of : List AskedCommand → List (ℕ × Command)
+commands_of asked = map (λ (a : AskedCommand). (a.worker, a.command)) asked
 
 abbrev pub is_memory_refused : Option Refusal → Bool
 is_memory_refused (Some NoMemory) = true
 is_memory_refused other = false
 
 -- the places of the commands at which memory was refused
-abbrev pub memory_refused_in : List Asked → ℕ → Bool
+abbrev pub memory_refused_in : List AskedCommand → ℕ → Bool
 memory_refused_in [] place = false
 memory_refused_in (a ∷ asked) zero = is_memory_refused a.reason
 memory_refused_in (a ∷ asked) (suc place) = memory_refused_in asked place
 
 -- a store with the history that is the replay of the first n commands
-abbrev pub replayed : Stored → List Asked → ℕ → Stored
+abbrev pub replayed : Stored → List AskedCommand → ℕ → Stored
 replayed old asked n = record old { history = replay (objects old) old.max (memory_refused_in asked) old.history (take n (commands_of asked)) }
 
 -- the store after all commands has the history of their replay, and each command was answered at the replay of those before it
-pub record IsReplayed (old : Stored) (asked : List Asked) : Type 0 where
-  pub all : left_by old asked ≡ record old { history = replay (objects old) old.max (memory_refused_in asked) old.history (commands_of asked) }
-  pub each : (i : ℕ) (a : Asked) → slice_get asked i ≡ Some a → IsAsked (replayed old asked i) a
+pub record LeavesReplay (old : Stored) (asked : List AskedCommand) : Type 0 where
+  pub all : store_left_by old asked ≡ record old { history = replay (objects old) old.max (memory_refused_in asked) old.history (commands_of asked) }
+  pub each : (i : ℕ) (a : AskedCommand) → slice_get asked i ≡ Some a → IsAskedAt (replayed old asked i) a
 
 -- ---- statements of laws
 
 -- whatever commands a store was asked, it has the history of their replay, and answered each as that history defines it
 abbrev pub AskedIsReplayed : Type 0
-AskedIsReplayed = (old : Stored) (asked : List Asked) → AreAsked old asked → IsReplayed old asked
+AskedIsReplayed = (old : Stored) (asked : List AskedCommand) → AreAsked old asked → LeavesReplay old asked
 
 -- the clause of a call says that its command was asked, whatever the call answers
 abbrev pub StepIsAsked : Type 0 → Type 0
 StepIsAsked T =
     (old new : Stored) (w : ℕ) (command : Command) (result : Result T Refusal) → MayStep old w command result new
-    → IsAsked old (record { worker = w; command = command; reason = refused result; left = new })
+    → IsAskedAt old (record { worker = w; command = command; reason = refusal_in result; left = new })
 
 -- an answer that the last event says is the one that the history before it defines
 abbrev pub AnswerIsDefined : Type 0

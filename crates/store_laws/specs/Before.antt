@@ -27,12 +27,12 @@ NewIsKept = (k : Keeping) → IsNew k → IsKept k []
 -- ---- rows of transactions
 
 -- the row of t, None where t ended or never began
-abbrev pub row_of : Keeping → ℕ → Option Row
-row_of k t = slice_index_or k.rows t None
+abbrev pub row_before : Keeping → ℕ → Option Row
+row_before k t = slice_index_or k.rows t None
 
 -- t is open, and this is its row
 abbrev pub IsOpenRow : Keeping → ℕ → Row → Type 0
-IsOpenRow k t row = row_of k t ≡ Some row
+IsOpenRow k t row = row_before k t ≡ Some row
 
 -- the last n of some places
 abbrev pub last_places : ℕ → List ℕ → List ℕ
@@ -40,7 +40,7 @@ last_places n places = drop (length places - n) places
 
 -- a transaction is open where it has a row
 abbrev pub RowsSayWhoIsOpen : Type 0
-RowsSayWhoIsOpen = (k : Keeping) (H : List Event) (t : ℕ) → IsKept k H → is_open (summary H) t ≡ is_some (row_of k t)
+RowsSayWhoIsOpen = (k : Keeping) (H : List Event) (t : ℕ) → IsKept k H → is_open (summary H) t ≡ is_some (row_before k t)
 
 -- as many are open as have a row
 abbrev pub RowsAreCounted : Type 0

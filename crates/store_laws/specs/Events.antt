@@ -10,7 +10,7 @@ use Rattle.object_trait.specs.declared.event.EventKind.TheVariants.{Begin, Op, B
 use Rattle.serial_order.specs.History.{summary}
 use Rattle.serial_order.specs.Machine.{MayFollow, IsRun}
 use Rattle.serial_order.specs.Replay.{open_count}
-use Rattle.object_calls.specs.Ends.{count_at, ChangesAt, IsEnd}
+use Rattle.object_calls.specs.Ends.{times_in, ChangesAt, EndsObject}
 use Rattle.object_calls.specs.declared.end.End.{End}
 use Rattle.object_calls.specs.declared.end.End.TheVariants as end
 use Rattle.store_laws.specs.Stored.{types_of}
@@ -49,14 +49,14 @@ end_event end.Abort t = Abort t
 abbrev pub EndMoves : Type 0
 EndMoves =
     (how : End) (old new : Keeping) (H : List Event) (w t : ℕ) (row : Row) → IsKept old H → IsOpenRow old t row
-    → ChangesAt row.places (λ x m n. IsEnd how m t n) old.meanings new.meanings
+    → ChangesAt row.places (λ x m n. EndsObject how m t n) old.meanings new.meanings
     → new.rows ≡ set old.rows t None → Moves old new H (record { worker = w; kind = end_event how t })
 
 -- with as many entries struck at each object as are among the last n places of t: a rollback
 abbrev pub RollbackMoves : Type 0
 RollbackMoves =
     (old new : Keeping) (H : List Event) (w t n : ℕ) (row : Row) → IsKept old H → IsOpenRow old t row
-    → ChangesAt (last_places n row.places) (λ x m k. IsStrike m t (count_at x (last_places n row.places)) k) old.meanings new.meanings
+    → ChangesAt (last_places n row.places) (λ x m k. IsStrike m t (times_in x (last_places n row.places)) k) old.meanings new.meanings
     → new.rows ≡ set old.rows t (Some (without_places n row)) → Moves old new H (record { worker = w; kind = Rollback t n })
 
 -- ---- any event
@@ -66,14 +66,14 @@ abbrev pub TypesStay : Type 0
 TypesStay = (old new : Keeping) (H : List Event) (e : Event) → Moves old new H e → types_of new.meanings ≡ types_of old.meanings
 
 -- how much room it takes, for itself and for the ends of open transactions
-abbrev pub takes : EventKind → ℕ
-takes (Begin t) = 2
-takes (Commit t) = 0
-takes (Abort t) = 0
-takes _ = 1
+abbrev pub room_taken : EventKind → ℕ
+room_taken (Begin t) = 2
+room_taken (Commit t) = 0
+room_taken (Abort t) = 0
+room_taken _ = 1
 
 -- an event that may follow takes that much
 abbrev pub RoomAfter : Type 0
 RoomAfter =
     (objects : List Object) (H : List Event) (e : Event) → IsRun objects H → MayFollow objects H e
-    → length (H ++ e ∷ []) + open_count (summary (H ++ e ∷ [])) ≡ length H + open_count (summary H) + takes e.kind
+    → length (H ++ e ∷ []) + open_count (summary (H ++ e ∷ [])) ≡ length H + open_count (summary H) + room_taken e.kind

@@ -11,23 +11,23 @@ use Rattle.serial_order.specs.declared.command.Command.TheVariants as command
 use Rattle.serial_order.specs.declared.refusal.Refusal.{Refusal}
 use Rattle.serial_order.specs.declared.refusal.Refusal.TheVariants.{NotOpen, NoMemory}
 use Rattle.store_laws.specs.Stored.{Stored}
-use Rattle.store_laws.specs.Asked.{Asked}
+use Rattle.store_laws.specs.Asked.{AskedCommand}
 use Rattle.open_transactions.specs.Transactions.{Row}
 use Rattle.store_laws.specs.Kept.{Keeping}
 
 -- ---- how examples are written
 
 -- the counter, update in place
-abbrev pub undo_counter : Checked
-undo_counter = (record { kind = Undo; file = counter_file })
+abbrev pub undo_counter_type : Checked
+undo_counter_type = (record { kind = Undo; file = counter_file })
 
 -- the counter, deferred update
-abbrev pub deferred_counter : Checked
-deferred_counter = (record { kind = Intentions; file = counter_file })
+abbrev pub deferred_counter_type : Checked
+deferred_counter_type = (record { kind = Intentions; file = counter_file })
 
 -- the checker says yes for both
 abbrev pub AreAccepted : Type 0
-AreAccepted = IsChecked undo_counter × IsChecked deferred_counter
+AreAccepted = IsChecked undo_counter_type × IsChecked deferred_counter_type
 
 -- an open transaction that worker 7 began
 abbrev pub by_seven : List ℕ → Row
@@ -44,8 +44,8 @@ abbrev pub new_counters : Keeping
 new_counters = record { meanings = object.counter_at Undo 0 [] ∷ object.counter_at Intentions 0 [] ∷ []; rows = [] }
 
 -- when it began
-abbrev pub begun : Keeping
-begun = record new_counters { rows = Some (by_seven []) ∷ [] }
+abbrev pub counters_begun : Keeping
+counters_begun = record new_counters { rows = Some (by_seven []) ∷ [] }
 
 -- when it had counted up
 abbrev pub counted : Keeping
@@ -73,14 +73,14 @@ one_back =
 
 -- the two counters with this history, and room for four events
 abbrev pub stored : List Event → Stored
-stored H = record { types = undo_counter ∷ deferred_counter ∷ []; history = H; max = 4; forgotten = 0 }
+stored H = record { types = undo_counter_type ∷ deferred_counter_type ∷ []; history = H; max = 4; forgotten = 0 }
 
 -- worker 7 asked a command, which left this history
-abbrev pub by_worker : Command → Option Refusal → List Event → Asked
+abbrev pub by_worker : Command → Option Refusal → List Event → AskedCommand
 by_worker command reason H = record { worker = 7; command = command; reason = reason; left = stored H }
 
 -- a begin for which memory is refused, and then the transaction, whose commit is asked twice
-abbrev pub up_and_again : List Asked
+abbrev pub up_and_again : List AskedCommand
 up_and_again =
     by_worker command.Begin (Some NoMemory) [] ∷ by_worker command.Begin None (take 1 one_up) ∷ by_worker (command.Call 0 1 (codes "inc:1")) None (take 2 one_up)
     ∷ by_worker (command.Commit 0) None one_up ∷ by_worker (command.Commit 0) (Some NotOpen) one_up ∷ []

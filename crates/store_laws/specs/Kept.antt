@@ -32,8 +32,8 @@ abbrev pub objects_of : List Meaning → List Object
 objects_of ms = map object_of (types_of ms)
 
 -- the places of a transaction's operations that survive
-abbrev pub places_of : ℕ → Summary → List ℕ
-places_of t s = map (λ (e : Entry). e.at) (of t s.survives)
+abbrev pub worked_objects : ℕ → Summary → List ℕ
+worked_objects t s = map (λ (e : Entry). e.at) (of t s.survives)
 
 -- the object at x: the checker said yes for its type, its meaning is sound, and it represents the history
 pub record IsObject (m : Meaning) (x : ℕ) (H : List Event) : Type 0 where
@@ -42,17 +42,17 @@ pub record IsObject (m : Meaning) (x : ℕ) (H : List Event) : Type 0 where
   pub represents : Represents m x H
 
 -- the row of the transaction t
-pub record IsRow (row : Option Row) (t : ℕ) (H : List Event) : Type 0 where
+pub record IsKeptRow (row : Option Row) (t : ℕ) (H : List Event) : Type 0 where
   pub going : is_some row ≡ is_open (summary H) t
   pub worker : (r : Row) → row ≡ Some r → slice_get (beginners H) t ≡ Some r.worker
-  pub places : (r : Row) → row ≡ Some r → r.places ≡ places_of t (summary H)
+  pub places : (r : Row) → row ≡ Some r → r.places ≡ worked_objects t (summary H)
 
 -- all of it: the history is a run, each object represents it, and each row is what the history says of its transaction
 pub record IsKept (k : Keeping) (H : List Event) : Type 0 where
   pub run : IsRun (objects_of k.meanings) H
   pub objects : (x : ℕ) (m : Meaning) → slice_get k.meanings x ≡ Some m → IsObject m x H
   pub begun : length k.rows ≡ (summary H).begun
-  pub transactions : (t : ℕ) (row : Option Row) → slice_get k.rows t ≡ Some row → IsRow row t H
+  pub transactions : (t : ℕ) (row : Option Row) → slice_get k.rows t ≡ Some row → IsKeptRow row t H
 
 -- and the history has room for the ends of open transactions, in its vector and by its limit
 pub record IsStore (k : Keeping) (H : List Event) (capacity max : ℕ) : Type 0 where

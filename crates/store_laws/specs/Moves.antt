@@ -21,19 +21,19 @@ abbrev pub without_places : ℕ → Row → Row
 without_places n r = record r { places = take (length r.places - n) r.places }
 
 -- t's row is that of an open transaction, which an event of its makes another
-pub record IsRowMoved (old new : List (Option Row)) (t : ℕ) (moved : Row → Option Row) : Type 0 where
+pub record IsKeptRowMoved (old new : List (Option Row)) (t : ℕ) (moved : Row → Option Row) : Type 0 where
   pub row : Row
   pub was : slice_get old t ≡ Some (Some row)
   pub becomes : new ≡ set old t (moved row)
 
 -- what the event of a worker does to the rows
-abbrev pub RowsMove : ℕ → EventKind → List (Option Row) → List (Option Row) → Type 0
-RowsMove w (Begin t) old new = new ≡ old ++ Some (record { worker = w; places = [] }) ∷ []
-RowsMove w (Op k t x) old new = IsRowMoved old new t (λ r. Some (at_too x r))
-RowsMove w (Commit t) old new = IsRowMoved old new t (λ r. None)
-RowsMove w (Abort t) old new = IsRowMoved old new t (λ r. None)
-RowsMove w (Rollback t n) old new = IsRowMoved old new t (λ r. Some (without_places n r))
-RowsMove w _ old new = new ≡ old
+abbrev pub KeptRowsMove : ℕ → EventKind → List (Option Row) → List (Option Row) → Type 0
+KeptRowsMove w (Begin t) old new = new ≡ old ++ Some (record { worker = w; places = [] }) ∷ []
+KeptRowsMove w (Op k t x) old new = IsKeptRowMoved old new t (λ r. Some (at_too x r))
+KeptRowsMove w (Commit t) old new = IsKeptRowMoved old new t (λ r. None)
+KeptRowsMove w (Abort t) old new = IsKeptRowMoved old new t (λ r. None)
+KeptRowsMove w (Rollback t n) old new = IsKeptRowMoved old new t (λ r. Some (without_places n r))
+KeptRowsMove w _ old new = new ≡ old
 
 -- ---- all that is kept
 
@@ -41,7 +41,7 @@ RowsMove w _ old new = new ≡ old
 pub record Moves (old new : Keeping) (H : List Event) (e : Event) : Type 0 where
   pub as_many : length new.meanings ≡ length old.meanings
   pub objects : (x : ℕ) (m n : Meaning) → slice_get old.meanings x ≡ Some m → slice_get new.meanings x ≡ Some n → Changes x (summary H) e.kind m n
-  pub rows : RowsMove e.worker e.kind old.rows new.rows
+  pub rows : KeptRowsMove e.worker e.kind old.rows new.rows
 
 -- by an event that may follow, what is kept goes on agreeing with the history. Its length leaves room in logs, which are no longer
 abbrev pub StaysKept : Type 0

@@ -32,13 +32,13 @@ abbrev pub stored_after : Stored → ℕ → Command → Stored
 stored_after s w command = record s { history = after_command (objects s) s.max s.history w command }
 
 -- why a call was refused
-abbrev pub refused : {T : Type 0} → Result T Refusal → Option Refusal
-refused (Ok x) = None
-refused (Err r) = Some r
+abbrev pub refusal_in : {T : Type 0} → Result T Refusal → Option Refusal
+refusal_in (Ok x) = None
+refusal_in (Err r) = Some r
 
 -- a call that takes no memory
 abbrev pub Steps : {T : Type 0} → Stored → ℕ → Command → Result T Refusal → Stored → Type 0
-Steps old w command result new = (refused result ≡ refusal_of old command) × (new ≡ stored_after old w command)
+Steps old w command result new = (refusal_in result ≡ refusal_of old command) × (new ≡ stored_after old w command)
 
 -- one that may take it, where it isn't refused for another reason
 abbrev pub MayStep : {T : Type 0} → Stored → ℕ → Command → Result T Refusal → Stored → Type 0

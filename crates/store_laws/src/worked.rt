@@ -5,12 +5,12 @@ ghost use Rattle.std.specs.Prelude.{◌≡◌, ℕ, [], ◌∷◌, Some, None, O
 ghost use Rattle.type_table.specs.Operation.{operation_at};
 ghost use Rattle.serial_order.specs.Replay.{replay};
 ghost use Rattle.store_laws.specs.Stored.{objects, refusal_of, stored_after, Steps, MayStep};
-ghost use Rattle.store_laws.specs.Kept.{IsRow, IsKept, IsStore};
-ghost use Rattle.store_laws.specs.Moves.{RowsMove, Moves};
+ghost use Rattle.store_laws.specs.Kept.{IsKeptRow, IsKept, IsStore};
+ghost use Rattle.store_laws.specs.Moves.{KeptRowsMove, Moves};
 ghost use Rattle.store_laws.specs.Words.{as_event};
 ghost use Rattle.store_laws.specs.Before.{last_places};
-ghost use Rattle.store_laws.specs.Asked.{AreAsked, left_by, commands_of, memory_refused_in, replayed};
-ghost use Rattle.store_laws.specs.Examples.{AreAccepted, by_seven, one_up, new_counters, begun, counted, committed, one_back, stored, by_worker, up_and_again};
+ghost use Rattle.store_laws.specs.Asked.{AreAsked, store_left_by, commands_of, memory_refused_in, replayed};
+ghost use Rattle.store_laws.specs.Examples.{AreAccepted, by_seven, one_up, new_counters, counters_begun, counted, committed, one_back, stored, by_worker, up_and_again};
 
 use crate::laws::{end_moves, op_moves, rollback_moves, stays_kept};
 use object_calls::Answer;
@@ -28,7 +28,7 @@ pub fn a_new_store_agrees()
 
 /// It goes on agreeing by each event: its transaction begins, counts up at the second, and commits.
 pub fn it_goes_on_agreeing()
-    ensures begun { AreAccepted → IsKept begun (take 1 one_up) }
+    ensures begun { AreAccepted → IsKept counters_begun (take 1 one_up) }
     ensures counted { AreAccepted → IsKept counted (take 2 one_up) }
     ensures committed { AreAccepted → IsKept committed one_up }
 {
@@ -39,8 +39,8 @@ pub fn it_goes_on_agreeing()
 /// What its calls change is what its events do, by the law of each: it counts up, and then takes that
 /// back, or commits.
 pub fn its_calls_are_its_events()
-    ensures counts { AreAccepted → Moves begun counted (take 1 one_up) (record { worker = 7; kind = EventKind.Op 0 0 1 }) }
-    ensures takes_back { AreAccepted → Moves counted begun (take 2 one_up) (record { worker = 7; kind = EventKind.Rollback 0 1 }) }
+    ensures counts { AreAccepted → Moves counters_begun counted (take 1 one_up) (record { worker = 7; kind = EventKind.Op 0 0 1 }) }
+    ensures takes_back { AreAccepted → Moves counted counters_begun (take 2 one_up) (record { worker = 7; kind = EventKind.Rollback 0 1 }) }
     ensures commits { AreAccepted → Moves counted committed (take 2 one_up) (record { worker = 7; kind = EventKind.Commit 0 }) }
 {
     it_goes_on_agreeing();
@@ -58,28 +58,28 @@ pub fn it_agrees_with_its_own_history_alone()
 
 /// A row says who began its transaction and where its surviving operations are.
 pub fn a_row_says_what_its_transaction_did()
-    ensures before { IsRow (Some (by_seven (0 ∷ 1 ∷ []))) 1 (take 4 one_back) }
-    ensures after { IsRow (Some (by_seven (0 ∷ []))) 1 one_back }
-    ensures rolled_back { IsRow (Some (by_seven (0 ∷ 1 ∷ []))) 1 one_back → ⊥ }
-    ensures another_worker { IsRow (Some (by_seven [])) 0 one_back → ⊥ }
-    ensures going { IsRow None 1 one_back → ⊥ }
-    ensures ended { IsRow None 0 one_up }
-    ensures unfinished { IsRow (Some (by_seven (1 ∷ []))) 0 one_up → ⊥ }
+    ensures before { IsKeptRow (Some (by_seven (0 ∷ 1 ∷ []))) 1 (take 4 one_back) }
+    ensures after { IsKeptRow (Some (by_seven (0 ∷ []))) 1 one_back }
+    ensures rolled_back { IsKeptRow (Some (by_seven (0 ∷ 1 ∷ []))) 1 one_back → ⊥ }
+    ensures another_worker { IsKeptRow (Some (by_seven [])) 0 one_back → ⊥ }
+    ensures going { IsKeptRow None 1 one_back → ⊥ }
+    ensures ended { IsKeptRow None 0 one_up }
+    ensures unfinished { IsKeptRow (Some (by_seven (1 ∷ []))) 0 one_up → ⊥ }
 {}
 
 /// A rollback takes the last places from its transaction's row, and nothing from another's.
 pub fn a_rollback_takes_the_last_places()
-    ensures one { RowsMove 7 (EventKind.Rollback 1 1) (None ∷ Some (by_seven (0 ∷ 1 ∷ [])) ∷ []) (None ∷ Some (by_seven (0 ∷ [])) ∷ []) }
-    ensures both { RowsMove 7 (EventKind.Rollback 1 2) (None ∷ Some (by_seven (0 ∷ 1 ∷ [])) ∷ []) (None ∷ Some (by_seven []) ∷ []) }
-    ensures first { RowsMove 7 (EventKind.Rollback 1 1) (None ∷ Some (by_seven (0 ∷ 1 ∷ [])) ∷ []) (None ∷ Some (by_seven (1 ∷ [])) ∷ []) → ⊥ }
-    ensures ended { RowsMove 7 (EventKind.Rollback 0 1) (None ∷ []) (None ∷ []) → ⊥ }
+    ensures one { KeptRowsMove 7 (EventKind.Rollback 1 1) (None ∷ Some (by_seven (0 ∷ 1 ∷ [])) ∷ []) (None ∷ Some (by_seven (0 ∷ [])) ∷ []) }
+    ensures both { KeptRowsMove 7 (EventKind.Rollback 1 2) (None ∷ Some (by_seven (0 ∷ 1 ∷ [])) ∷ []) (None ∷ Some (by_seven []) ∷ []) }
+    ensures first { KeptRowsMove 7 (EventKind.Rollback 1 1) (None ∷ Some (by_seven (0 ∷ 1 ∷ [])) ∷ []) (None ∷ Some (by_seven (1 ∷ [])) ∷ []) → ⊥ }
+    ensures ended { KeptRowsMove 7 (EventKind.Rollback 0 1) (None ∷ []) (None ∷ []) → ⊥ }
 {}
 
 /// Room is reserved for the end of each open transaction, in the vector and by the limit.
 pub fn room_is_reserved_for_the_ends()
-    ensures enough { IsKept begun (take 1 one_up) → IsStore begun (take 1 one_up) 2 2 }
-    ensures small { IsStore begun (take 1 one_up) 1 2 → ⊥ }
-    ensures limited { IsStore begun (take 1 one_up) 2 1 → ⊥ }
+    ensures enough { IsKept counters_begun (take 1 one_up) → IsStore counters_begun (take 1 one_up) 2 2 }
+    ensures small { IsStore counters_begun (take 1 one_up) 1 2 → ⊥ }
+    ensures limited { IsStore counters_begun (take 1 one_up) 2 1 → ⊥ }
 {}
 
 /// What a call does: its event, by its worker, and nothing where it is refused.
@@ -120,7 +120,7 @@ pub fn the_last_places()
 /// commit again: the history is that of the three that were done, which is the replay of all five.
 pub fn asked_commands_are_replayed()
     ensures asked { AreAsked (stored []) up_and_again }
-    ensures left { left_by (stored []) up_and_again ≡ stored one_up }
+    ensures left { store_left_by (stored []) up_and_again ≡ stored one_up }
     ensures history { replay (objects (stored [])) 4 (memory_refused_in up_and_again) [] (commands_of up_and_again) ≡ one_up }
     ensures first { replayed (stored []) up_and_again 2 ≡ stored (take 1 one_up) }
     ensures other_reason { AreAsked (stored []) (by_worker Command.Begin (Some Refusal.TooManyOpen) [] ∷ []) → ⊥ }

@@ -7,20 +7,20 @@ use Rattle.type_table.specs.Run.{IsLegal}
 use Rattle.type_table.proofs.Legal.{legal-somewhere}
 use Rattle.table_checker.specs.Checked.{Checked}
 use Rattle.object_trait.specs.Laws.{CheckedIsCovered, SoundAfterApply, SoundAfterCommit, SoundAfterStrike}
-use Rattle.object_trait.specs.Meaning.{is_open_of, open_of, ops_of}
+use Rattle.object_trait.specs.Meaning.{is_open_of, open_of, log_ops}
 use Rattle.object_trait.specs.Object.{object_of}
 use Rattle.object_trait.specs.Steps.{MayApply, marked, open_transactions}
 use Rattle.object_trait.specs.Strike.{keep_first}
 use Rattle.object_trait.specs.declared.log_entry.LogEntry.{LogEntry}
 use Rattle.undo_manager.proofs.InPlace.{sound_in, sound_out}
-use Rattle.store_tests.specs.Replayed.{IsReplayed, from_the_start}
+use Rattle.store_tests.specs.Replayed.{IsSoundLog, from_the_start}
 use Rattle.store_tests.proofs.UpdateInPlace.{commit-unsettled, strike-unsettled}
 
 -- ---- what is kept
 
 -- by a further operation
-pub applied-replayed : CheckedIsCovered → SoundAfterApply → (c : Checked) (log : List LogEntry) (t k : ℕ) → IsReplayed c log → MayApply (from_the_start c log) t k →
-    IsReplayed c (log ++ (record { by = t; op = k; done = false }) ∷ [])
+pub applied-replayed : CheckedIsCovered → SoundAfterApply → (c : Checked) (log : List LogEntry) (t k : ℕ) → IsSoundLog c log → MayApply (from_the_start c log) t k →
+    IsSoundLog c (log ++ (record { by = t; op = k; done = false }) ∷ [])
 applied-replayed covers law c log t k r may =
     let one : LogEntry = record { by = t; op = k; done = false } in
     record {
@@ -32,7 +32,7 @@ applied-replayed covers law c log t k r may =
     }
 
 -- by a commit
-pub committed-replayed : CheckedIsCovered → SoundAfterCommit → (c : Checked) (log : List LogEntry) (t : ℕ) → IsReplayed c log → IsReplayed c (map (marked t) log)
+pub committed-replayed : CheckedIsCovered → SoundAfterCommit → (c : Checked) (log : List LogEntry) (t : ℕ) → IsSoundLog c log → IsSoundLog c (map (marked t) log)
 committed-replayed covers law c log t r =
     record {
       in_place = r.in_place;
@@ -44,8 +44,8 @@ committed-replayed covers law c log t r =
     }
 
 -- by a strike and by an abort
-pub struck-replayed : CheckedIsCovered → SoundAfterStrike → (c : Checked) (log new_log : List LogEntry) (t n : ℕ) → IsReplayed c log → new_log ≡ keep_first (is_open_of t) n log →
-    length new_log ≤ length log → IsReplayed c new_log
+pub struck-replayed : CheckedIsCovered → SoundAfterStrike → (c : Checked) (log new_log : List LogEntry) (t n : ℕ) → IsSoundLog c log → new_log ≡ keep_first (is_open_of t) n log →
+    length new_log ≤ length log → IsSoundLog c new_log
 struck-replayed covers law c log new_log t n r kept fewer =
     record {
       in_place = r.in_place;
@@ -57,9 +57,9 @@ struck-replayed covers law c log new_log t n r kept fewer =
     }
 
 -- so a log that is legal begins with a legal operation
-pub first-legal : (T : Table) (s : ℕ) (log : List LogEntry) (d : LogEntry) → 1 ≤ length log → IsLegal T (Some s) (ops_of log) → IsSome (next T s (get_or log 0 d).op)
+pub first-legal : (T : Table) (s : ℕ) (log : List LogEntry) (d : LogEntry) → 1 ≤ length log → IsLegal T (Some s) (log_ops log) → IsSome (next T s (get_or log 0 d).op)
 first-legal T s [] d some h = absurd (omega (arith, some))
-first-legal T s (e ∷ log) d some h = legal-somewhere T (next T s e.op) (ops_of log) h
+first-legal T s (e ∷ log) d some h = legal-somewhere T (next T s e.op) (log_ops log) h
 
 -- ---- marks
 

@@ -12,7 +12,7 @@ abbrev pub from_the_start : Checked → List LogEntry → Meaning
 from_the_start checked log = record { checked = checked; base = checked.file.table.initial; log = log }
 
 -- a checked type for update in place, and a sound log, which isn't too long to be counted
-pub record IsReplayed (checked : Checked) (log : List LogEntry) : Type 0 where
+pub record IsSoundLog (checked : Checked) (log : List LogEntry) : Type 0 where
   pub in_place : checked.kind ≡ Undo
   pub is_checked : IsChecked checked
   pub sound : IsSoundUndo (object_of checked) checked.file.table.initial log

@@ -7,8 +7,8 @@ use Rattle.line_text.specs.Rules.{last_item}
 use Rattle.line_text.specs.LineTests.{is_late}
 use Rattle.line_text.proofs.Items.{last_item_push}
 use Rattle.store_text.specs.Body.{Body, store_rules, rank_of, max_line}
-use Rattle.store_text.specs.Kept.{limit_lines, object_line, entry_line, end_lines, lines_of_parts, limit_of}
-use Rattle.store_text.specs.Said.{max_in, objects_of, entries_of}
+use Rattle.store_text.specs.Kept.{limit_lines, line_of_object, entry_line, end_lines, lines_of_parts, limit_of}
+use Rattle.store_text.specs.Said.{max_of_line, said_objects, entries_of}
 use Rattle.store_text.specs.declared.line.ObjectLine.{ObjectLine}
 use Rattle.store_text.specs.declared.line.Line.{Line}
 use Rattle.store_text.specs.declared.line.Line.TheVariants.{Max, Object, Entry, End}
@@ -47,7 +47,7 @@ module _ {A : Type 0} (b : Body A) where
   behind_entry y End e = omega arith
 
   -- after an object no limit
-  behind_object : (o : ObjectLine) (x : Line A) → is_late (store_rules b) (Some (object_line o)) x ≡ false → 1 ≤ rank_of x
+  behind_object : (o : ObjectLine) (x : Line A) → is_late (store_rules b) (Some (line_of_object o)) x ≡ false → 1 ≤ rank_of x
   behind_object o (Max most) e = absurd cc
   behind_object o (Object kind file) e = omega arith
   behind_object o (Entry z) e = omega arith
@@ -78,11 +78,11 @@ module _ {A : Type 0} (b : Body A) where
       let is = last_mapped entry_line front more in
       absurd (omega (arith, behind_entry more.last x (rw (is, last_item_push) at e)))
 
-  no_object : (front : List (Line A)) (objects : List ObjectLine) (x : Line A) → is_late (store_rules b) (last_item (front ++ map object_line objects)) x ≡ false → rank_of x < 1 → objects ≡ []
+  no_object : (front : List (Line A)) (objects : List ObjectLine) (x : Line A) → is_late (store_rules b) (last_item (front ++ map line_of_object objects)) x ≡ false → rank_of x < 1 → objects ≡ []
   no_object front [] x e low = refl
   no_object front (o ∷ objects) x e low =
       let more = ends o objects in
-      let is = last_mapped object_line front more in
+      let is = last_mapped line_of_object front more in
       absurd (omega (arith, behind_object more.last x (rw (is, last_item_push) at e)))
 
   no_max : (max : Option ℕ) (x : Line A) → is_late (store_rules b) (last_item (limit_lines max)) x ≡ false → rank_of x < 1 → max ≡ None
@@ -90,19 +90,19 @@ module _ {A : Type 0} (b : Body A) where
   no_max (Some most) x e low = absurd (omega (arith, behind_max most x e))
 
   module _ (max : Option ℕ) (objects : List ObjectLine) (entries : List A) (has_ended : Bool) (x : Line A) (late : is_late (store_rules b) (last_item (lines_of_parts max objects entries has_ended)) x ≡ false) where
-    grouped : lines_of_parts max objects entries has_ended ≡ ((limit_lines max ++ map object_line objects) ++ map entry_line entries) ++ end_lines has_ended
+    grouped : lines_of_parts max objects entries has_ended ≡ ((limit_lines max ++ map line_of_object objects) ++ map entry_line entries) ++ end_lines has_ended
     grouped = sym (simp append_assoc)
 
     pub ended_not : has_ended ≡ false
-    ended_not = not_ended ((limit_lines max ++ map object_line objects) ++ map entry_line entries) has_ended x (rw grouped at late)
+    ended_not = not_ended ((limit_lines max ++ map line_of_object objects) ++ map entry_line entries) has_ended x (rw grouped at late)
 
-    entries_last : is_late (store_rules b) (last_item ((limit_lines max ++ map object_line objects) ++ map entry_line entries)) x ≡ false
+    entries_last : is_late (store_rules b) (last_item ((limit_lines max ++ map line_of_object objects) ++ map entry_line entries)) x ≡ false
     entries_last = rw (grouped, ended_not, append-nil) at late
 
     pub entries_none : rank_of x < 2 → entries ≡ []
-    entries_none low = no_entry (limit_lines max ++ map object_line objects) entries x entries_last low
+    entries_none low = no_entry (limit_lines max ++ map line_of_object objects) entries x entries_last low
 
-    objects_last : rank_of x < 2 → is_late (store_rules b) (last_item (limit_lines max ++ map object_line objects)) x ≡ false
+    objects_last : rank_of x < 2 → is_late (store_rules b) (last_item (limit_lines max ++ map line_of_object objects)) x ≡ false
     objects_last low = rw (entries_none low, append-nil) at entries_last
 
     pub objects_none : rank_of x < 1 → objects ≡ []
@@ -158,27 +158,27 @@ few_lines {A} max objects entries has_ended =
 
 -- ---- what they say
 
-objects_again : {A : Type 0} (objects : List ObjectLine) (rest : List (Line A)) → objects_of (map object_line objects ++ rest) ≡ objects ++ objects_of rest
+objects_again : {A : Type 0} (objects : List ObjectLine) (rest : List (Line A)) → said_objects (map line_of_object objects ++ rest) ≡ objects ++ said_objects rest
 objects_again [] rest = refl
 objects_again (o ∷ objects) rest = ap (λ zs. o ∷ zs) (objects_again objects rest)
 
-no_object_said : {A : Type 0} (entries : List A) (has_ended : Bool) → objects_of (map entry_line entries ++ end_lines has_ended) ≡ []
+no_object_said : {A : Type 0} (entries : List A) (has_ended : Bool) → said_objects (map entry_line entries ++ end_lines has_ended) ≡ []
 no_object_said [] false = refl
 no_object_said [] true = refl
 no_object_said (y ∷ entries) has_ended = no_object_said entries has_ended
 
 -- the lines say their objects
-pub objects_said : {A : Type 0} (max : Option ℕ) (objects : List ObjectLine) (entries : List A) (has_ended : Bool) → objects_of (lines_of_parts max objects entries has_ended) ≡ objects
+pub objects_said : {A : Type 0} (max : Option ℕ) (objects : List ObjectLine) (entries : List A) (has_ended : Bool) → said_objects (lines_of_parts max objects entries has_ended) ≡ objects
 objects_said max objects entries has_ended =
     let behind = objects_again objects (map entry_line entries ++ end_lines has_ended) ∙ rw no_object_said (append-nil objects) in
-    elim max as (λ m. objects_of (lines_of_parts m objects entries has_ended) ≡ objects) [ None ↦ behind | Some most ↦ behind ]
+    elim max as (λ m. said_objects (lines_of_parts m objects entries has_ended) ≡ objects) [ None ↦ behind | Some most ↦ behind ]
 
 entries_again : {A : Type 0} (entries : List A) (has_ended : Bool) → entries_of (map entry_line entries ++ end_lines has_ended) ≡ entries
 entries_again [] false = refl
 entries_again [] true = refl
 entries_again (y ∷ entries) has_ended = ap (λ zs. y ∷ zs) (entries_again entries has_ended)
 
-no_entry_said : {A : Type 0} (objects : List ObjectLine) (rest : List (Line A)) → entries_of (map object_line objects ++ rest) ≡ entries_of rest
+no_entry_said : {A : Type 0} (objects : List ObjectLine) (rest : List (Line A)) → entries_of (map line_of_object objects ++ rest) ≡ entries_of rest
 no_entry_said [] rest = refl
 no_entry_said (o ∷ objects) rest = no_entry_said objects rest
 
@@ -189,7 +189,7 @@ entries_said max objects entries has_ended =
     elim max as (λ m. entries_of (lines_of_parts m objects entries has_ended) ≡ entries) [ None ↦ behind | Some most ↦ behind ]
 
 -- and their limit, where there is one
-pub limit_said : {A : Type 0} (max : Option ℕ) (objects : List ObjectLine) (entries : List A) (has_ended : Bool) → max_in (slice_get (lines_of_parts max objects entries has_ended) 0) ≡ limit_of max
+pub limit_said : {A : Type 0} (max : Option ℕ) (objects : List ObjectLine) (entries : List A) (has_ended : Bool) → max_of_line (slice_get (lines_of_parts max objects entries has_ended) 0) ≡ limit_of max
 limit_said (Some most) objects entries has_ended = refl
 limit_said None (o ∷ objects) entries has_ended = refl
 limit_said None [] (y ∷ entries) has_ended = refl

@@ -74,8 +74,8 @@ abbrev pub one_line : Section
 one_line = record { is_single = true; is_needed = true; most = None }
 
 -- a section that a text doesn't have
-abbrev pub no_line : Section
-no_line = record { is_single = true; is_needed = false; most = Some 0 }
+abbrev pub no_section : Section
+no_section = record { is_single = true; is_needed = false; most = Some 0 }
 
 -- the `object` lines: 1 to 256
 abbrev pub object_lines : Section
@@ -88,7 +88,7 @@ entry_lines = record { is_single = false; is_needed = false; most = Some most_ev
 -- the section of the `max` line
 abbrev pub max_line : Bool → Section
 max_line true = one_line
-max_line false = no_line
+max_line false = no_section
 
 abbrev pub sections : Bool → List Section
 sections has_max = max_line has_max ∷ object_lines ∷ entry_lines ∷ one_line ∷ []

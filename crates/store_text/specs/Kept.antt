@@ -11,8 +11,8 @@ limit_lines None = []
 limit_lines (Some most) = Max most ∷ []
 
 -- the line of an object
-abbrev pub object_line : {A : Type 0} → ObjectLine → Line A
-object_line o = Object o.kind o.file
+abbrev pub line_of_object : {A : Type 0} → ObjectLine → Line A
+line_of_object o = Object o.kind o.file
 
 -- the line of an entry
 abbrev pub entry_line : {A : Type 0} → A → Line A
@@ -25,11 +25,11 @@ end_lines true = End ∷ []
 
 -- the lines of these parts, section by section
 abbrev pub lines_of_parts : {A : Type 0} → Option ℕ → List ObjectLine → List A → Bool → List (Line A)
-lines_of_parts max objects entries has_ended = limit_lines max ++ (map object_line objects ++ (map entry_line entries ++ end_lines has_ended))
+lines_of_parts max objects entries has_ended = limit_lines max ++ (map line_of_object objects ++ (map entry_line entries ++ end_lines has_ended))
 
 -- those of which parts were kept, where what is kept of the entries says them
-abbrev pub kept_lines : {K A : Type 0} → (K → List A) → KeptParts K → List (Line A)
-kept_lines said kept = lines_of_parts kept.max kept.objects.items (said kept.entries) kept.has_ended
+abbrev pub kept_store_lines : {K A : Type 0} → (K → List A) → KeptParts K → List (Line A)
+kept_store_lines said kept = lines_of_parts kept.max kept.objects.items (said kept.entries) kept.has_ended
 
 -- the limit, which is 0 where no line says it
 abbrev pub limit_of : Option ℕ → ℕ

@@ -11,12 +11,12 @@ use Rattle.store_text.specs.declared.line.Line.TheVariants.{Max}
 use Rattle.store_text.specs.declared.line.ObjectLine.{ObjectLine}
 use Rattle.store_text.specs.declared.parts.Parts.{Parts}
 use Rattle.store_text.specs.Body.{Body, store_rules}
-use Rattle.store_text.specs.Said.{objects_of, entries_of}
+use Rattle.store_text.specs.Said.{said_objects, entries_of}
 
 -- the parts are what the lines say, where what is kept of the entries says them
 pub record IsPartsOf {K A : Type 0} (b : Body A) (said : K → List A) (lines : List (Line A)) (parts : Parts K) : Type 0 where
   pub max : b.has_max ≡ true → slice_get lines 0 ≡ Some (Max parts.max)
-  pub objects : parts.objects.items ≡ objects_of lines
+  pub objects : parts.objects.items ≡ said_objects lines
   pub entries : said parts.entries ≡ entries_of lines
 
 -- every number and count of a text's parts is in its range
@@ -29,6 +29,6 @@ pub record AreFit {K A : Type 0} (b : Body A) (said : K → List A) (parts : Par
   pub in_range : AllByRecursion (λ x. b.is_in_range x ≡ true) (said parts.entries)
 
 -- the value of a text that has one, else the text's fault; or memory was refused at the line that was being read
-abbrev pub Reads : {A V : Type 0} → Body A → (List (Line A) → V → Type 0) → Result V TextFault → List ℕ → Type 0
-Reads {A} b IsValueOf (Ok value) text = (lines : List (Line A)) × (outcome_of (store_rules b) text ≡ Ok lines) × IsValueOf lines value
-Reads b IsValueOf (Err f) text = (outcome_of (store_rules b) text ≡ Err f) ⊎ ((f.kind ≡ NoMemory) × IsReached (store_rules b) (lines_of text) f.line)
+abbrev pub ReadsStoreText : {A V : Type 0} → Body A → (List (Line A) → V → Type 0) → Result V TextFault → List ℕ → Type 0
+ReadsStoreText {A} b IsValueOf (Ok value) text = (lines : List (Line A)) × (outcome_of (store_rules b) text ≡ Ok lines) × IsValueOf lines value
+ReadsStoreText b IsValueOf (Err f) text = (outcome_of (store_rules b) text ≡ Err f) ⊎ ((f.kind ≡ NoMemory) × IsReached (store_rules b) (lines_of text) f.line)

@@ -6,9 +6,9 @@ use Rattle.store_text.specs.declared.line.Line.TheVariants.{Max, Object, Entry}
 use Rattle.store_text.specs.declared.line.ObjectLine.{ObjectLine}
 
 -- the number of a `max` line
-abbrev pub max_in : {A : Type 0} → Option (Line A) → ℕ
-max_in (Some (Max most)) = most
-max_in _ = 0
+abbrev pub max_of_line : {A : Type 0} → Option (Line A) → ℕ
+max_of_line (Some (Max most)) = most
+max_of_line _ = 0
 
 -- the object of an `object` line
 abbrev pub object_in : {A : Type 0} → Line A → Option ObjectLine
@@ -16,8 +16,8 @@ object_in (Object kind file) = Some (record { kind = kind; file = file })
 object_in _ = None
 
 -- the objects, numbered from 0 in the order of their lines
-abbrev pub objects_of : {A : Type 0} → List (Line A) → List ObjectLine
-objects_of lines = filter_map object_in lines
+abbrev pub said_objects : {A : Type 0} → List (Line A) → List ObjectLine
+said_objects lines = filter_map object_in lines
 
 -- the entry of a line
 abbrev pub entry_in : {A : Type 0} → Line A → Option A

@@ -3,7 +3,7 @@
 
 ghost use Rattle.std.specs.Prelude.{◌≡◌, map};
 ghost use Rattle.store_text.specs.Body.{store_rules, line_of, max_of_words, object_of_words, end_of_words};
-ghost use Rattle.store_text.specs.Kept.{kept_lines};
+ghost use Rattle.store_text.specs.Kept.{kept_store_lines};
 
 use crate::entries::Entries;
 use crate::kept::KeptParts;
@@ -64,7 +64,7 @@ impl<E: Entries> Grammar for StoreGrammar<E> {
 
     ghost rules = { λ g. store_rules (E.body g.entries) };
 
-    ghost kept = { λ kept. kept_lines E.said kept };
+    ghost kept = { λ kept. kept_store_lines E.said kept };
 
     fn nothing(&self, alloc: Global) -> KeptParts<E::Kept> {
         KeptParts::new(alloc, self.entries.nothing(alloc))

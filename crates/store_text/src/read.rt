@@ -1,5 +1,5 @@
 ghost use Rattle.std.specs.Prelude.{IfOk};
-ghost use Rattle.store_text.specs.Parts.{Reads, IsPartsOf, AreFit};
+ghost use Rattle.store_text.specs.Parts.{ReadsStoreText, IsPartsOf, AreFit};
 
 use crate::entries::Entries;
 use crate::grammar::StoreGrammar;
@@ -17,7 +17,7 @@ pub fn read_parts<E: Entries>(
     grammar: &StoreGrammar<E>,
     text: &[u8],
 ) -> Result<Parts<E::Kept>, TextFault>
-    ensures exact { Reads (E.body grammar.now.entries) (IsPartsOf (E.body grammar.now.entries) E.said) result text.now }
+    ensures exact { ReadsStoreText (E.body grammar.now.entries) (IsPartsOf (E.body grammar.now.entries) E.said) result text.now }
     ensures fit { IfOk result (AreFit (E.body grammar.now.entries) E.said) }
 {
     accepted_in_order::<Line<E::Entry>>();

@@ -13,11 +13,11 @@ use Rattle.type_table.specs.declared.table_kind.TableKind.TheVariants as tabled
 use Rattle.escrow_laws.specs.Bounds.{amounts_of, bounds_of}
 use Rattle.escrow_laws.specs.Faults.{IsNumericFault, IsFirstNumericFault}
 use Rattle.escrow_laws.specs.Laws.{BoundsAreNumeric, NumericIsFaultless}
-use Rattle.type_text.specs.TypeFile.{conflicts_of}
-use Rattle.type_text.specs.declared.type_file.TypeFile.{TypeFile}
+use Rattle.declared_types.specs.TypeFile.{conflicts_of}
+use Rattle.declared_types.specs.declared.type_file.TypeFile.{TypeFile}
 use Rattle.table_checker.specs.Answer.{OneAnswer}
 use Rattle.table_checker.specs.Checked.{IsCheckedBy, IsCommuting, IsNumericType, condition_of}
-use Rattle.table_checker.specs.Condition.{number_of, fails_at, IsFirstFailure}
+use Rattle.table_checker.specs.Condition.{triple_number, fails_at, IsFirstFailure}
 use Rattle.table_checker.specs.Reach.{leaves_at, IsFirstLeave}
 use Rattle.table_checker.specs.Refusal.{IsFirstReason, IsFirstOfCommuting, IsFirstOfNumeric}
 use Rattle.table_checker.specs.declared.condition.Condition.{Condition}
@@ -64,7 +64,7 @@ first_failure : (condition : Condition) (file : TypeFile) (rows : List (List Boo
     → IsFirstFailure condition file rows p q s → IsFirstFailure condition file rows a b r → (p ≡ a) × (q ≡ b) × (s ≡ r)
 first_failure condition file rows p q s a b r f g =
     let T = file.table in
-    let numbers : number_of T p q s ≡ number_of T a b r = by_order (number_of T p q s) (number_of T a b r)
+    let numbers : triple_number T p q s ≡ triple_number T a b r = by_order (triple_number T p q s) (triple_number T a b r)
     (λ less. both (fails_at condition file rows p q s) f.fails (g.first p q s f.inside less))
     (λ more. both (fails_at condition file rows a b r) g.fails (f.first a b r g.inside more)) in
     let pairs = same_from_place (p * length T.ops + q) s (a * length T.ops + b) r T.states f.inside.state g.inside.state numbers in

@@ -13,8 +13,8 @@ use Rattle.type_table.specs.declared.table_kind.TableKind.{TableKind}
 use Rattle.type_table.specs.declared.table_kind.TableKind.TheVariants.{Undo, Intentions}
 use Rattle.escrow_laws.specs.Bounds.{AreBounds, bounds_of}
 use Rattle.escrow_laws.specs.declared.bounded.Bounded.{Bounded}
-use Rattle.type_text.specs.TypeFile.{file_at, conflicts_of}
-use Rattle.type_text.specs.declared.type_file.TypeFile.{TypeFile}
+use Rattle.declared_types.specs.TypeFile.{file_at, conflicts_of}
+use Rattle.declared_types.specs.declared.type_file.TypeFile.{TypeFile}
 use Rattle.table_checker.specs.Checked.{IsCheckedBy, IsCommuting, IsNumericType, IsStrongBy, set_by, condition_of, strong_condition_of}
 use Rattle.table_checker.specs.Condition.{passes, passes_forward, passes_backward, passes_both_ways, PassesEverywhere}
 use Rattle.table_checker.specs.Reach.{NeverLeaves}

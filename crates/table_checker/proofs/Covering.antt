@@ -17,15 +17,15 @@ use Rattle.type_table.specs.declared.kind.Kind.TheVariants as kinds
 use Rattle.type_table.specs.declared.table_kind.TableKind.{TableKind}
 use Rattle.type_table.specs.declared.table_kind.TableKind.TheVariants.{Undo, Intentions}
 use Rattle.type_table.proofs.Legal.{some_state, is_there}
-use Rattle.escrow_laws.specs.Bounds.{moved_by, IsWithin, AreBounds, bounds_of}
+use Rattle.escrow_laws.specs.Bounds.{moved_by, IsWithinBounds, AreBounds, bounds_of}
 use Rattle.escrow_laws.specs.declared.bounded.Bounded.{Bounded}
 use Rattle.escrow_laws.proofs.Numbers.{within as inside_bounds, moves_by}
 use Rattle.escrow_laws.specs.Laws.{BoundsAreNumeric}
-use Rattle.type_text.specs.declared.type_file.TypeFile.{TypeFile}
-use Rattle.table_checker.specs.Condition.{ends_relate, end_of, passes, passes_forward, passes_backward, passes_both_ways, AreInside, PassesEverywhere}
+use Rattle.declared_types.specs.declared.type_file.TypeFile.{TypeFile}
+use Rattle.table_checker.specs.Condition.{ends_relate, end_of_two, passes, passes_forward, passes_backward, passes_both_ways, AreInside, PassesEverywhere}
 use Rattle.table_checker.specs.Reach.{is_outside, NeverLeaves}
 use Rattle.table_checker.specs.Checked.{IsCheckedBy, IsCommuting, IsStrongBy, condition_of, strong_condition_of}
-use Rattle.type_text.specs.TypeFile.{conflicts_of}
+use Rattle.declared_types.specs.TypeFile.{conflicts_of}
 use Rattle.table_checker.specs.Laws.{CoversType, CoversTypeStrongly, YesCovers, StrongYesCovers}
 use Rattle.table_checker.specs.declared.condition.Condition.{Condition}
 use Rattle.table_checker.specs.declared.condition.Condition.TheVariants.{Forward, Backward, BackwardBothWays}
@@ -132,7 +132,7 @@ backward_commutes within ends file rows table simulation all p q free = λ s mem
     let T = file.table in
     let related = relates file.relation in
     let pass = passes_at Backward file rows all p q s free member (legal_inside within T s q p table legal) in
-    let like = related_ends ends T related simulation s (q ∷ p ∷ []) (p ∷ q ∷ []) (forced (is_some (end_of T s q p)) _ legal pass) in
+    let like = related_ends ends T related simulation s (q ∷ p ∷ []) (p ∷ q ∷ []) (forced (is_some (end_of_two T s q p)) _ legal pass) in
     (like.second, like.looks)
 
 -- and for the two-way condition
@@ -143,7 +143,7 @@ both_ways_commute within ends file rows table simulation all p q free = λ s mem
     let T = file.table in
     let related = relates file.relation in
     let pass = passes_at BackwardBothWays file rows all p q s free member (legal_inside within T s q p table legal) in
-    let ways = both _ _ (forced (is_some (end_of T s q p)) _ legal pass) in
+    let ways = both _ _ (forced (is_some (end_of_two T s q p)) _ legal pass) in
     let like = related_ends ends T related simulation s (q ∷ p ∷ []) (p ∷ q ∷ []) ways.0 in
     let back = related_ends ends T related simulation s (p ∷ q ∷ []) (q ∷ p ∷ []) ways.1 in
     (like.second, (like.looks, back.looks))
@@ -180,7 +180,7 @@ covers_strongly within ends kind file h strong = record {
 }
 
 -- an operation between bounds leads to no number above the greatest
-found-below : (found : Option Bounded) (top s t : ℕ) → ((b : Bounded) → found ≡ Some b → IsWithin top b) → moved_by found s ≡ Some t → t ≤ top
+found-below : (found : Option Bounded) (top s t : ℕ) → ((b : Bounded) → found ≡ Some b → IsWithinBounds top b) → moved_by found s ≡ Some t → t ≤ top
 found-below None top s t fits step = absurd (none-some t step)
 found-below (Some b) top s t fits step =
     let fit = fits b refl in

@@ -8,15 +8,16 @@ use Rattle.type_table.proofs.Elements.{slice_get-front}
 use Rattle.type_table.specs.Table.{Table as TableValue}
 use Rattle.escrow_laws.specs.Bounds.{AreBounds, bounds_of}
 use Rattle.escrow_laws.specs.declared.bounded.Bounded.{Bounded}
-use Rattle.number_text.specs.NumberFile.{Number, number_at}
-use Rattle.number_text.specs.Operations.{number_table, NumberHasTable, NumberTellsBounds}
-use Rattle.type_text.specs.TypeFile.{file_at}
+use Rattle.number_types.specs.Number.{Number, number_at}
+use Rattle.number_types.specs.Operations.{number_table, NumberHasTable, NumberTellsBounds}
+use Rattle.declared_types.specs.TypeFile.{file_at}
 use Rattle.type_table.specs.declared.kind.Kind.{Kind}
 use Rattle.type_table.specs.declared.kind.Kind.TheVariants.{Escrow}
-use Rattle.type_text.specs.declared.type_file.TypeFile.{TypeFile}
-use Rattle.table_checker.specs.Declarations.{file_of, number_file, declared_at, IsDeclaredFor, HoldsBounds, NumberIsChecked}
-use Rattle.table_checker.specs.declared.declared_type.Declaration.{Declaration}
-use Rattle.table_checker.specs.declared.declared_type.Declaration.TheVariants.{Table, Number as Numbers}
+use Rattle.declared_types.specs.declared.type_file.TypeFile.{TypeFile}
+use Rattle.table_checker.specs.Declarations.{HoldsBounds, NumberIsChecked}
+use Rattle.declared_types.specs.Declarations.{file_of, number_file, declared_at, IsDeclaredFor}
+use Rattle.declared_types.specs.declared.declared_type.Declaration.{Declaration}
+use Rattle.declared_types.specs.declared.declared_type.Declaration.TheVariants.{Table, Number as Numbers}
 use Rattle.table_checker.proofs.BeginsAt.{bounds-at}
 
 -- the file of a number that begins at another value is its file, beginning there

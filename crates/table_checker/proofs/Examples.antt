@@ -4,9 +4,9 @@ use Rattle.std.proofs.lemmas.Bool.{false≢true, agree_below, agree_below_at}
 use Rattle.equi_cert.specs.Relation.{relates}
 use Rattle.equi_cert.specs.Simulation.{IsSimulation}
 use Rattle.type_table.specs.Table.{next, IsTable}
-use Rattle.type_table.specs.Examples.{counter, forward_pairs}
+use Rattle.type_table.specs.Examples.{counter_table, forward_pairs}
 use Rattle.type_table.specs.declared.kind.Kind.TheVariants.{Intentions}
-use Rattle.type_text.specs.declared.type_file.TypeFile.{TypeFile}
+use Rattle.declared_types.specs.declared.type_file.TypeFile.{TypeFile}
 use Rattle.table_checker.specs.Condition.{passes_forward, fails_in_set, PassesEverywhere, IsFirstFailure}
 use Rattle.table_checker.specs.Reach.{leaves_at, NeverLeaves}
 use Rattle.table_checker.specs.Scan.{pair_fails, NoneBelow}
@@ -49,12 +49,12 @@ pub at_three : (P : ℕ → Type 0) → P 0 → P 1 → P 2 → (s : ℕ) → s 
 at_three P zeroth first second = below_more P 2 (at_two P zeroth first) second
 
 -- no step leaves the set of all states
-counter-stays : NeverLeaves counter counter_file.reach
+counter-stays : NeverLeaves counter_table counter_file.reach
 unfolding next
 counter-stays s k s_in k_in =
-    at_two (λ c. leaves_at counter counter_file.reach s c ≡ false)
-    (at_three (λ r. leaves_at counter counter_file.reach r 0 ≡ false) refl refl refl s s_in)
-    (at_three (λ r. leaves_at counter counter_file.reach r 1 ≡ false) refl refl refl s s_in)
+    at_two (λ c. leaves_at counter_table counter_file.reach s c ≡ false)
+    (at_three (λ r. leaves_at counter_table counter_file.reach r 0 ≡ false) refl refl refl s s_in)
+    (at_three (λ r. leaves_at counter_table counter_file.reach r 1 ≡ false) refl refl refl s s_in)
     k k_in
 
 -- each state is related to itself alone
@@ -74,11 +74,11 @@ diagonal (suc (suc zero)) (suc (suc (suc t))) h = absurd (false≢true h)
 diagonal (suc (suc (suc s))) t h = absurd (false≢true h)
 
 -- and so the relation is a simulation
-counter-simulates : IsSimulation counter (relates counter_file.relation)
+counter-simulates : IsSimulation counter_table (relates counter_file.relation)
 counter-simulates s t k s2 pair step = (s2, rw (← diagonal s t pair) step, inl refl)
 
 -- the counter is a table
-pub counter-table : IsTable counter
+pub counter-table : IsTable counter_table
 counter-table = record {
   some_states = omega arith;
   states_fit = omega arith;

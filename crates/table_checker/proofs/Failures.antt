@@ -4,7 +4,7 @@ use Rattle.std.proofs.lemmas.Bool.{false≢true}
 use Rattle.type_table.specs.ConflictTable.{conflicts}
 use Rattle.type_table.specs.declared.kind.Kind.{Kind}
 use Rattle.type_table.specs.declared.kind.Kind.TheVariants.{Undo}
-use Rattle.type_text.specs.declared.type_file.TypeFile.{TypeFile}
+use Rattle.declared_types.specs.declared.type_file.TypeFile.{TypeFile}
 use Rattle.table_checker.specs.Condition.{fails_in_set, fails_at, PassesEverywhere, IsFirstFailure}
 use Rattle.table_checker.specs.Scan.{IsFirstHeld}
 use Rattle.table_checker.specs.Checked.{Checked, IsStrong, IsStrongBy}

@@ -9,7 +9,7 @@ use Rattle.std.proofs.lemmas.Nat.{div-mul-add, mod-mul-add, div-add-mod'}
 use Rattle.std.proofs.Math.Nat.{mul-le-mul_left}
 use Rattle.type_table.specs.Table.{Table}
 use Rattle.type_table.specs.ConflictTable.{conflicts}
-use Rattle.type_text.specs.declared.type_file.TypeFile.{TypeFile}
+use Rattle.declared_types.specs.declared.type_file.TypeFile.{TypeFile}
 use Rattle.table_checker.specs.Condition.{fails_in_set, fails_at, PassesEverywhere, IsFirstFailure}
 use Rattle.table_checker.specs.Scan.{PairPasses, IsFirstState, requested_of, held_of, pair_fails, NoneBelow, IsFirstBelow}
 use Rattle.table_checker.specs.declared.condition.Condition.{Condition}

@@ -1,5 +1,4 @@
 pub mod Numbers
-pub mod TableOps
 pub mod Failures
 pub mod Found
 pub mod Covering

@@ -3,7 +3,7 @@ use Rattle.std.proofs.Common.{◌≡◌, ℕ, ◌+◌, ◌*◌, ◌<◌, ◌≤�
 use Rattle.std.proofs.lemmas.Bool.{cases_lt}
 use Rattle.std.proofs.Math.Nat.{mul-le-mul_left}
 use Rattle.type_table.specs.Table.{Table}
-use Rattle.table_checker.specs.Condition.{number_of}
+use Rattle.table_checker.specs.Condition.{triple_number}
 
 -- the greater number has no smaller row
 pub row_not_behind : (width m n r s : ℕ) → s < width → n * width + r ≤ m * width + s → n ≤ m
@@ -29,7 +29,7 @@ within_row states ops a p b q r s e h s_in =
     last m n e2 h2 = omega (arith, h2, ap (λ x. x * states) e2)
 
 -- what a smaller number says of its triple
-pub before_cases : (T : Table) (p q s a b r : ℕ) → q < length T.ops → s < T.states → number_of T a b r < number_of T p q s →
+pub before_cases : (T : Table) (p q s a b r : ℕ) → q < length T.ops → s < T.states → triple_number T a b r < triple_number T p q s →
     (a < p) ⊎ ((a ≡ p) × ((b < q) ⊎ ((b ≡ q) × (r < s))))
 before_cases T p q s a b r q_in s_in h =
     let pair : a * length T.ops + b ≤ p * length T.ops + q = row_not_behind T.states (p * length T.ops + q) (a * length T.ops + b) r s s_in (omega (arith, h)) in

@@ -4,7 +4,7 @@ use Rattle.type_table.specs.Kind.{of_table}
 use Rattle.type_table.specs.declared.kind.Kind.{Kind}
 use Rattle.type_table.specs.declared.table_kind.TableKind.{TableKind}
 use Rattle.type_table.specs.declared.table_kind.TableKind.TheVariants.{Undo, Intentions}
-use Rattle.type_text.specs.declared.type_file.TypeFile.{TypeFile}
+use Rattle.declared_types.specs.declared.type_file.TypeFile.{TypeFile}
 use Rattle.table_checker.specs.Answer.{IsAnswer}
 use Rattle.table_checker.specs.Checked.{Checked}
 use Rattle.table_checker.specs.Laws.{CoversType, YesCovers}

@@ -1,7 +1,7 @@
 -- What the checker answers: a yes, or the first reason for a no.
 use Rattle.std.specs.Prelude.{◌≡◌, MatchResult, Result}
 use Rattle.type_table.specs.declared.kind.Kind.{Kind}
-use Rattle.type_text.specs.declared.type_file.TypeFile.{TypeFile}
+use Rattle.declared_types.specs.declared.type_file.TypeFile.{TypeFile}
 use Rattle.table_checker.specs.Checked.{Checked, IsChecked}
 use Rattle.table_checker.specs.Refusal.{IsFirstReason}
 use Rattle.table_checker.specs.declared.refusal.CheckRefusal.{CheckRefusal}

@@ -1,6 +1,6 @@
 -- A checked type that begins at another state.
 use Rattle.std.specs.Prelude.{◌≡◌, ℕ, Bool, true}
-use Rattle.type_text.specs.TypeFile.{file_at}
+use Rattle.declared_types.specs.TypeFile.{file_at}
 use Rattle.table_checker.specs.Checked.{Checked, IsChecked, IsStrong, set_by}
 
 -- the type as it was checked, beginning at s
@@ -8,11 +8,11 @@ abbrev pub checked_at : Checked → ℕ → Checked
 checked_at c s = record c { file = file_at c.file s }
 
 -- it may begin at s, which is one of the states that were looked at
-abbrev pub is_inside : Checked → ℕ → Bool
-is_inside c s = set_by c.kind c.file s
+abbrev pub may_begin_at : Checked → ℕ → Bool
+may_begin_at c s = set_by c.kind c.file s
 
 abbrev pub IsInside : Checked → ℕ → Type 0
-IsInside c s = is_inside c s ≡ true
+IsInside c s = may_begin_at c s ≡ true
 
 -- where it may begin it is checked too
 abbrev pub AtIsChecked : Type 0

@@ -9,8 +9,8 @@ use Rattle.type_table.specs.declared.kind.Kind.TheVariants.{Undo, Intentions, Es
 use Rattle.type_table.specs.declared.table_kind.TableKind.{TableKind}
 use Rattle.type_table.specs.declared.table_kind.TableKind.TheVariants as tabled
 use Rattle.escrow_laws.specs.Bounds.{AreBounds, bounds_of}
-use Rattle.type_text.specs.TypeFile.{conflicts_of}
-use Rattle.type_text.specs.declared.type_file.TypeFile.{TypeFile}
+use Rattle.declared_types.specs.TypeFile.{conflicts_of}
+use Rattle.declared_types.specs.declared.type_file.TypeFile.{TypeFile}
 use Rattle.table_checker.specs.Condition.{PassesEverywhere}
 use Rattle.table_checker.specs.Reach.{NeverLeaves}
 use Rattle.table_checker.specs.declared.condition.Condition.{Condition}

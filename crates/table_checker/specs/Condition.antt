@@ -5,7 +5,7 @@ use Rattle.type_table.specs.Table.{Table, next}
 use Rattle.type_table.specs.Run.{run}
 use Rattle.type_table.specs.StateSet.{has}
 use Rattle.type_table.specs.ConflictTable.{conflicts}
-use Rattle.type_text.specs.declared.type_file.TypeFile.{TypeFile}
+use Rattle.declared_types.specs.declared.type_file.TypeFile.{TypeFile}
 use Rattle.table_checker.specs.declared.condition.Condition.{Condition}
 use Rattle.table_checker.specs.declared.condition.Condition.TheVariants.{Forward, Backward, BackwardBothWays}
 
@@ -15,24 +15,24 @@ ends_relate related (Some a) (Some b) = related a b
 ends_relate related a b = false
 
 -- the end of one operation and then another
-abbrev pub end_of : Table → ℕ → ℕ → ℕ → Option ℕ
-end_of T s first second = run T (Some s) (first ∷ second ∷ [])
+abbrev pub end_of_two : Table → ℕ → ℕ → ℕ → Option ℕ
+end_of_two T s first second = run T (Some s) (first ∷ second ∷ [])
 
 -- where p and q are both legal, each order is legal and the ends are related both ways
 unfoldable pub passes_forward : Table → (ℕ → ℕ → Bool) → ℕ → ℕ → ℕ → Bool
 passes_forward T related p q s =
     not (is_some (next T s p) && is_some (next T s q))
-    || (ends_relate related (end_of T s p q) (end_of T s q p) && ends_relate related (end_of T s q p) (end_of T s p q))
+    || (ends_relate related (end_of_two T s p q) (end_of_two T s q p) && ends_relate related (end_of_two T s q p) (end_of_two T s p q))
 
 -- where q, held, and then p, requested, is legal, the other order is, and the end of q then p is related to that of p then q
 unfoldable pub passes_backward : Table → (ℕ → ℕ → Bool) → ℕ → ℕ → ℕ → Bool
-passes_backward T related p q s = not (is_some (end_of T s q p)) || ends_relate related (end_of T s q p) (end_of T s p q)
+passes_backward T related p q s = not (is_some (end_of_two T s q p)) || ends_relate related (end_of_two T s q p) (end_of_two T s p q)
 
 -- the same, and related both ways
 unfoldable pub passes_both_ways : Table → (ℕ → ℕ → Bool) → ℕ → ℕ → ℕ → Bool
 passes_both_ways T related p q s =
-    not (is_some (end_of T s q p))
-    || (ends_relate related (end_of T s q p) (end_of T s p q) && ends_relate related (end_of T s p q) (end_of T s q p))
+    not (is_some (end_of_two T s q p))
+    || (ends_relate related (end_of_two T s q p) (end_of_two T s p q) && ends_relate related (end_of_two T s p q) (end_of_two T s q p))
 
 abbrev pub passes : Condition → Table → (ℕ → ℕ → Bool) → ℕ → ℕ → ℕ → Bool
 passes Forward = passes_forward
@@ -54,8 +54,8 @@ pub record AreInside (T : Table) (p q s : ℕ) : Type 0 where
   pub state : s < T.states
 
 -- the place of a triple in ascending order
-abbrev pub number_of : Table → ℕ → ℕ → ℕ → ℕ
-number_of T p q s = (p * length T.ops + q) * T.states + s
+abbrev pub triple_number : Table → ℕ → ℕ → ℕ → ℕ
+triple_number T p q s = (p * length T.ops + q) * T.states + s
 
 -- no pair outside the conflict table fails at a state of the set
 abbrev pub PassesEverywhere : Condition → TypeFile → List (List Bool) → Type 0
@@ -66,4 +66,4 @@ PassesEverywhere condition file rows =
 pub record IsFirstFailure (condition : Condition) (file : TypeFile) (rows : List (List Bool)) (p q s : ℕ) : Type 0 where
   pub inside : AreInside file.table p q s
   pub fails : fails_at condition file rows p q s ≡ true
-  pub first : (a b r : ℕ) → AreInside file.table a b r → number_of file.table a b r < number_of file.table p q s → fails_at condition file rows a b r ≡ false
+  pub first : (a b r : ℕ) → AreInside file.table a b r → triple_number file.table a b r < triple_number file.table p q s → fails_at condition file rows a b r ≡ false

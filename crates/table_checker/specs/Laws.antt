@@ -9,7 +9,7 @@ use Rattle.type_table.specs.declared.kind.Kind.TheVariants.{Undo, Intentions, Es
 use Rattle.type_table.specs.declared.table_kind.TableKind.TheVariants as tabled
 use Rattle.escrow_laws.specs.Amounts.{Amounts, IsNumeric}
 use Rattle.escrow_laws.specs.Bounds.{amounts_of, bounds_of}
-use Rattle.type_text.specs.declared.type_file.TypeFile.{TypeFile}
+use Rattle.declared_types.specs.declared.type_file.TypeFile.{TypeFile}
 use Rattle.table_checker.specs.Checked.{Checked, IsChecked, IsStrong, set_by}
 
 -- a type is numeric, in a closed set with the initial state

@@ -3,7 +3,7 @@ use Rattle.std.specs.Prelude.{◌≡◌, ℕ, ◌<◌, ◌/◌, ◌%◌, Bool, t
 use Rattle.std.specs.List.{list_any, range_with_len}
 use Rattle.type_table.specs.ConflictTable.{conflicts}
 use Rattle.type_table.specs.Table.{Table}
-use Rattle.type_text.specs.declared.type_file.TypeFile.{TypeFile}
+use Rattle.declared_types.specs.declared.type_file.TypeFile.{TypeFile}
 use Rattle.table_checker.specs.Condition.{fails_in_set, fails_at}
 use Rattle.table_checker.specs.declared.condition.Condition.{Condition}
 

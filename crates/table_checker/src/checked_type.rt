@@ -4,21 +4,20 @@ ghost use Rattle.type_table.specs.StateSet.{has};
 ghost use Rattle.type_table.specs.Table.{IsTable, has_op, first_op};
 ghost use Rattle.type_table.specs.declared.kind.Kind.TheVariants as kinds;
 ghost use Rattle.escrow_laws.specs.Bounds.{AreBounds, bounds_of};
-ghost use Rattle.number_text.specs.Operations.{number_ops, number_table};
+ghost use Rattle.number_types.specs.Operations.{number_ops, number_table};
 ghost use Rattle.table_checker.specs.Checked.{condition_of};
 ghost use Rattle.table_checker.specs.Declarations.{HoldsBounds};
-ghost use Rattle.table_checker.specs.declared.declared_type.Declaration.TheVariants.{Number as Numbers};
+ghost use Rattle.declared_types.specs.declared.declared_type.Declaration.TheVariants.{Number as Numbers};
 
 use crate::condition::Condition;
-use crate::declared_type::{Declaration, DeclaredType};
 use crate::laws::{at_is_checked, number_is_checked};
 use crate::scan::passes_everywhere;
+use declared_types::{Declaration, DeclaredType, TypeFile};
 use escrow_laws::{Bounded, OpBounds};
-use number_text::{NumberFile, number_tells_bounds};
+use number_types::{NumberFile, number_tells_bounds};
 use std::alloc::{AllocError, Global};
 use std::marker::Model;
 use type_table::{ConflictTable, Kind, Op, Operation, TableKind, TypeTable};
-use type_text::TypeFile;
 
 /// A type that the checker accepted for a kind of recovery. Only the checker makes one. Contracts see
 /// the kind and a file; of a number that is one of a table which is written nowhere.
@@ -32,7 +31,8 @@ pub struct CheckedType {
 
 impl Model for CheckedType {
     ghost use Rattle.table_checker.specs.Checked.{Checked};
-    ghost use Rattle.table_checker.specs.Declarations.{file_of, IsAccepted};
+    ghost use Rattle.table_checker.specs.Declarations.{IsAccepted};
+    ghost use Rattle.declared_types.specs.Declarations.{file_of};
 
     ghost Value = { Checked };
 
@@ -43,10 +43,10 @@ impl Model for CheckedType {
 
 impl CheckedType {
     ghost use Rattle.table_checker.specs.Checked.{IsChecked, IsCommuting, IsNumericType, IsStrong};
-    ghost use Rattle.table_checker.specs.At.{checked_at, is_inside};
-    ghost use Rattle.table_checker.specs.Declarations.{file_of, number_file, IsDeclaredFor, IsByTable};
+    ghost use Rattle.table_checker.specs.At.{checked_at, may_begin_at};
+    ghost use Rattle.declared_types.specs.Declarations.{file_of, number_file, IsDeclaredFor, IsByTable};
     ghost use Rattle.type_table.specs.ConflictTable.{IsSquare};
-    ghost use Rattle.type_text.specs.TypeFile.{conflicts_of};
+    ghost use Rattle.declared_types.specs.TypeFile.{conflicts_of};
 
     /// What the checker tested of a conflict table, as a value.
     pub(crate) fn commuting(kind: TableKind, file: TypeFile) -> CheckedType
@@ -96,9 +96,9 @@ impl CheckedType {
     ///
     /// Memory was refused, which is asked for only where it may.
     pub fn at(&self, alloc: Global, state: u32) -> Result<Option<CheckedType>, AllocError>
-        ensures there { IfOk result (λ found. is_some found ≡ is_inside self.now state) }
+        ensures there { IfOk result (λ found. is_some found ≡ may_begin_at self.now state) }
         ensures same { IfOk result (λ found. IfSome found (λ c. c ≡ checked_at self.now state)) }
-        ensures refused { OnErr result (is_inside self.now state ≡ true) }
+        ensures refused { OnErr result (may_begin_at self.now state ≡ true) }
     {
         if !self.is_inside(state) {
             return Ok(None);
@@ -115,7 +115,7 @@ impl CheckedType {
 
     /// Whether it may begin at this state.
     fn is_inside(&self, state: u32) -> bool
-        ensures { result ≡ is_inside self.now state }
+        ensures { result ≡ may_begin_at self.now state }
     {
         match self.kind {
             Kind::Undo | Kind::Intentions => is_in_reach(self.file(), state),

@@ -1,11 +1,11 @@
 ghost use Rattle.std.specs.Prelude.{◌≡◌, true, length, MatchOption, OnOk};
 ghost use Rattle.type_table.specs.Kind.{of_table};
 ghost use Rattle.type_table.specs.StateSet.{has};
-ghost use Rattle.type_text.specs.TypeFile.{conflicts_of};
+ghost use Rattle.declared_types.specs.TypeFile.{conflicts_of};
 ghost use Rattle.table_checker.specs.Answer.{IsAnswer};
 ghost use Rattle.table_checker.specs.Condition.{PassesEverywhere, IsFirstFailure};
 ghost use Rattle.table_checker.specs.Checked.{IsCertified, IsStrong, condition_of};
-ghost use Rattle.table_checker.specs.Declarations.{number_file};
+ghost use Rattle.declared_types.specs.Declarations.{number_file};
 ghost use Rattle.table_checker.specs.Laws.{CoversType};
 ghost use Rattle.table_checker.specs.Refusal.{IsFirstOfCertificate};
 
@@ -15,12 +15,12 @@ use crate::parallel::first_failure_parallel;
 use crate::reach::{Leave, first_leave};
 use crate::refusal::CheckRefusal;
 use crate::scan::{Triple, first_failure};
+use declared_types::TypeFile;
 use equi_cert::{CertFault, check_simulation};
 use escrow_laws::{NumericFault, numeric};
-use number_text::NumberFile;
+use number_types::NumberFile;
 use std::thread::Threads;
 use type_table::{Kind, StateSet, TableKind, TypeTable};
-use type_text::TypeFile;
 
 /// Checks that a file is good for a kind of recovery. It takes no memory.
 ///

@@ -2,11 +2,11 @@
 
 ghost use Rattle.std.specs.Prelude.{◌≡◌, ◌<◌, ℕ, length, Option, IfSome};
 ghost use Rattle.equi_cert.specs.Relation.{relates};
-ghost use Rattle.table_checker.specs.Condition.{ends_relate, end_of, passes, passes_forward, passes_backward, passes_both_ways, AreInside};
+ghost use Rattle.table_checker.specs.Condition.{ends_relate, end_of_two, passes, passes_forward, passes_backward, passes_both_ways, AreInside};
 
+use declared_types::TypeFile;
 use equi_cert::Relation;
 use type_table::TypeTable;
-use type_text::TypeFile;
 
 /// What is asked of a pair of a requested operation p and a held one q, at a state.
 #[derive(Clone, Copy, Debug, PartialEq, Eq)]
@@ -77,7 +77,7 @@ fn passes_both_ways(file: &TypeFile, p: u8, q: u8, s: u16) -> bool
 /// The end of one operation and then another.
 fn end_of(table: &TypeTable, s: u16, first: u8, second: u8) -> Option<u16>
     requires { AreInside table.now first second s }
-    ensures exact { result ≡ end_of table.now s first second }
+    ensures exact { result ≡ end_of_two table.now s first second }
     ensures inside { IfSome result (λ t. t < table.now.states) }
 {
     let middle = table.next(s, first)?;

@@ -8,7 +8,7 @@ ghost use Rattle.table_checker.specs.Laws.{YesCovers, StrongYesCovers};
 
 use equi_cert::ends_look;
 use escrow_laws::{bounds_are_numeric, numeric_is_faultless};
-use number_text::{number_has_table, number_tells_bounds};
+use number_types::{number_has_table, number_tells_bounds};
 use type_table::steps_within;
 
 /// A yes gives covering over all lists of operations, or that the type is numeric.

@@ -5,7 +5,6 @@
 mod checked_type;
 mod checker;
 mod condition;
-mod declared_type;
 mod laws;
 mod parallel;
 mod reach;
@@ -15,7 +14,6 @@ mod scan;
 pub use checked_type::{CheckedType, condition_of};
 pub use checker::{check, check_number, check_parallel};
 pub use condition::Condition;
-pub use declared_type::{Declaration, DeclaredType};
 pub use laws::{
     at_is_checked, at_is_strong, number_is_checked, one_answer, strong_yes_covers, yes_covers,
 };

@@ -7,10 +7,10 @@ ghost use Rattle.table_checker.specs.Scan.{requested_of, held_of, pair_fails, No
 
 use crate::condition::Condition;
 use crate::scan::{Triple, first_failing_state};
+use declared_types::TypeFile;
 use rayon::prelude::*;
 use std::thread::Threads;
 use type_table::{ConflictTable, TypeTable};
-use type_text::TypeFile;
 
 /// How many triples are worth a thread of their own.
 const LEAST_TRIPLES: usize = 16_384;

@@ -7,8 +7,8 @@ ghost use Rattle.table_checker.specs.Condition.{passes, fails_at, AreInside, Pas
 ghost use Rattle.table_checker.specs.Scan.{PairPasses, IsFirstState, RowPasses, IsFirstHeld};
 
 use crate::condition::{Condition, passes};
+use declared_types::TypeFile;
 use type_table::ConflictTable;
-use type_text::TypeFile;
 
 /// A requested operation p, a held one q, and a state s.
 #[derive(Clone, Copy, Debug, PartialEq, Eq)]

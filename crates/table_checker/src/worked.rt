@@ -4,9 +4,9 @@
 ghost use Rattle.std.specs.Prelude.{◌≡◌, ℕ, true, false, [], ◌∷◌};
 ghost use Rattle.type_table.specs.ConflictTable.{conflicts};
 ghost use Rattle.type_table.specs.Commute.{Covers};
-ghost use Rattle.type_table.specs.Examples.{counter, forward_pairs, idle};
+ghost use Rattle.type_table.specs.Examples.{counter_table, forward_pairs, idle};
 ghost use Rattle.type_table.specs.StateSet.{has};
-ghost use Rattle.table_checker.specs.Condition.{fails_at, number_of, PassesEverywhere, IsFirstFailure};
+ghost use Rattle.table_checker.specs.Condition.{fails_at, triple_number, PassesEverywhere, IsFirstFailure};
 ghost use Rattle.table_checker.specs.Reach.{leaves_at, NeverLeaves, IsFirstLeave};
 ghost use Rattle.table_checker.specs.Scan.{PairPasses};
 ghost use Rattle.table_checker.specs.Examples.{counter_file, one_way_file, idle_file, no_pairs, ups_alone, no_pairs_of_three};
@@ -58,11 +58,11 @@ pub fn a_state_outside_the_set_is_not_looked_at()
 {}
 
 pub fn triples_are_numbered_in_order()
-    ensures first { number_of counter 0 0 0 ≡ 0 }
-    ensures state { number_of counter 0 0 1 ≡ 1 }
-    ensures held { number_of counter 0 1 0 ≡ 3 }
-    ensures requested { number_of counter 1 0 0 ≡ 6 }
-    ensures last { number_of counter 1 1 2 ≡ 11 }
+    ensures first { triple_number counter_table 0 0 0 ≡ 0 }
+    ensures state { triple_number counter_table 0 0 1 ≡ 1 }
+    ensures held { triple_number counter_table 0 1 0 ≡ 3 }
+    ensures requested { triple_number counter_table 1 0 0 ≡ 6 }
+    ensures last { triple_number counter_table 1 1 2 ≡ 11 }
 {}
 
 pub fn counter_without_a_pair_fails_first_at_two_ups()
@@ -91,7 +91,7 @@ pub fn counter_passes_with_both_pairs()
 {}
 
 pub fn counter_with_both_pairs_is_covered()
-    ensures { Covers TableKind.Intentions counter (has counter_file.reach) (conflicts forward_pairs) }
+    ensures { Covers TableKind.Intentions counter_table (has counter_file.reach) (conflicts forward_pairs) }
 {
     yes_covers();
 }

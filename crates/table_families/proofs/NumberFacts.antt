@@ -4,12 +4,12 @@ use Rattle.std.specs.List.{list_all}
 use Rattle.std.proofs.lemmas.Bool.{and_parts, and_from}
 use Rattle.std.proofs.lemmas.Bool.Decides.{nat_tests}
 use Rattle.std.proofs.lemmas.List.{length-append, length-map}
-use Rattle.number_text.specs.NumberFile.{IsNumber}
-use Rattle.number_text.specs.NumberLines.{are_ascending, is_below, is_within}
-use Rattle.number_text.specs.declared.number_call.NumberCall.{NumberCall}
-use Rattle.number_text.specs.declared.number_call.NumberCall.TheVariants.{Take, Give}
-use Rattle.table_maker.specs.Amounts.{amount_at, is_amount}
-use Rattle.table_maker.proofs.AmountFacts.{all-from_each, amount-before}
+use Rattle.number_types.specs.Number.{IsNumber}
+use Rattle.number_types.specs.Calls.{are_ascending, is_below, is_within}
+use Rattle.number_types.specs.declared.number_call.NumberCall.{NumberCall}
+use Rattle.number_types.specs.declared.number_call.NumberCall.TheVariants.{Take, Give}
+use Rattle.table_families.specs.Amounts.{amount_at, is_amount_up_to}
+use Rattle.table_families.proofs.AmountFacts.{all-from_each, amount-before}
 use Rattle.table_families.specs.Number.{AreNumberAmounts, NumberFits, amount_calls, amounts_number}
 
 -- each amount is less than the next one
@@ -42,8 +42,8 @@ module _ (call : ℕ → NumberCall) (orders : (a b : ℕ) → a < b → is_belo
       and_from _ _ (all_above a rest after (first_least a rest up) (above a)) (calls_ascend rest after (rest_ascends a rest up) above more)
 
 -- calls of amounts that are within the greatest value
-calls_within : (max : ℕ) (call : ℕ → NumberCall) → ((a : ℕ) → is_within max (call a) ≡ is_amount max a) → (amounts : List ℕ) (after : List NumberCall)
-    → list_all (is_amount max) amounts ≡ true → list_all (is_within max) after ≡ true → list_all (is_within max) (map call amounts ++ after) ≡ true
+calls_within : (max : ℕ) (call : ℕ → NumberCall) → ((a : ℕ) → is_within max (call a) ≡ is_amount_up_to max a) → (amounts : List ℕ) (after : List NumberCall)
+    → list_all (is_amount_up_to max) amounts ≡ true → list_all (is_within max) after ≡ true → list_all (is_within max) (map call amounts ++ after) ≡ true
 calls_within max call same [] after inside more = more
 calls_within max call same (a ∷ rest) after inside more =
     let both = and_parts _ _ inside in
@@ -65,7 +65,7 @@ takes_before a (b ∷ rest) = takes_before a rest
 -- the number of good amounts that fit
 pub is_number : (max : ℕ) (amounts : List ℕ) → max ≤ 4294967295 → AreNumberAmounts max amounts → NumberFits amounts → IsNumber (amounts_number max amounts)
 is_number max amounts fits good few =
-    let inside : list_all (is_amount max) amounts ≡ true = all-from_each max amounts good.each in
+    let inside : list_all (is_amount_up_to max) amounts ≡ true = all-from_each max amounts good.each in
     let gives_within = rw (append-nil (map Give amounts)) at (calls_within max Give (λ a. refl) amounts [] inside refl) in
     let gives_ascend = rw (append-nil (map Give amounts)) at (calls_ascend Give gives_below amounts [] good.ascending (λ a. refl) refl) in
     let count : length (amount_calls amounts) ≡ length amounts + length amounts = length-append (map Take amounts) (map Give amounts) ∙ rw (length-map amounts Take, length-map amounts Give) refl in

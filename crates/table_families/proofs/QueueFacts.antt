@@ -2,11 +2,11 @@
 use Rattle.std.proofs.Common.{◌≡◌, ℕ, suc, ◌+◌, ◌*◌, ◌-◌, ◌<◌, ◌≤◌, Bool, true, false, cond, min, nat_lt, eqb, ltb, List, [], ◌∷◌, length, Some, refl, sym, ◌∙◌, arith}
 use Rattle.std.proofs.lemmas.Bool.{ltb-true}
 use Rattle.table_maker.specs.Made.{HasTable}
-use Rattle.table_maker.specs.Semiqueue.{AreSemiqueueParameters}
-use Rattle.table_maker.proofs.AmountFacts.{legal-Some}
-use Rattle.table_maker.proofs.QueueOps.{no_twin-queue}
-use Rattle.table_maker.proofs.QueueTable.{length-ops}
-use Rattle.table_families.specs.Queue.{queue, shorter, state_of, list_at, enq_step, deq_step, without_head, QueueFits, IsList}
+use Rattle.table_families.specs.Semiqueue.{AreSemiqueueParameters}
+use Rattle.table_families.proofs.AmountFacts.{legal-Some}
+use Rattle.table_families.proofs.QueueOps.{no_twin-queue}
+use Rattle.table_families.proofs.QueueTable.{length-ops}
+use Rattle.table_families.specs.Queue.{queue, shorter, queue_state, list_at, enq_step, deq_step, without_head, QueueFits, IsList}
 use Rattle.table_families.proofs.Bases.{digits-rest}
 use Rattle.table_families.proofs.QueueLists.{shorter-more, numbered}
 use Rattle.table_families.proofs.QueueSteps.{enqueued}
@@ -22,7 +22,7 @@ enq-inside n capacity e s t element state h =
 rest-inside : (n capacity e t : ℕ) (list : List ℕ) → IsList n capacity list → without_head n e list ≡ Some t → t < shorter n (suc capacity)
 rest-inside n capacity e t [] good h = cc
 rest-inside n capacity e t (head ∷ rest) good h =
-    let both = legal-Some (eqb head e) (state_of n rest) t h in
+    let both = legal-Some (eqb head e) (queue_state n rest) t h in
     let short : IsList n capacity rest = record { short = omega (arith, good.short); places = digits-rest n head rest good.places } in
     omega (arith, both.1, ((numbered n capacity).each_list rest short).0)
 

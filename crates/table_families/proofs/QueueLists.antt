@@ -2,8 +2,8 @@
 use Rattle.std.proofs.Common.{◌≡◌, ℕ, zero, suc, ◌+◌, ◌*◌, ◌-◌, ◌^◌, ◌<◌, ◌≤◌, List, length, inl, inr, sym, subst, arith, le_refl, suc-le-suc, mul-add, pow-suc, mul_comm}
 use Rattle.std.proofs.Math.Nat.{pow-zero}
 use Rattle.std.proofs.lemmas.Bool.{cases_eq, cases_lt, le-leb, lt-leb}
-use Rattle.table_maker.specs.Counts.{IsBefore}
-use Rattle.table_families.specs.Queue.{shorter, number_in_base, state_of, length_at, list_at, IsList, IsEarlier, AreNumbered}
+use Rattle.table_families.specs.Counts.{CountsPrecede}
+use Rattle.table_families.specs.Queue.{shorter, number_in_base, queue_state, length_at, list_at, IsList, IsEarlier, AreNumbered}
 use Rattle.table_families.proofs.Bases.{AreDigits, number-below, digits-number, length-digits, number-digits, digits-below, number-before}
 
 -- ---- how many lists are shorter
@@ -55,10 +55,10 @@ among-number n len s among = omega (arith, among.low, among.high)
 
 -- ---- lists and states
 
-pub state-among : (n : ℕ) (list : List ℕ) → AreDigits n list → IsAmong n (length list) (state_of n list)
+pub state-among : (n : ℕ) (list : List ℕ) → AreDigits n list → IsAmong n (length list) (queue_state n list)
 state-among n list h = record { low = omega arith; high = omega (arith, number-below n list h) }
 
-each-state : (n most s : ℕ) → s < shorter n (suc most) → IsList n most (list_at n most s) × (state_of n (list_at n most s) ≡ s)
+each-state : (n most s : ℕ) → s < shorter n (suc most) → IsList n most (list_at n most s) × (queue_state n (list_at n most s) ≡ s)
 each-state n most s h =
     let known = length_at-fits n most s h in
     let len = length_at n most s in
@@ -68,21 +68,21 @@ each-state n most s h =
       rw (whole, number-digits n len (s - shorter n len) below) (omega (arith, known.1.low)),
     )
 
-each-list : (n most : ℕ) (list : List ℕ) → IsList n most list → (state_of n list < shorter n (suc most)) × (list_at n most (state_of n list) ≡ list)
+each-list : (n most : ℕ) (list : List ℕ) → IsList n most list → (queue_state n list < shorter n (suc most)) × (list_at n most (queue_state n list) ≡ list)
 each-list n most list good =
     let among = state-among n list good.places in
-    let len : length_at n most (state_of n list) ≡ length list = length_at-only n most (state_of n list) (length list) good.short among in
+    let len : length_at n most (queue_state n list) ≡ length list = length_at-only n most (queue_state n list) (length list) good.short among in
     let number : shorter n (length list) + number_in_base n list - shorter n (length list) ≡ number_in_base n list = omega arith in (
       omega (arith, among.high, shorter-up n (suc (length list)) (suc most) (suc-le-suc good.short)),
       rw (len, number) (digits-number n list good.places),
     )
 
-earlier : (n most : ℕ) (a b : List ℕ) → IsList n most a → IsList n most b → IsEarlier a b → state_of n a < state_of n b
+earlier : (n most : ℕ) (a b : List ℕ) → IsList n most a → IsList n most b → IsEarlier a b → queue_state n a < queue_state n b
 earlier n most a b first second (inl less) =
     let up : shorter n (suc (length a)) ≤ shorter n (length b) = shorter-up n (suc (length a)) (length b) less in
     omega (arith, (state-among n a first.places).high, up)
 earlier n most a b first second (inr same) =
-    let before : IsBefore a b = same.1 in
+    let before : CountsPrecede a b = same.1 in
     let less = number-before n before.place a b same.0 first.places before.within before.common before.smaller in
     rw same.0 (omega (arith, less))
 

@@ -3,7 +3,7 @@ use Rattle.std.proofs.Common.{◌≡◌, ◌≢◌, ℕ, zero, suc, ◌+◌, ◌
 use Rattle.std.proofs.Math.Nat.{min-eq_right, one-le-pow}
 use Rattle.std.proofs.lemmas.Bool.{cases_lt, lt-ltb, le-ltb}
 use Rattle.table_maker.specs.Made.{where_legal}
-use Rattle.table_families.specs.Queue.{shorter, number_in_base, state_of, digits, length_at, list_at, enq_step, deq_step, without_head}
+use Rattle.table_families.specs.Queue.{shorter, number_in_base, queue_state, digits, length_at, list_at, enq_step, deq_step, without_head}
 use Rattle.table_families.proofs.Bases.{length-digits, number-append, number-digits, some-power}
 use Rattle.table_families.proofs.QueueLists.{IsAmong, among-number, length_at-fits, shorter-more, shorter-up, numbered}
 
@@ -25,7 +25,7 @@ capped-more n len next count some is h = rw is (elim (cases_lt 1025 (shorter n l
 -- ---- enqueues
 
 -- a list with one element more
-state-append : (n : ℕ) (list : List ℕ) (e : ℕ) → state_of n (list ++ e ∷ []) ≡ state_of n list * n + 1 + e
+state-append : (n : ℕ) (list : List ℕ) (e : ℕ) → queue_state n (list ++ e ∷ []) ≡ queue_state n list * n + 1 + e
 state-append n list e =
     let len : length (list ++ e ∷ []) ≡ suc (length list) = omega (arith, length-append list (e ∷ [])) in
     let product = mul-add n (shorter n (length list)) (number_in_base n list) in
@@ -50,8 +50,8 @@ enqueued n capacity e s element state =
     let list = list_at n capacity s in
     let len = length_at n capacity s in
     let known = length_at-fits n capacity s state in
-    let same : state_of n list ≡ s = ((numbered n capacity).each_state s state).1 in
-    let longer : state_of n (list ++ e ∷ []) ≡ s * n + 1 + e = state-append n list e ∙ ap (λ (x : ℕ). x * n + 1 + e) same in
+    let same : queue_state n list ≡ s = ((numbered n capacity).each_state s state).1 in
+    let longer : queue_state n (list ++ e ∷ []) ≡ s * n + 1 + e = state-append n list e ∙ ap (λ (x : ℕ). x * n + 1 + e) same in
     let among = append-among n len e s element known.1 in
     let whole : length list ≡ len = length-digits n len (s - shorter n len) in
     rw (whole, longer) (elim (cases_lt len capacity) [

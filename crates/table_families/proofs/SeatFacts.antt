@@ -13,9 +13,9 @@ use Rattle.std.proofs.lemmas.List.FromFn.{length-range_with_len, get_or-range_wi
 use Rattle.std.proofs.lemmas.List.Sums.{sum_by_push}
 use Rattle.type_table.specs.Op.{has_twin}
 use Rattle.table_maker.specs.Made.{HasTable, where_legal}
-use Rattle.table_maker.proofs.AmountFacts.{legal-Some}
-use Rattle.table_maker.proofs.Replies.{replies-once}
-use Rattle.table_maker.proofs.Twins.{shares, has_twin-append, has_twin-flat_map, shares-flat_map, flat_map-shares, length-pieces, same_bytes, other_bytes}
+use Rattle.table_families.proofs.AmountFacts.{legal-Some}
+use Rattle.table_families.proofs.Replies.{replies-once}
+use Rattle.table_families.proofs.Twins.{shares, has_twin-append, has_twin-flat_map, shares-flat_map, flat_map-shares, length-pieces, same_bytes, other_bytes}
 use Rattle.table_families.specs.Seats.{seats, seat_ops, free_op, seat_step, is_seat, with_seat, free_of, AreSeats, SeatsFit}
 use Rattle.table_families.specs.declared.seats.Seat.{Seat}
 use Rattle.table_families.specs.declared.seats.Seat.TheVariants.{Free, Held, Booked}

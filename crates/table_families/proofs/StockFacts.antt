@@ -1,8 +1,8 @@
 -- Stocks have tables.
 use Rattle.std.proofs.Common.{ℕ, ◌/◌, ◌%◌, codes, List, refl, arith}
-use Rattle.table_maker.specs.Amounts.{AreAmounts, amount_at}
+use Rattle.table_families.specs.Amounts.{AreAmounts, amount_at}
 use Rattle.table_maker.specs.Made.{HasTable}
-use Rattle.table_maker.proofs.AmountFacts.{AreApart, amount-inside, amounts-once, length-amounts}
+use Rattle.table_families.proofs.AmountFacts.{AreApart, amount-inside, amounts-once, length-amounts}
 use Rattle.table_families.specs.Stock.{stock, StockFits}
 
 -- to give is not to take

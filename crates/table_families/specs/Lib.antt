@@ -1,3 +1,10 @@
+pub mod Amounts
+pub mod Account
+pub mod Counter
+pub mod Elements
+pub mod Set
+pub mod Counts
+pub mod Semiqueue
 pub mod Stock
 pub mod Queue
 pub mod Seats

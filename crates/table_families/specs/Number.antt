@@ -1,9 +1,9 @@
 -- Numbers: they have no table, and amounts are taken and given. A refusal is an operation with a reply.
 use Rattle.std.specs.Prelude.{◌≡◌, ℕ, ◌+◌, ◌*◌, ◌<◌, ◌≤◌, List, ◌++◌, length, map, Result, Ok, Err, codes}
-use Rattle.number_text.specs.NumberFile.{Number}
-use Rattle.number_text.specs.declared.number_call.NumberCall.{NumberCall}
-use Rattle.number_text.specs.declared.number_call.NumberCall.TheVariants.{Take, Give}
-use Rattle.table_maker.specs.Amounts.{amount_at}
+use Rattle.number_types.specs.Number.{Number}
+use Rattle.number_types.specs.declared.number_call.NumberCall.{NumberCall}
+use Rattle.number_types.specs.declared.number_call.NumberCall.TheVariants.{Take, Give}
+use Rattle.table_families.specs.Amounts.{amount_at}
 use Rattle.table_maker.specs.declared.make_error.MakeError.{MakeError}
 use Rattle.table_maker.specs.declared.make_error.MakeError.TheVariants.{BadParameter, TooLarge, NoMemory}
 

@@ -1,8 +1,8 @@
 -- Queues: items of several elements, of which a dequeue gives the one that is longest there.
 use Rattle.std.specs.Prelude.{◌≡◌, ◌⊎◌, ℕ, zero, suc, ◌+◌, ◌*◌, ◌-◌, ◌/◌, ◌%◌, ◌^◌, ◌<◌, ◌≤◌, List, [], ◌∷◌, ◌++◌, length, map, nat_lt, nat_le, ◌==◌, if◌then◌else◌, Option, Some, None, codes, slice_index_or}
-use Rattle.table_maker.specs.Counts.{IsBefore}
+use Rattle.table_families.specs.Counts.{CountsPrecede}
 use Rattle.table_maker.specs.Made.{Family, where_legal}
-use Rattle.table_maker.specs.Semiqueue.{enq_op, deq_op}
+use Rattle.table_families.specs.Semiqueue.{enq_op, deq_op}
 
 -- ---- the number of a list of elements, by their places among n; the head comes first
 
@@ -17,8 +17,8 @@ number_in_base n [] = 0
 number_in_base n (e ∷ list) = e * n ^ length list + number_in_base n list
 
 -- the state that a list has: after those of shorter ones, by that number
-abbrev pub state_of : ℕ → List ℕ → ℕ
-state_of n list = shorter n (length list) + number_in_base n list
+abbrev pub queue_state : ℕ → List ℕ → ℕ
+queue_state n list = shorter n (length list) + number_in_base n list
 
 -- `len` digits of a number in base n
 abbrev pub digits : ℕ → ℕ → ℕ → List ℕ
@@ -43,13 +43,13 @@ pub record IsList (n most : ℕ) (list : List ℕ) : Type 0 where
 
 -- shorter, or as long and earlier in lexicographic order
 abbrev pub IsEarlier : List ℕ → List ℕ → Type 0
-IsEarlier a b = (length a < length b) ⊎ ((length a ≡ length b) × IsBefore a b)
+IsEarlier a b = (length a < length b) ⊎ ((length a ≡ length b) × CountsPrecede a b)
 
 -- the law: each state has one list and each list one state, and states are in the order of their lists
 pub record AreNumbered (n most : ℕ) : Type 0 where
-  pub each_state : (s : ℕ) → s < shorter n (suc most) → IsList n most (list_at n most s) × (state_of n (list_at n most s) ≡ s)
-  pub each_list : (list : List ℕ) → IsList n most list → (state_of n list < shorter n (suc most)) × (list_at n most (state_of n list) ≡ list)
-  pub ascending : (a b : List ℕ) → IsList n most a → IsList n most b → IsEarlier a b → state_of n a < state_of n b
+  pub each_state : (s : ℕ) → s < shorter n (suc most) → IsList n most (list_at n most s) × (queue_state n (list_at n most s) ≡ s)
+  pub each_list : (list : List ℕ) → IsList n most list → (queue_state n list < shorter n (suc most)) × (list_at n most (queue_state n list) ≡ list)
+  pub ascending : (a b : List ℕ) → IsList n most a → IsList n most b → IsEarlier a b → queue_state n a < queue_state n b
 
 abbrev pub ListsInOrder : Type 0
 ListsInOrder = (n most : ℕ) → AreNumbered n most
@@ -60,12 +60,12 @@ ListsInOrder = (n most : ℕ) → AreNumbered n most
 abbrev pub enq_step : ℕ → ℕ → ℕ → ℕ → Option ℕ
 enq_step n capacity e s =
     let list = list_at n capacity s in
-    if nat_lt (length list) capacity then Some (state_of n (list ++ e ∷ [])) else None
+    if nat_lt (length list) capacity then Some (queue_state n (list ++ e ∷ [])) else None
 
 -- element e is taken off a list, where it is the head
 abbrev pub without_head : ℕ → ℕ → List ℕ → Option ℕ
 without_head n e [] = None
-without_head n e (head ∷ rest) = where_legal (head == e) (state_of n rest)
+without_head n e (head ∷ rest) = where_legal (head == e) (queue_state n rest)
 
 abbrev pub deq_step : ℕ → ℕ → ℕ → ℕ → Option ℕ
 deq_step n capacity e s = without_head n e (list_at n capacity s)

@@ -3,7 +3,7 @@ use Rattle.std.specs.Prelude.{◌≡◌, ◌≢◌, ℕ, zero, suc, ◌+◌, ◌
 use Rattle.std.specs.Fmt.{decimal}
 use Rattle.std.specs.List.{count_by, flat_map, range_with_len}
 use Rattle.type_table.specs.declared.op.Op.{Op}
-use Rattle.table_maker.specs.Made.{Family, op_of, where_legal}
+use Rattle.table_maker.specs.Made.{Family, op_named, where_legal}
 use Rattle.table_families.specs.declared.seats.Seat.{Seat}
 use Rattle.table_families.specs.declared.seats.Seat.TheVariants.{Free, Held, Booked}
 
@@ -41,9 +41,9 @@ free_of n s = count_by (is_seat Free s) (range_with_len 0 n)
 -- the five operations of a seat, by its number
 abbrev pub seat_ops : ℕ → List Op
 seat_ops number =
-    op_of (codes "hold:" ++ decimal number) (codes "ok") ∷ op_of (codes "hold:" ++ decimal number) (codes "taken")
-    ∷ op_of (codes "release:" ++ decimal number) (codes "ok") ∷ op_of (codes "book:" ++ decimal number) (codes "ok")
-    ∷ op_of (codes "cancel:" ++ decimal number) (codes "ok") ∷ []
+    op_named (codes "hold:" ++ decimal number) (codes "ok") ∷ op_named (codes "hold:" ++ decimal number) (codes "taken")
+    ∷ op_named (codes "release:" ++ decimal number) (codes "ok") ∷ op_named (codes "book:" ++ decimal number) (codes "ok")
+    ∷ op_named (codes "cancel:" ++ decimal number) (codes "ok") ∷ []
 
 -- their steps, by their place
 abbrev pub seat_step : ℕ → ℕ → ℕ → Option ℕ
@@ -55,7 +55,7 @@ seat_step i (suc (suc (suc (suc _)))) s = where_legal (is_seat Booked s i) (with
 
 -- the operation that tells how many are free
 abbrev pub free_op : ℕ → Op
-free_op f = op_of (codes "free") (decimal f)
+free_op f = op_named (codes "free") (decimal f)
 
 -- seats are numbered from 1; operation 5 i + j is the j-th of seat i, and after them there is one for each number of free seats
 abbrev pub seats : ℕ → Family

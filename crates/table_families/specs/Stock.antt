@@ -1,7 +1,7 @@
 -- Stocks: how many there are, from 0 to a cap, given and taken by given amounts; a refusal is an operation with a reply.
 use Rattle.std.specs.Prelude.{ℕ, ◌+◌, ◌*◌, ◌/◌, ◌%◌, ◌≤◌, List, length, codes}
 use Rattle.std.specs.List.{flat_map}
-use Rattle.table_maker.specs.Amounts.{amount_at, amount_ops, amount_step}
+use Rattle.table_families.specs.Amounts.{amount_at, amount_ops, amount_step}
 use Rattle.table_maker.specs.Made.{Family}
 
 -- an account whose balance can't be asked: operation 4 i + j is the j-th of amount i

@@ -2,10 +2,10 @@
 
 ghost use Rattle.std.specs.Prelude.{◌≡◌, ℕ, ◌+◌, ◌<◌, ◌↔◌, length, IsTrue, IfOk};
 ghost use Rattle.std.specs.List.{list_all};
-ghost use Rattle.table_maker.specs.Amounts.{amount_at, is_amount};
+ghost use Rattle.table_families.specs.Amounts.{amount_at, is_amount_up_to};
 ghost use Rattle.table_families.specs.Number.{AreNumberAmounts, MakesNumber, NumberFits, amount_calls, amounts_number};
 
-use number_text::{NumberCall, NumberFile, number_with};
+use number_types::{NumberCall, NumberFile, number_with};
 use std::alloc::{AllocError, Global};
 use table_maker::{MakeError, named};
 
@@ -49,7 +49,7 @@ fn are_number_amounts(max: u32, amounts: &[u32]) -> bool
 
 /// Whether each amount is 1 to the greatest value.
 fn are_within(max: u32, amounts: &[u32]) -> bool
-    ensures { result ≡ list_all (is_amount max) amounts.now }
+    ensures { result ≡ list_all (is_amount_up_to max) amounts.now }
 {
     amounts.iter().all(|a| 1 <= *a && *a <= max)
 }

@@ -2,15 +2,14 @@
 
 ghost use Rattle.std.specs.Prelude.{◌≡◌, ◌+◌, ◌^◌, ◌<◌, ◌≤◌, suc, length, min};
 ghost use Rattle.table_maker.specs.Made.{Makes};
-ghost use Rattle.table_maker.specs.Semiqueue.{AreSemiqueueParameters};
+ghost use Rattle.table_families.specs.Semiqueue.{AreSemiqueueParameters};
 ghost use Rattle.table_families.specs.Queue.{queue, enq_step, deq_step, length_at, shorter, ListsInOrder, QueueFits};
 
+use crate::semiqueue::{are_semiqueue_parameters, queue_ops};
+use declared_types::TypeFile;
 use std::alloc::Global;
-use table_maker::{
-    FamilyRules, MakeError, are_semiqueue_parameters, make_file, named, queue_ops, where_legal,
-};
+use table_maker::{FamilyRules, MakeError, make_file, named, where_legal};
 use type_table::Name;
-use type_text::TypeFile;
 
 /// The states of a queue are numbered by the lengths of their lists, and among those of one length
 /// lexicographically.

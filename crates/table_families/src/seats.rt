@@ -2,15 +2,15 @@
 
 ghost use Rattle.std.specs.Prelude.{◌≡◌, ◌+◌, ◌*◌, ◌^◌, ◌<◌, ◌≤◌, [], ◌∷◌, ◌++◌, ◌↔◌, codes, map, IsTrue, IfOk, OnOk};
 ghost use Rattle.std.specs.List.{flat_map, range_with_len};
-ghost use Rattle.table_maker.specs.Made.{Makes, op_of};
+ghost use Rattle.table_maker.specs.Made.{Makes, op_named};
 ghost use Rattle.table_families.specs.Seats.{seats, digit_at, digit_of, is_seat, with_seat, free_of, free_op, seat_ops, seat_step, AreSeats, SeatsFit, ChangesOneSeat};
 
+use declared_types::TypeFile;
 use std::alloc::{AllocError, Global};
 use table_maker::{
     FamilyRules, MakeError, make_file, named, numbered, push_replies, push_two, where_legal,
 };
 use type_table::{Name, Op};
-use type_text::TypeFile;
 
 /// A change of a seat leaves each other seat as it is.
 pub fn changes_one_seat()
@@ -196,7 +196,7 @@ fn push_seat(alloc: Global, ops: &mut Vec<Op>, number: u16) -> Result<(), AllocE
 
 /// Adds the operation of a call that is done or isn't legal.
 fn push_change(ops: &mut Vec<Op>, call: Name) -> Result<(), AllocError>
-    ensures { OnOk result (ops.new.items ≡ ops.old.items ++ op_of call (codes "ok") ∷ []) }
+    ensures { OnOk result (ops.new.items ≡ ops.old.items ++ op_named call (codes "ok") ∷ []) }
 {
     ops.push(Op {
         call,

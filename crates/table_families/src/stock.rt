@@ -1,14 +1,13 @@
 //! Stocks: how many there are, from 0 to a cap, given and taken by given amounts.
 
-ghost use Rattle.table_maker.specs.Amounts.{AreAmounts};
+ghost use Rattle.table_families.specs.Amounts.{AreAmounts};
 ghost use Rattle.table_maker.specs.Made.{Makes};
 ghost use Rattle.table_families.specs.Stock.{stock, StockFits};
 
+use crate::amounts::{amount_step, amounts_ops, are_amounts};
+use declared_types::TypeFile;
 use std::alloc::Global;
-use table_maker::{
-    FamilyRules, MakeError, amount_step, amounts_ops, are_amounts, make_file, named,
-};
-use type_text::TypeFile;
+use table_maker::{FamilyRules, MakeError, make_file, named};
 
 /// The type file of a stock of 0 to a cap of 1 to 1,023, with the set of all states.
 ///

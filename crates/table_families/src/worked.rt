@@ -2,12 +2,65 @@
 #![tactic(auto)]
 
 ghost use Rattle.std.specs.Prelude.{◌≡◌, [], ◌∷◌, Some, None, length, codes};
-ghost use Rattle.table_maker.specs.Made.{op_of, entries_of};
-ghost use Rattle.number_text.specs.declared.number_call.NumberCall.TheVariants.{Take, Give};
+ghost use Rattle.table_maker.specs.Made.{op_named, table_entries};
+ghost use Rattle.number_types.specs.declared.number_call.NumberCall.TheVariants.{Take, Give};
+ghost use Rattle.table_families.specs.Account.{account};
+ghost use Rattle.table_families.specs.Counter.{counter};
+ghost use Rattle.table_families.specs.Counts.{counts_within};
 ghost use Rattle.table_families.specs.Number.{amounts_number};
-ghost use Rattle.table_families.specs.Queue.{list_at, queue, state_of};
+ghost use Rattle.table_families.specs.Queue.{list_at, queue, queue_state};
 ghost use Rattle.table_families.specs.Seats.{seats};
+ghost use Rattle.table_families.specs.Semiqueue.{semiqueue};
+ghost use Rattle.table_families.specs.Set.{set};
 ghost use Rattle.table_families.specs.Stock.{stock};
+
+pub fn counter_of_two()
+    ensures states { (counter 2 (1 ∷ [])).states ≡ 3 }
+    ensures ops { (counter 2 (1 ∷ [])).ops ≡ op_named (codes "inc:1") (codes "ok") ∷ op_named (codes "dec:1") (codes "ok") ∷ [] }
+    ensures up { (counter 2 (1 ∷ [])).step 1 0 ≡ Some 2 }
+    ensures full { (counter 2 (1 ∷ [])).step 2 0 ≡ None }
+    ensures down { (counter 2 (1 ∷ [])).step 1 1 ≡ Some 0 }
+    ensures empty { (counter 2 (1 ∷ [])).step 0 1 ≡ None }
+{}
+
+pub fn account_of_five()
+    ensures ops { length (account 5 (2 ∷ 3 ∷ [])).ops ≡ 14 }
+    ensures deposited { (account 5 (2 ∷ 3 ∷ [])).step 2 4 ≡ Some 5 }
+    ensures no_room { (account 5 (2 ∷ 3 ∷ [])).step 3 4 ≡ None }
+    ensures full { (account 5 (2 ∷ 3 ∷ [])).step 3 5 ≡ Some 3 }
+    ensures withdrawn { (account 5 (2 ∷ 3 ∷ [])).step 3 6 ≡ Some 0 }
+    ensures too_little { (account 5 (2 ∷ 3 ∷ [])).step 2 6 ≡ None }
+    ensures short { (account 5 (2 ∷ 3 ∷ [])).step 2 7 ≡ Some 2 }
+    ensures here { (account 5 (2 ∷ 3 ∷ [])).step 4 12 ≡ Some 4 }
+    ensures elsewhere { (account 5 (2 ∷ 3 ∷ [])).step 4 13 ≡ None }
+{}
+
+pub fn set_of_two()
+    ensures states { (set (codes "a" ∷ codes "b" ∷ [])).states ≡ 4 }
+    ensures put_in { (set (codes "a" ∷ codes "b" ∷ [])).step 1 4 ≡ Some 3 }
+    ensures inside_already { (set (codes "a" ∷ codes "b" ∷ [])).step 2 4 ≡ Some 2 }
+    ensures taken_out { (set (codes "a" ∷ codes "b" ∷ [])).step 3 5 ≡ Some 1 }
+    ensures member { (set (codes "a" ∷ codes "b" ∷ [])).step 2 6 ≡ Some 2 }
+    ensures no_member { (set (codes "a" ∷ codes "b" ∷ [])).step 2 2 ≡ None }
+    ensures outside { (set (codes "a" ∷ codes "b" ∷ [])).step 2 3 ≡ Some 2 }
+{}
+
+pub fn two_counts_within_two()
+    ensures { counts_within 2 2 ≡ (0 ∷ 0 ∷ []) ∷ (0 ∷ 1 ∷ []) ∷ (0 ∷ 2 ∷ []) ∷ (1 ∷ 0 ∷ []) ∷ (1 ∷ 1 ∷ []) ∷ (2 ∷ 0 ∷ []) ∷ [] }
+{}
+
+pub fn two_elements_and_two_items()
+    ensures states { (semiqueue (codes "a" ∷ codes "b" ∷ []) 2).states ≡ 6 }
+    ensures operations { (semiqueue (codes "a" ∷ codes "b" ∷ []) 2).ops
+        ≡ op_named (codes "enq:a") (codes "ok") ∷ op_named (codes "enq:b") (codes "ok") ∷ op_named (codes "deq") (codes "a") ∷ op_named (codes "deq") (codes "b") ∷ [] }
+    ensures steps { table_entries (semiqueue (codes "a" ∷ codes "b" ∷ []) 2) 24
+        ≡ Some 3 ∷ Some 1 ∷ None ∷ None
+        ∷ Some 4 ∷ Some 2 ∷ None ∷ Some 0
+        ∷ None ∷ None ∷ None ∷ Some 1
+        ∷ Some 5 ∷ Some 4 ∷ Some 0 ∷ None
+        ∷ None ∷ None ∷ Some 1 ∷ Some 3
+        ∷ None ∷ None ∷ Some 3 ∷ None ∷ [] }
+{}
 
 pub fn stock_of_five()
     ensures ops { length (stock 5 (2 ∷ 3 ∷ [])).ops ≡ 8 }
@@ -21,10 +74,10 @@ pub fn stock_of_five()
 pub fn queue_of_two_elements_and_two_items()
     ensures states { (queue (codes "a" ∷ codes "b" ∷ []) 2).states ≡ 7 }
     ensures operations { (queue (codes "a" ∷ codes "b" ∷ []) 2).ops
-        ≡ op_of (codes "enq:a") (codes "ok") ∷ op_of (codes "enq:b") (codes "ok") ∷ op_of (codes "deq") (codes "a") ∷ op_of (codes "deq") (codes "b") ∷ [] }
+        ≡ op_named (codes "enq:a") (codes "ok") ∷ op_named (codes "enq:b") (codes "ok") ∷ op_named (codes "deq") (codes "a") ∷ op_named (codes "deq") (codes "b") ∷ [] }
     ensures head_a { list_at 2 2 4 ≡ 0 ∷ 1 ∷ [] }
-    ensures head_b { state_of 2 (1 ∷ 0 ∷ []) ≡ 5 }
-    ensures steps { entries_of (queue (codes "a" ∷ codes "b" ∷ []) 2) 28
+    ensures head_b { queue_state 2 (1 ∷ 0 ∷ []) ≡ 5 }
+    ensures steps { table_entries (queue (codes "a" ∷ codes "b" ∷ []) 2) 28
         ≡ Some 1 ∷ Some 2 ∷ None ∷ None
         ∷ Some 3 ∷ Some 4 ∷ Some 0 ∷ None
         ∷ Some 5 ∷ Some 6 ∷ None ∷ Some 0

@@ -11,7 +11,7 @@ use Rattle.type_table.specs.Op.{has_twin}
 use Rattle.type_table.specs.Counts.{is_inside}
 use Rattle.type_table.specs.Table.{Table, next, table_fault}
 use Rattle.type_table.proofs.Legal.{next-entry}
-use Rattle.table_maker.specs.Made.{Family, HasTable, entries_of, IsTableOfFamily}
+use Rattle.table_maker.specs.Made.{Family, HasTable, table_entries, IsTableOfFamily}
 
 -- the parts of a table, as they are read off a family
 pub record AreParts (f : Family) (T : Table) : Type 0 where
@@ -19,26 +19,26 @@ pub record AreParts (f : Family) (T : Table) : Type 0 where
   pub states : T.states ≡ f.states
   pub initial : T.initial ≡ 0
   pub ops : T.ops ≡ f.ops
-  pub steps : T.steps ≡ entries_of f (f.states * length f.ops)
+  pub steps : T.steps ≡ table_entries f (f.states * length f.ops)
 
 -- an entry is a step from a state of an operation
-pub entry-at : (f : Family) (count place : ℕ) → place < count → get_or (entries_of f count) place None ≡ f.step (place / length f.ops) (place % length f.ops)
+pub entry-at : (f : Family) (count place : ℕ) → place < count → get_or (table_entries f count) place None ≡ f.step (place / length f.ops) (place % length f.ops)
 entry-at f count place below = get_or-map-range_with_len (λ place. f.step (place / length f.ops) (place % length f.ops)) 0 count place place None below (omega arith)
 
 -- how many entries there are
-length-entries : (f : Family) (count : ℕ) → length (entries_of f count) ≡ count
+length-entries : (f : Family) (count : ℕ) → length (table_entries f count) ≡ count
 length-entries f count = length-map-range_with_len (λ place. f.step (place / length f.ops) (place % length f.ops)) 0 count
 
 -- one more entry
-pub entries_more : (f : Family) (count : ℕ) → entries_of f (count + 1) ≡ entries_of f count ++ f.step (count / length f.ops) (count % length f.ops) ∷ []
+pub entries_more : (f : Family) (count : ℕ) → table_entries f (count + 1) ≡ table_entries f count ++ f.step (count / length f.ops) (count % length f.ops) ∷ []
 entries_more f count = map-range_with_len_more (λ place. f.step (place / length f.ops) (place % length f.ops)) 0 count count (omega arith)
 
 -- each entry leads to a state, where it leads anywhere
-entries_inside : (f : Family) → HasTable f → list_all (is_inside f.states) (entries_of f (f.states * length f.ops)) ≡ true
+entries_inside : (f : Family) → HasTable f → list_all (is_inside f.states) (table_entries f (f.states * length f.ops)) ≡ true
 entries_inside f h =
-    list_all-from_AllPass (is_inside f.states) (entries_of f (f.states * length f.ops)) (λ i d below. rw (get_or_default (entries_of f (f.states * length f.ops)) i d None below) (passes i (omega (arith, below, length-entries f (f.states * length f.ops))) (get_or (entries_of f (f.states * length f.ops)) i None) refl))
+    list_all-from_AllPass (is_inside f.states) (table_entries f (f.states * length f.ops)) (λ i d below. rw (get_or_default (table_entries f (f.states * length f.ops)) i d None below) (passes i (omega (arith, below, length-entries f (f.states * length f.ops))) (get_or (table_entries f (f.states * length f.ops)) i None) refl))
   where
-    passes : (i : ℕ) → i < f.states * length f.ops → (entry : Option ℕ) → get_or (entries_of f (f.states * length f.ops)) i None ≡ entry → is_inside f.states entry ≡ true
+    passes : (i : ℕ) → i < f.states * length f.ops → (entry : Option ℕ) → get_or (table_entries f (f.states * length f.ops)) i None ≡ entry → is_inside f.states entry ≡ true
     passes i below None e = refl
     passes i below (Some t) e =
         lt-ltb t f.states (h.steps_inside (i / length f.ops) (i % length f.ops) t ((div-lt_iff_lt-mul h.some_ops).1 below) (mod-lt i h.some_ops) (sym (entry-at f (f.states * length f.ops) i below) ∙ e))

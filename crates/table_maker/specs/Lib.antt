@@ -1,9 +1,2 @@
 pub mod Made
-pub mod Amounts
-pub mod Account
-pub mod Counter
-pub mod Elements
-pub mod Set
-pub mod Counts
-pub mod Semiqueue
 pub mod MadeConflicts

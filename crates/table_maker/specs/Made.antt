@@ -4,7 +4,7 @@ use Rattle.std.specs.List.{range_with_len}
 use Rattle.type_table.specs.Op.{has_twin}
 use Rattle.type_table.specs.Table.{Table, next}
 use Rattle.type_table.specs.declared.op.Op.{Op}
-use Rattle.type_text.specs.declared.type_file.TypeFile.{TypeFile}
+use Rattle.declared_types.specs.declared.type_file.TypeFile.{TypeFile}
 use Rattle.table_maker.specs.declared.make_error.MakeError.{MakeError}
 use Rattle.table_maker.specs.declared.make_error.MakeError.TheVariants.{BadParameter, TooLarge, NoMemory}
 
@@ -13,8 +13,8 @@ abbrev pub where_legal : Bool → ℕ → Option ℕ
 where_legal is_legal t = if is_legal then Some t else None
 
 -- an operation
-abbrev pub op_of : List ℕ → List ℕ → Op
-op_of call reply = record { call = call; reply = reply }
+abbrev pub op_named : List ℕ → List ℕ → Op
+op_named call reply = record { call = call; reply = reply }
 
 -- a family at its parameters: a name, states, operations, and the step of each operation from each state; the initial state is 0
 pub record Family : Type 0 where
@@ -33,8 +33,8 @@ pub record HasTable (f : Family) : Type 0 where
   pub steps_inside : (s k t : ℕ) → s < f.states → k < length f.ops → f.step s k ≡ Some t → t < f.states
 
 -- the first entries of a table: that of state s and operation k is at s * (number of operations) + k
-abbrev pub entries_of : Family → ℕ → List (Option ℕ)
-entries_of f count = map (λ place. f.step (place / length f.ops) (place % length f.ops)) (range_with_len 0 count)
+abbrev pub table_entries : Family → ℕ → List (Option ℕ)
+table_entries f count = map (λ place. f.step (place / length f.ops) (place % length f.ops)) (range_with_len 0 count)
 
 -- the table is the family's
 pub record IsTableOfFamily (f : Family) (T : Table) : Type 0 where

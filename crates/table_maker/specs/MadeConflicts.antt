@@ -1,7 +1,7 @@
 -- Conflict tables that are made: which pairs of operations have to conflict.
 use Rattle.std.specs.Prelude.{◌≡◌, ◌↔◌, ◌⊎◌, ℕ, ◌<◌, Bool, true, List, length}
 use Rattle.type_table.specs.ConflictTable.{conflicts, IsSquare}
-use Rattle.type_text.specs.declared.type_file.TypeFile.{TypeFile}
+use Rattle.declared_types.specs.declared.type_file.TypeFile.{TypeFile}
 use Rattle.table_checker.specs.Condition.{fails_in_set}
 use Rattle.table_checker.specs.declared.condition.Condition.{Condition}
 

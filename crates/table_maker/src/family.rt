@@ -3,15 +3,15 @@
 ghost use Rattle.std.specs.Prelude.{◌≡◌, ℕ, ◌*◌, ◌<◌, [], ◌∷◌, ◌++◌, length, map, OnOk, IfOk, IfErr};
 ghost use Rattle.std.specs.Fmt.{decimal};
 ghost use Rattle.std.specs.List.{range_with_len};
-ghost use Rattle.table_maker.specs.Made.{Family, HasTable, entries_of, IsTableOfFamily, IsFileOfFamily, op_of, where_legal};
+ghost use Rattle.table_maker.specs.Made.{Family, HasTable, table_entries, IsTableOfFamily, IsFileOfFamily, op_named, where_legal};
 ghost use Rattle.table_maker.specs.declared.make_error.MakeError.TheVariants.{NoMemory};
 
 use crate::made_file::make_tables;
 use crate::make_error::MakeError;
 use crate::names::numbered;
+use declared_types::TypeFile;
 use std::alloc::{AllocError, Global};
 use type_table::{Name, Op, StateSet, TypeTable};
-use type_text::TypeFile;
 
 /// The steps of a family at its parameters.
 pub trait FamilyRules {
@@ -79,7 +79,7 @@ fn steps_of<F: FamilyRules>(
     requires states { states ≡ (F.family rules.now).states }
     requires ops { ops ≡ length (F.family rules.now).ops }
     requires family { HasTable (F.family rules.now) }
-    ensures { IfOk result (λ steps. steps.items ≡ entries_of (F.family rules.now) (states * ops)) }
+    ensures { IfOk result (λ steps. steps.items ≡ table_entries (F.family rules.now) (states * ops)) }
 {
     let mut steps = Vec::new(alloc);
     for place in 0..states as usize * ops {
@@ -111,7 +111,7 @@ pub fn push_replies(
     call: Name,
     count: u16,
 ) -> Result<(), AllocError>
-    ensures { OnOk result (ops.new.items ≡ ops.old.items ++ map (λ n. op_of call (decimal n)) (range_with_len 0 count)) }
+    ensures { OnOk result (ops.new.items ≡ ops.old.items ++ map (λ n. op_named call (decimal n)) (range_with_len 0 count)) }
 {
     for n in 0..count {
         let reply = numbered(alloc, b"", n)?;

@@ -5,9 +5,9 @@ ghost use Rattle.type_table.specs.ConflictTable.{conflicts, IsSquare};
 ghost use Rattle.table_checker.specs.Checked.{condition_of};
 ghost use Rattle.table_maker.specs.MadeConflicts.{FailsSomewhere, AddsFailing, AreMadeConflicts};
 
+use declared_types::TypeFile;
 use table_checker::{Condition, condition_of, first_failing_state};
 use type_table::{ConflictTable, TableKind};
-use type_text::TypeFile;
 
 /// The pairs of operations whose condition for a kind of recovery fails at some state of the file's
 /// set.

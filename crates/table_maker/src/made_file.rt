@@ -8,10 +8,10 @@ ghost use Rattle.table_maker.specs.declared.make_error.MakeError.TheVariants.{No
 
 use crate::made_conflicts::made_conflicts;
 use crate::make_error::MakeError;
+use declared_types::TypeFile;
 use exact_tables::Distances;
 use std::alloc::{AllocError, Global};
 use type_table::{ConflictTable, StateSet, TableKind, TypeTable};
-use type_text::TypeFile;
 
 /// The file of a table and a set of its states that isn't empty, with the exact relation: a state is
 /// related to another exactly where it looks like it, over all lists of operations. For each kind it

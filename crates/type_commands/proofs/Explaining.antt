@@ -9,18 +9,18 @@ use Rattle.command_files.specs.Refusals.{no_line}
 use Rattle.command_files.specs.declared.status.Verdict.{Verdict}
 use Rattle.command_files.specs.declared.status.Verdict.TheVariants.{Yes, No}
 use Rattle.table_checker.specs.Checked.{Checked}
-use Rattle.table_checker.specs.Declarations.{IsByTable, file_of, rows_of}
+use Rattle.declared_types.specs.Declarations.{IsByTable, file_of, rows_of}
 use Rattle.table_checker.specs.Laws.{CoversType}
 use Rattle.table_checker.specs.Refusal.{IsFirstOfNumeric, IsFirstReason}
-use Rattle.table_checker.specs.declared.declared_type.Declaration.{Declaration}
+use Rattle.declared_types.specs.declared.declared_type.Declaration.{Declaration}
 use Rattle.table_checker.specs.declared.refusal.CheckRefusal.{CheckRefusal}
 use Rattle.type_table.specs.Kind.{of_table, table_kind}
 use Rattle.type_table.specs.declared.kind.Kind.{Kind}
 use Rattle.type_table.specs.declared.kind.Kind.TheVariants.{Undo, Intentions, Escrow}
 use Rattle.type_table.specs.declared.table_kind.TableKind.{TableKind}
 use Rattle.type_table.specs.declared.table_kind.TableKind.TheVariants as tabled
-use Rattle.type_text.specs.declared.type_file.TypeFile.{TypeFile}
-use Rattle.type_commands.specs.Explain.{Adds, CannotBeExplained, Explains, ExplainsBy, ExplainsFault, ExplainsFor, ExplainsPairs, IsYesLine, SaysThen, asked_of}
+use Rattle.declared_types.specs.declared.type_file.TypeFile.{TypeFile}
+use Rattle.type_commands.specs.Explain.{AddsText, CannotBeExplained, Explains, ExplainsBy, ExplainsFault, ExplainsFor, ExplainsPairs, IsYesLine, SaysThen, asked_rows}
 use Rattle.type_commands.specs.Verdict.{CannotBeChecked, SaysOf}
 
 -- a kind of a conflict table is one whose types are declared by tables
@@ -31,16 +31,16 @@ is_by_table tabled.Intentions = tt
 -- ---- texts that are added
 
 -- a line, and a text after it
-pub adds_both : (a b c : Option (List ℕ)) (first rest : List ℕ → Type 0) (line : List ℕ) → first line → Appends a b line → Adds b c rest → Adds a c (SaysThen first rest)
+pub adds_both : (a b c : Option (List ℕ)) (first rest : List ℕ → Type 0) (line : List ℕ) → first line → Appends a b line → AddsText b c rest → AddsText a c (SaysThen first rest)
 adds_both a b c first rest line says here more =
     (line ++ more.0, (line, more.0, says, more.1, refl), Appends-trans a b c line more.0 here more.2)
 
 -- a text that says something says what follows from it
-pub adds_weaker : (a b : Option (List ℕ)) (P Q : List ℕ → Type 0) → ((text : List ℕ) → P text → Q text) → Adds a b P → Adds a b Q
+pub adds_weaker : (a b : Option (List ℕ)) (P Q : List ℕ → Type 0) → ((text : List ℕ) → P text → Q text) → AddsText a b P → AddsText a b Q
 adds_weaker a b P Q leads adds = (adds.0, leads adds.0 adds.1, adds.2)
 
 -- what is added to no byte is all that is there
-pub added_alone : (P : List ℕ → Type 0) (start all : List ℕ) → start ≡ [] → Adds (Some start) (Some all) P → P all
+pub added_alone : (P : List ℕ → Type 0) (start all : List ℕ) → start ≡ [] → AddsText (Some start) (Some all) P → P all
 added_alone P start all empty adds = subst P (sym (adds.2 ∙ ap (λ l. l ++ adds.0) empty)) adds.1
 
 -- ---- kinds
@@ -101,7 +101,7 @@ no_explains kind file refusal asked all first says declaration same Yes text thi
 
 -- words that name no operations
 pub bad_words : (held : Option (List ℕ)) (kind : Kind) (words : Option (List ℕ × List ℕ)) (declaration : Declaration) → IsDeclaredAt held declaration
-    → asked_of (rows_of declaration) words ≡ None → IfSome held (CannotBeExplained kind words)
+    → asked_rows (rows_of declaration) words ≡ None → IfSome held (CannotBeExplained kind words)
 bad_words None kind words declaration there none = there
 bad_words (Some text) kind words declaration there none = inr (declaration, there, none)
 

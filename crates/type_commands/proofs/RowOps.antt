@@ -6,25 +6,25 @@ use Rattle.std.proofs.lemmas.Bool.{and_parts, false≢true}
 use Rattle.std.proofs.lemmas.List.{length-append}
 use Rattle.std.proofs.lemmas.List.FromFn.{length-map-range_with_len}
 use Rattle.std.proofs.lemmas.Option.{slice_get-get_or}
-use Rattle.explaining.specs.Text.{listed_words, word_if, word_of}
-use Rattle.number_text.specs.NumberFile.{Number, IsNumber}
-use Rattle.number_text.specs.NumberLines.{are_ascending, is_below}
-use Rattle.number_text.specs.Operations.{names_or_none, number_rows, number_table, op_at, op_count, op_in, rows_of_call}
-use Rattle.number_text.specs.declared.number_call.NumberCall.{NumberCall}
-use Rattle.number_text.specs.declared.number_call.NumberCall.TheVariants as calls
-use Rattle.number_text.proofs.LineRows.{few_rows}
-use Rattle.number_text.proofs.Tables.{has_what_is_there}
-use Rattle.table_checker.specs.Declarations.{rows_of, table_of}
-use Rattle.table_checker.specs.declared.declared_type.Declaration.{Declaration}
-use Rattle.table_checker.specs.declared.declared_type.Declaration.TheVariants.{Table, Number as Numbers}
-use Rattle.table_checker.proofs.TableOps.{name_length, op_found}
+use Rattle.need_text.specs.Text.{listed_words, word_if, word_of}
+use Rattle.number_types.specs.Number.{Number, IsNumber}
+use Rattle.number_types.specs.Calls.{are_ascending, is_below}
+use Rattle.number_types.specs.Operations.{names_or_none, number_rows, number_table, op_at, op_count, op_in, rows_of_call}
+use Rattle.number_types.specs.declared.number_call.NumberCall.{NumberCall}
+use Rattle.number_types.specs.declared.number_call.NumberCall.TheVariants as calls
+use Rattle.number_types.proofs.LineRows.{few_rows}
+use Rattle.number_types.proofs.Tables.{has_what_is_there}
+use Rattle.declared_types.specs.Declarations.{rows_of, table_of}
+use Rattle.declared_types.specs.declared.declared_type.Declaration.{Declaration}
+use Rattle.declared_types.specs.declared.declared_type.Declaration.TheVariants.{Table, Number as Numbers}
+use Rattle.declared_types.proofs.TableOps.{name_length, op_found}
 use Rattle.type_table.specs.Limits.{most_ops}
 use Rattle.type_table.specs.Name.{is_name}
 use Rattle.type_table.specs.Operation.{place-of-operation, amount-of-operation}
 use Rattle.type_table.specs.Table.{has_op}
 use Rattle.type_table.specs.declared.op.Op.{Op}
-use Rattle.type_text.specs.declared.type_file.TypeFile.{TypeFile}
-use Rattle.type_commands.specs.Rows.{any_bounds, any_op_at, any_ops, any_words, number_line}
+use Rattle.declared_types.specs.declared.type_file.TypeFile.{TypeFile}
+use Rattle.type_commands.specs.Rows.{any_bounds, any_op_at, any_ops, any_words, number_row_line}
 use Rattle.type_commands.specs.declared.rows.AnyOp.{AnyOp}
 
 -- ---- the call of a row
@@ -128,9 +128,9 @@ table_row declaration file k row is at name =
 
 -- the line of any amount
 pub any_line_is : (v : Number) (k max : ℕ) (row : Op) (op : AnyOp) (found : Option AnyOp) → slice_get (number_rows v) k ≡ Some row → max ≡ v.max → found ≡ Some op
-    → codes "bounds" ++ (32 ∷ word_of row ++ (any_words (any_bounds max op) ++ 10 ∷ [])) ≡ number_line v k found
+    → codes "bounds" ++ (32 ∷ word_of row ++ (any_words (any_bounds max op) ++ 10 ∷ [])) ≡ number_row_line v k found
 any_line_is v k max row op found at same is =
     let words : listed_words (number_rows v) (k ∷ []) ≡ 32 ∷ word_of row = append-nil (32 ∷ word_if (slice_get (number_rows v) k)) ∙ ap (λ o. 32 ∷ word_if o) at in
     ap (λ m. codes "bounds" ++ (32 ∷ word_of row ++ (any_words (any_bounds m op) ++ 10 ∷ []))) same
     ∙ ap (λ (text : List ℕ). codes "bounds" ++ (text ++ (any_words (any_bounds v.max op) ++ 10 ∷ []))) (sym words)
-    ∙ sym (ap (number_line v k) is)
+    ∙ sym (ap (number_row_line v k) is)

@@ -6,10 +6,10 @@ use Rattle.command_files.specs.declared.status.Verdict.TheVariants.{Yes, No}
 use Rattle.table_checker.specs.Checked.{IsStrong}
 use Rattle.table_checker.specs.Laws.{CoversType}
 use Rattle.declared_text.specs.Canonical.{canonical_text as declared_text}
-use Rattle.table_checker.specs.declared.declared_type.Declaration.{Declaration}
+use Rattle.declared_types.specs.declared.declared_type.Declaration.{Declaration}
 use Rattle.type_table.specs.declared.kind.Kind.{Kind}
 use Rattle.type_text.specs.Canonical.{canonical_text}
-use Rattle.type_text.specs.declared.type_file.TypeFile.{TypeFile}
+use Rattle.declared_types.specs.declared.type_file.TypeFile.{TypeFile}
 use Rattle.table_maker.specs.declared.make_error.MakeError.TheVariants.{BadParameter}
 use Rattle.type_commands.specs.Made.{CannotBeMade, IsMadeOf, MakesFamily, MakesFor, MakesTables}
 use Rattle.type_commands.specs.Request.{Wanted}

@@ -8,26 +8,27 @@ use Rattle.command_files.specs.declared.status.Verdict.{Verdict}
 use Rattle.command_files.specs.declared.status.Verdict.TheVariants.{Yes, No}
 use Rattle.declared_text.specs.Declared.{Declares}
 use Rattle.escrow_laws.specs.Faults.{IsFirstNumericFault}
-use Rattle.explaining.specs.Explained.{IsExplained, AreRows}
-use Rattle.explaining.specs.Leads.{IsLedSet}
-use Rattle.explaining.specs.Numeric.{IsWhyNot, why_not_line}
-use Rattle.explaining.specs.Text.{word_of, pair_text, explanation_text}
-use Rattle.explaining.specs.declared.explained.Explained.{Explained}
-use Rattle.explaining.specs.declared.explained.Row.{Row}
-use Rattle.explaining.specs.declared.numeric.WhyNot.{WhyNot}
-use Rattle.line_text.specs.Text.{number_of}
+use Rattle.pair_needs.specs.Explained.{IsExplained, AreRows}
+use Rattle.pair_needs.specs.Leads.{IsLedSet}
+use Rattle.pair_needs.specs.WhyNot.{IsWhyNot}
+use Rattle.need_text.specs.Numeric.{why_not_line}
+use Rattle.need_text.specs.Text.{word_of, pair_text, explanation_text}
+use Rattle.pair_needs.specs.declared.explained.Explained.{Explained}
+use Rattle.pair_needs.specs.declared.explained.Row.{Row}
+use Rattle.pair_needs.specs.declared.numeric_fault.WhyNot.{WhyNot}
+use Rattle.decimals.specs.Decimals.{number_of}
 use Rattle.type_table.specs.Table.{Table}
 use Rattle.type_table.specs.declared.kind.Kind.{Kind}
 use Rattle.type_table.specs.declared.kind.Kind.TheVariants.{Undo, Intentions, Escrow}
 use Rattle.type_table.specs.declared.op.Op.{Op}
 use Rattle.type_table.specs.declared.table_kind.TableKind.{TableKind}
 use Rattle.type_table.specs.declared.table_kind.TableKind.TheVariants as tabled
-use Rattle.type_text.specs.declared.type_file.TypeFile.{TypeFile}
+use Rattle.declared_types.specs.declared.type_file.TypeFile.{TypeFile}
 use Rattle.std.specs.Borrow.{Bor}
 use Rattle.std.specs.Io.KnownBytes.{Appends}
 use Rattle.table_checker.specs.Checked.{Checked, IsStrong}
-use Rattle.table_checker.specs.Declarations.{IsDeclaredFor, file_of, rows_of, table_of}
-use Rattle.table_checker.specs.declared.declared_type.Declaration.{Declaration}
+use Rattle.declared_types.specs.Declarations.{IsDeclaredFor, file_of, rows_of, table_of}
+use Rattle.declared_types.specs.declared.declared_type.Declaration.{Declaration}
 use Rattle.type_commands.specs.declared.explain.Asked.{Asked}
 use Rattle.type_commands.specs.Rows.{rows_text}
 use Rattle.type_commands.specs.Verdict.{CannotBeChecked, SaysOf, yes_line}
@@ -47,17 +48,17 @@ named_by rows word (Some n) = numbered rows n
 named_by rows word None = worded rows word
 
 -- the row that a word names
-abbrev pub row_of : List Op → List ℕ → Option ℕ
-row_of rows word = named_by rows word (number_of word)
+abbrev pub row_named : List Op → List ℕ → Option ℕ
+row_named rows word = named_by rows word (number_of word)
 
 -- the pair of rows that two words name
-abbrev pub pair_of : List Op → List ℕ → List ℕ → Option (ℕ × ℕ)
-pair_of rows p q = option_and_then (λ first. option_map (λ second. (first, second)) (row_of rows q)) (row_of rows p)
+abbrev pub row_pair_of : List Op → List ℕ → List ℕ → Option (ℕ × ℕ)
+row_pair_of rows p q = option_and_then (λ first. option_map (λ second. (first, second)) (row_named rows q)) (row_named rows p)
 
 -- no words ask for all pairs, two for the pair that they name; None where they name none
-abbrev pub asked_of : List Op → Option (List ℕ × List ℕ) → Option (Option (ℕ × ℕ))
-asked_of rows None = Some None
-asked_of rows (Some words) = option_map (λ pair. Some pair) (pair_of rows words.0 words.1)
+abbrev pub asked_rows : List Op → Option (List ℕ × List ℕ) → Option (Option (ℕ × ℕ))
+asked_rows rows None = Some None
+asked_rows rows (Some words) = option_map (λ pair. Some pair) (row_pair_of rows words.0 words.1)
 
 -- two words behind references
 abbrev pub words_as : Option (Bor (List ℕ) × Bor (List ℕ)) → Option (List ℕ × List ℕ)
@@ -125,19 +126,19 @@ pub record ExplainsFile (held : Option (List ℕ)) (kind : Kind) (words : Option
   pub asked : Option (ℕ × ℕ)
   pub declared : IsDeclaredAt held declaration
   pub fits : IsDeclaredFor kind declaration
-  pub names : asked_of (rows_of declaration) words ≡ Some asked
+  pub names : asked_rows (rows_of declaration) words ≡ Some asked
   pub explains : Explains kind declaration asked verdict text
 
 -- the text has a fault, or declares a number, and the kind isn't escrow; or the words name no rows of its type
 abbrev pub CannotBeExplained : Kind → Option (List ℕ × List ℕ) → List ℕ → Type 0
 CannotBeExplained kind words text =
-    CannotBeChecked kind text ⊎ ((declaration : Declaration) × Declares text declaration × (asked_of (rows_of declaration) words ≡ None))
+    CannotBeChecked kind text ⊎ ((declaration : Declaration) × Declares text declaration × (asked_rows (rows_of declaration) words ≡ None))
 
 -- ---- how it is put together
 
 -- known bytes grow by such a text
-abbrev pub Adds : Option (List ℕ) → Option (List ℕ) → (List ℕ → Type 0) → Type 0
-Adds old new says = (text : List ℕ) × says text × Appends old new text
+abbrev pub AddsText : Option (List ℕ) → Option (List ℕ) → (List ℕ → Type 0) → Type 0
+AddsText old new says = (text : List ℕ) × says text × Appends old new text
 
 -- such a line, and such a text after it
 abbrev pub SaysThen : (List ℕ → Type 0) → (List ℕ → Type 0) → List ℕ → Type 0

@@ -9,25 +9,25 @@ use Rattle.table_maker.specs.MadeConflicts.{AreMadeConflicts}
 use Rattle.table_maker.specs.declared.make_error.MakeError.{MakeError}
 use Rattle.table_maker.specs.declared.make_error.MakeError.TheVariants.{BadParameter, TooLarge, NoMemory}
 use Rattle.declared_text.specs.Canonical.{canonical_text as declared_text}
-use Rattle.table_checker.specs.declared.declared_type.Declaration.{Declaration}
-use Rattle.table_checker.specs.declared.declared_type.Declaration.TheVariants.{Table, Number}
+use Rattle.declared_types.specs.declared.declared_type.Declaration.{Declaration}
+use Rattle.declared_types.specs.declared.declared_type.Declaration.TheVariants.{Table, Number}
 use Rattle.type_text.specs.Canonical.{canonical_text}
-use Rattle.type_text.specs.declared.type_file.TypeFile.{TypeFile}
+use Rattle.declared_types.specs.declared.type_file.TypeFile.{TypeFile}
 use Rattle.type_commands.specs.Request.{Fits, Formula, IsGood, Wanted, formula_of, table, value}
 
 -- ---- `make`
 
 -- a file that is a family's, or this number
-abbrev pub Follows : Formula → Declaration → Type 0
-Follows (table f) (Table file) = IsFileOfFamily f file
-Follows (value v) (Number number) = number ≡ v
-Follows _ _ = ⊥
+abbrev pub DeclaresFormula : Formula → Declaration → Type 0
+DeclaresFormula (table f) (Table file) = IsFileOfFamily f file
+DeclaresFormula (value v) (Number number) = number ≡ v
+DeclaresFormula _ _ = ⊥
 
 -- the parameters are good, the family isn't too large at them, and this is made by its formula
 pub record IsMadeFor (wanted : Wanted) (made : Declaration) : Type 0 where
   pub good : IsGood wanted
   pub fits : Fits wanted
-  pub follows : Follows (formula_of wanted) made
+  pub follows : DeclaresFormula (formula_of wanted) made
 
 -- what is made, or why there is nothing
 abbrev pub MakesWanted : Wanted → Result Declaration MakeError → Type 0

@@ -2,17 +2,16 @@
 use Rattle.std.specs.Borrow.{Bor}
 use Rattle.std.specs.Prelude.{map, ◌≡◌, ◌≢◌, ℕ, ◌^◌, List, [], ◌∷◌, nat_lt, Option, Some, None, Result, Ok, Err, option_map, option_and_then, codes, length, ◌==◌, if◌then◌else◌}
 use Rattle.std.specs.Str.{bytes_eq}
-use Rattle.line_text.specs.Text.{number_of}
-use Rattle.line_text.specs.LongNumbers.{long_number_of}
-use Rattle.number_text.specs.NumberFile.{Number}
+use Rattle.decimals.specs.Decimals.{number_of, long_number_of}
+use Rattle.number_types.specs.Number.{Number}
 use Rattle.type_table.specs.Name.{is_name}
-use Rattle.table_maker.specs.Account.{account as account_family, AccountFits}
-use Rattle.table_maker.specs.Amounts.{AreAmounts}
-use Rattle.table_maker.specs.Counter.{counter as counter_family, CounterFits}
-use Rattle.table_maker.specs.Elements.{AreElements}
+use Rattle.table_families.specs.Account.{account as account_family, AccountFits}
+use Rattle.table_families.specs.Amounts.{AreAmounts}
+use Rattle.table_families.specs.Counter.{counter as counter_family, CounterFits}
+use Rattle.table_families.specs.Elements.{AreElements}
 use Rattle.table_maker.specs.Made.{Family}
-use Rattle.table_maker.specs.Semiqueue.{semiqueue as semiqueue_family, AreSemiqueueParameters, SemiqueueFits}
-use Rattle.table_maker.specs.Set.{set as set_family, SetFits}
+use Rattle.table_families.specs.Semiqueue.{semiqueue as semiqueue_family, AreSemiqueueParameters, SemiqueueFits}
+use Rattle.table_families.specs.Set.{set as set_family, SetFits}
 use Rattle.table_families.specs.Number.{amounts_number, AreNumberAmounts, NumberFits}
 use Rattle.table_families.specs.Queue.{queue as queue_family, QueueFits}
 use Rattle.table_families.specs.Seats.{seats as seats_family, AreSeats, SeatsFit}
@@ -63,8 +62,8 @@ abbrev pub long_parameter_of : Text → Option ℕ
 long_parameter_of word = option_and_then (λ n. if nat_lt n (2 ^ 32) then Some n else None) (long_number_of word)
 
 -- the name that a word is
-abbrev pub name_of : Text → Option Text
-name_of word = if is_name word then Some word else None
+abbrev pub name_of_text : Text → Option Text
+name_of_text word = if is_name word then Some word else None
 
 module _ {T : Type 0} where
   -- what each of the words says, where all of them say something
@@ -78,11 +77,11 @@ of_amounts family size items = option_and_then (λ cap. option_map (family cap) 
 
 -- a size and elements
 abbrev pub of_elements : (List Text → ℕ → Wanted) → Text → List Text → Option Wanted
-of_elements family size items = option_and_then (λ capacity. option_map (λ elements. family elements capacity) (each_of name_of items)) (parameter_of size)
+of_elements family size items = option_and_then (λ capacity. option_map (λ elements. family elements capacity) (each_of name_of_text items)) (parameter_of size)
 
 -- elements alone, where the size is 0
 abbrev pub of_set : Text → List Text → Option Wanted
-of_set size items = if bytes_eq size (codes "0") then option_map set (each_of name_of items) else None
+of_set size items = if bytes_eq size (codes "0") then option_map set (each_of name_of_text items) else None
 
 -- a size alone
 abbrev pub of_seats : Text → List Text → Option Wanted
@@ -106,11 +105,11 @@ wanted_of family size items =
     else None
 
 -- the result is what the words say, or `BadParameter` where they say nothing; memory is refused only where they say something
-abbrev pub Gives : {T V : Type 0} → Option T → (V → T) → Result V MakeError → Type 0
-Gives said shown (Ok value) = said ≡ Some (shown value)
-Gives said shown (Err BadParameter) = said ≡ None
-Gives said shown (Err TooLarge) = ⊥
-Gives said shown (Err NoMemory) = said ≢ None
+abbrev pub GivesSaid : {T V : Type 0} → Option T → (V → T) → Result V MakeError → Type 0
+GivesSaid said shown (Ok value) = said ≡ Some (shown value)
+GivesSaid said shown (Err BadParameter) = said ≡ None
+GivesSaid said shown (Err TooLarge) = ⊥
+GivesSaid said shown (Err NoMemory) = said ≢ None
 
 -- ---- families
 

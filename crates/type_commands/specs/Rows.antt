@@ -3,16 +3,16 @@ use Rattle.std.specs.Prelude.{ℕ, ◌+◌, ◌-◌, ◌/◌, ◌%◌, List, [],
 use Rattle.std.specs.Fmt.{decimal}
 use Rattle.std.specs.List.{flat_map}
 use Rattle.escrow_laws.specs.declared.bounded.Bounded.{Bounded}
-use Rattle.explaining.specs.Numeric.{bounds_line}
-use Rattle.explaining.specs.Text.{listed_words}
-use Rattle.number_text.specs.NumberFile.{Number}
-use Rattle.number_text.specs.Operations.{giving, number_rows, number_table, reading, taking}
-use Rattle.number_text.specs.declared.number_call.NumberCall.{NumberCall}
-use Rattle.number_text.specs.declared.number_call.NumberCall.TheVariants.{GiveAny, TakeAny, Value}
-use Rattle.number_text.specs.declared.number_op.NumberOp.{NumberOp}
-use Rattle.number_text.specs.declared.number_op.NumberOp.TheVariants as ops
-use Rattle.table_checker.specs.declared.declared_type.Declaration.{Declaration}
-use Rattle.table_checker.specs.declared.declared_type.Declaration.TheVariants.{Table, Number as Numbers}
+use Rattle.need_text.specs.Numeric.{bounds_line}
+use Rattle.need_text.specs.Text.{listed_words}
+use Rattle.number_types.specs.Number.{Number}
+use Rattle.number_types.specs.Operations.{giving, number_rows, number_table, reading, taking}
+use Rattle.number_types.specs.declared.number_call.NumberCall.{NumberCall}
+use Rattle.number_types.specs.declared.number_call.NumberCall.TheVariants.{GiveAny, TakeAny, Value}
+use Rattle.number_types.specs.declared.number_op.NumberOp.{NumberOp}
+use Rattle.number_types.specs.declared.number_op.NumberOp.TheVariants as ops
+use Rattle.declared_types.specs.declared.declared_type.Declaration.{Declaration}
+use Rattle.declared_types.specs.declared.declared_type.Declaration.TheVariants.{Table, Number as Numbers}
 use Rattle.type_table.specs.declared.op.Op.{Op}
 use Rattle.type_commands.specs.declared.rows.AnyOp.{AnyOp}
 use Rattle.type_commands.specs.declared.rows.AnyOp.TheVariants as any
@@ -89,13 +89,13 @@ any_bounds max any.Full = record { low = after_left max; high = same max; move =
 any_bounds max any.Value = record { low = amount; high = amount; move = still }
 
 -- the bounds for an amount
-abbrev pub moving : Move → ℕ → ℕ → ℕ → Bounded
-moving up low high n = giving low high n
-moving down low high n = taking low high n
-moving still low high n = reading low high
+abbrev pub moving_bounds : Move → ℕ → ℕ → ℕ → Bounded
+moving_bounds up low high n = giving low high n
+moving_bounds down low high n = taking low high n
+moving_bounds still low high n = reading low high
 
 abbrev pub bounds_for : ℕ → AnyBounds → Bounded
-bounds_for n b = moving b.move (term_for n b.low) (term_for n b.high) n
+bounds_for n b = moving_bounds b.move (term_for n b.low) (term_for n b.high) n
 
 -- ---- lines
 
@@ -112,15 +112,15 @@ abbrev pub any_op_at : Number → ℕ → Option AnyOp
 any_op_at v k = option_and_then (λ call. slice_get (any_ops call) (k % 2)) (slice_get v.calls (k / 2))
 
 -- a row of another call is an operation
-abbrev pub number_line : Number → ℕ → Option AnyOp → List ℕ
-number_line v k None = bounds_line (number_table v) k
-number_line v k (Some op) = any_line (number_rows v) k (any_bounds v.max op)
+abbrev pub number_row_line : Number → ℕ → Option AnyOp → List ℕ
+number_row_line v k None = bounds_line (number_table v) k
+number_row_line v k (Some op) = any_line (number_rows v) k (any_bounds v.max op)
 
 -- the line of a row: each row of a table is an operation
-abbrev pub row_line : Declaration → ℕ → List ℕ
-row_line (Table file) k = bounds_line file.table k
-row_line (Numbers v) k = number_line v k (any_op_at v k)
+abbrev pub type_row_line : Declaration → ℕ → List ℕ
+type_row_line (Table file) k = bounds_line file.table k
+type_row_line (Numbers v) k = number_row_line v k (any_op_at v k)
 
 -- of these rows
 abbrev pub rows_text : Declaration → List ℕ → List ℕ
-rows_text declaration ks = flat_map (row_line declaration) ks
+rows_text declaration ks = flat_map (type_row_line declaration) ks

@@ -1,6 +1,6 @@
 -- What `check KIND FILE` answers.
 use Rattle.std.specs.Prelude.{◌≡◌, ◌⊎◌, ◌↔◌, ℕ, Bool, true, false, List, [], ◌∷◌, ◌++◌, Option, Result, MatchResult, codes}
-use Rattle.command_files.specs.Answers.{Answers, Refuses}
+use Rattle.command_files.specs.Answers.{Answers, IsEarlyFault}
 use Rattle.command_files.specs.Files.{IsDeclaredAt, IsFaultyDeclaration}
 use Rattle.command_files.specs.Refusals.{no_line}
 use Rattle.command_files.specs.declared.fault.Fault.{Fault}
@@ -8,13 +8,13 @@ use Rattle.command_files.specs.declared.fault.Fault.TheVariants as faults
 use Rattle.command_files.specs.declared.status.Verdict.TheVariants.{Yes, No}
 use Rattle.declared_text.specs.Declared.{Declares}
 use Rattle.table_checker.specs.Checked.{IsStrong}
-use Rattle.table_checker.specs.Declarations.{IsDeclaredFor, file_of}
+use Rattle.declared_types.specs.Declarations.{IsDeclaredFor, file_of}
 use Rattle.table_checker.specs.Laws.{CoversType}
 use Rattle.table_checker.specs.Refusal.{IsFirstReason}
-use Rattle.table_checker.specs.declared.declared_type.Declaration.{Declaration}
+use Rattle.declared_types.specs.declared.declared_type.Declaration.{Declaration}
 use Rattle.table_checker.specs.declared.refusal.CheckRefusal.{CheckRefusal}
 use Rattle.type_table.specs.declared.kind.Kind.{Kind}
-use Rattle.type_text.specs.declared.type_file.TypeFile.{TypeFile}
+use Rattle.declared_types.specs.declared.type_file.TypeFile.{TypeFile}
 
 -- the line of a yes, which is strong or not
 abbrev pub yes_line : Bool → List ℕ
@@ -58,7 +58,7 @@ CannotBeChecked kind text = IsFaultyDeclaration text ⊎ NeedsEscrow kind text
 -- the fault says of this path that a number needs escrow, or nothing of its text
 abbrev pub TellsEscrow : List ℕ → Fault → Type 0
 TellsEscrow path (faults.NeedsEscrow named) = named.now ≡ path
-TellsEscrow path fault = Refuses ⊥ fault
+TellsEscrow path fault = IsEarlyFault ⊥ fault
 
 -- there is no answer, and such a fault
 abbrev pub IsToldEscrow : {A : Type 0} → List ℕ → Result A Fault → Type 0

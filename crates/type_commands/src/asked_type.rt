@@ -1,21 +1,19 @@
 //! The type that a command asks about: read from a text that declares it, and put to the checker.
 
 ghost use Rattle.std.specs.Prelude.{◌≡◌, ◌↔◌, true, IfErr, IfOk, IfSome, OnOk};
-ghost use Rattle.command_files.specs.Answers.{Refuses};
+ghost use Rattle.command_files.specs.Answers.{IsEarlyFault};
 ghost use Rattle.command_files.specs.Files.{IsDeclaredAt};
 ghost use Rattle.table_checker.specs.Answer.{IsAnswer};
-ghost use Rattle.table_checker.specs.Declarations.{IsDeclaredFor, file_of};
+ghost use Rattle.declared_types.specs.Declarations.{IsDeclaredFor, file_of};
 ghost use Rattle.table_checker.specs.Laws.{CoversType};
 ghost use Rattle.type_commands.specs.Verdict.{CannotBeChecked, IsToldEscrow, NeedsEscrow};
 
 use command_files::{DeclaredFormat, Fault, Source, read_file};
+use declared_types::{Declaration, DeclaredType, TypeFile};
 use std::alloc::{AllocError, Global};
 use std::thread::Threads;
-use table_checker::{
-    CheckRefusal, CheckedType, Declaration, DeclaredType, check_number, check_parallel,
-};
+use table_checker::{CheckRefusal, CheckedType, check_number, check_parallel};
 use type_table::Kind;
-use type_text::TypeFile;
 
 /// What the text at a path declares, where it may be asked about for this kind.
 ///
@@ -31,7 +29,7 @@ pub fn read_for<'a, S: Source>(
 ) -> Result<DeclaredType, Fault<'a>>
     ensures reads { IfOk result (λ declared. IsDeclaredAt (S.holds source.old path.now) declared) }
     ensures fits { IfOk result (IsDeclaredFor kind) }
-    ensures refused { IfErr result (Refuses (IfSome (S.holds source.old path.now) (CannotBeChecked kind))) }
+    ensures refused { IfErr result (IsEarlyFault (IfSome (S.holds source.old path.now) (CannotBeChecked kind))) }
     ensures told { IfSome (S.holds source.old path.now) (λ text. NeedsEscrow kind text → IsToldEscrow path.now result) }
 {
     let declared = read_file(alloc, &DeclaredFormat, path, source)?;

@@ -2,15 +2,15 @@
 
 ghost use Rattle.std.specs.Prelude.{◌≡◌, None, IfSome};
 ghost use Rattle.command_files.specs.Answers.{Comes};
-ghost use Rattle.table_checker.specs.Declarations.{IsDeclaredFor, file_of};
+ghost use Rattle.declared_types.specs.Declarations.{IsDeclaredFor, file_of};
 ghost use Rattle.type_commands.specs.Verdict.{CannotBeChecked, ChecksFile, IsToldEscrow, NeedsEscrow, SaysOf, yes_line};
 
 use crate::asked_type::{check_declared, copied, read_for};
 use command_files::{Fault, Source, Verdict, no_line, put_answer};
+use declared_types::DeclaredType;
+use outputs::Out;
 use std::thread::Threads;
-use table_checker::DeclaredType;
 use type_table::Kind;
-use type_text::Out;
 
 /// `check KIND FILE`: yes with its line, strong or not, or no with the line of the first reason. A number is
 /// asked about for escrow alone, and the answer is a strong yes.

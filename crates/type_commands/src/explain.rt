@@ -6,28 +6,30 @@ ghost use Rattle.command_files.specs.Answers.{Comes};
 ghost use Rattle.command_files.specs.Refusals.{no_line};
 ghost use Rattle.command_files.specs.declared.status.Verdict.TheVariants as verdicts;
 ghost use Rattle.escrow_laws.specs.Faults.{IsFirstNumericFault};
-ghost use Rattle.explaining.specs.Explainers.{IsExplainer};
-ghost use Rattle.explaining.specs.Text.{word_of};
-ghost use Rattle.table_checker.specs.Declarations.{IsDeclaredFor, file_of, rows_of, table_of};
+ghost use Rattle.pair_needs.specs.Explainers.{IsExplainer};
+ghost use Rattle.need_text.specs.Text.{word_of};
+ghost use Rattle.declared_types.specs.Declarations.{IsDeclaredFor, file_of, rows_of, table_of};
 ghost use Rattle.table_checker.specs.Laws.{CoversType};
 ghost use Rattle.table_checker.specs.Refusal.{IsFirstOfNumeric, IsFirstReason};
-ghost use Rattle.table_checker.specs.declared.declared_type.Declaration.{Declaration as DeclarationValue};
+ghost use Rattle.declared_types.specs.declared.declared_type.Declaration.{Declaration as DeclarationValue};
 ghost use Rattle.type_table.specs.Limits.{most_ops};
 ghost use Rattle.type_table.specs.declared.kind.Kind.TheVariants as kinds;
-ghost use Rattle.type_commands.specs.Explain.{Adds, AreOps, CannotBeExplained, Explains, ExplainsBy, ExplainsFault, ExplainsFile, ExplainsFor, ExplainsNumber, ExplainsPairs, IsYesLine, SaysThen, asked_as, asked_of, is_asked, pair_as, row_of, rows_asked, worded, words_as};
+ghost use Rattle.type_commands.specs.Explain.{AddsText, AreOps, CannotBeExplained, Explains, ExplainsBy, ExplainsFault, ExplainsFile, ExplainsFor, ExplainsNumber, ExplainsPairs, IsYesLine, SaysThen, asked_as, asked_rows, is_asked, pair_as, row_named, rows_asked, worded, words_as};
 ghost use Rattle.type_commands.specs.Verdict.{IsToldEscrow, NeedsEscrow};
 
 use crate::asked_type::{check_declared, copied, read_for};
 use crate::check::yes_line;
 use crate::rows::write_row_lines;
 use command_files::{Fault, Source, Verdict, no_line, put_answer};
-use explaining::{Explainer, why_not, write_pair, write_rows, write_why_not};
-use line_text::number_of;
+use decimals::number_of;
+use declared_types::{DeclaredType, TypeFile};
+use need_text::{write_pair, write_rows, write_why_not};
+use outputs::{Out, OutFault, Sink, put};
+use pair_needs::{Explainer, why_not};
 use std::alloc::{AllocError, Global};
 use std::thread::Threads;
-use table_checker::{CheckRefusal, CheckedType, DeclaredType};
+use table_checker::{CheckRefusal, CheckedType};
 use type_table::{Kind, Op, TableKind, TypeTable};
-use type_text::{Out, OutFault, Sink, TypeFile, put};
 
 /// A requested operation and a held one, by their places among those that the type lists.
 #[derive(Clone, Copy)]
@@ -83,7 +85,7 @@ pub fn explain_file<'a, R: AllocGlobal + Threads + Sync, S: Source, W: Out>(
 
 /// The pair that two words ask for, or all where there are none; None where they name no operations.
 fn asked_of(declared: &DeclaredType, words: Option<(&str, &str)>) -> Option<Option<Asked>>
-    ensures exact { asked_of (rows_of declared.now) (words_as words.entry) ≡ asked_as result }
+    ensures exact { asked_rows (rows_of declared.now) (words_as words.entry) ≡ asked_as result }
     ensures inside { IfSome result (λ asked. IfSome asked (AreOps (table_of declared.now))) }
 {
     match words {
@@ -98,7 +100,7 @@ fn asked_of(declared: &DeclaredType, words: Option<(&str, &str)>) -> Option<Opti
 
 /// The row that a word names.
 fn row_of(declared: &DeclaredType, word: &str) -> Option<u8>
-    ensures exact { result ≡ row_of (rows_of declared.now) word.now }
+    ensures exact { result ≡ row_named (rows_of declared.now) word.now }
     ensures inside { IfSome result (λ k. k < length (table_of declared.now).ops) }
 {
     let rows = declared.rows();
@@ -246,7 +248,7 @@ fn put_yes<W: Out>(
     requires no_fault { W.fault out.old ≡ None }
     requires asked { IfSome asked (AreOps checked.now.file.table) }
     requires same { checked.now.file ≡ file_of declared.now }
-    ensures { OnOk result (Adds (W.taken out.old) (W.taken out.new)
+    ensures { OnOk result (AddsText (W.taken out.old) (W.taken out.new)
         (SaysThen (IsYesLine checked.now) (ExplainsBy checked.now.kind declared.now (pair_as asked) verdicts.Yes))) }
 {
     put(out, yes_line(checked.is_strong()).as_bytes())?;
@@ -264,7 +266,7 @@ fn put_after_yes<W: Out>(
     requires no_fault { W.fault out.old ≡ None }
     requires asked { IfSome asked (AreOps checked.now.file.table) }
     requires same { checked.now.file ≡ file_of declared.now }
-    ensures { OnOk result (Adds (W.taken out.old) (W.taken out.new) (ExplainsBy checked.now.kind declared.now (pair_as asked) verdicts.Yes)) }
+    ensures { OnOk result (AddsText (W.taken out.old) (W.taken out.new) (ExplainsBy checked.now.kind declared.now (pair_as asked) verdicts.Yes)) }
 {
     match checked.kind().table_kind() {
         Some(kind) => put_pairs(alloc, kind, checked.file(), asked, out),
@@ -301,7 +303,7 @@ fn put_no<W: Out>(
     requires no_fault { W.fault out.old ≡ None }
     requires asked { IfSome asked (AreOps file.now.table) }
     requires first { IsFirstReason kind file.now refusal }
-    ensures { OnOk result (Adds (W.taken out.old) (W.taken out.new)
+    ensures { OnOk result (AddsText (W.taken out.old) (W.taken out.new)
         (SaysThen (λ line. line ≡ no_line refusal) (ExplainsFor kind file.now (pair_as asked) (ExplainsFault file.now.table)))) }
 {
     let line = no_line(alloc, refusal)?;
@@ -321,7 +323,7 @@ fn put_after_no<W: Out>(
     requires no_fault { W.fault out.old ≡ None }
     requires asked { IfSome asked (AreOps file.now.table) }
     requires first { IsFirstReason kind file.now refusal }
-    ensures { OnOk result (Adds (W.taken out.old) (W.taken out.new) (ExplainsFor kind file.now (pair_as asked) (ExplainsFault file.now.table))) }
+    ensures { OnOk result (AddsText (W.taken out.old) (W.taken out.new) (ExplainsFor kind file.now (pair_as asked) (ExplainsFault file.now.table))) }
 {
     match kind.table_kind() {
         Some(kind) => put_pairs(alloc, kind, file, asked, out),
@@ -339,7 +341,7 @@ fn put_pairs<W: Out>(
 ) -> Result<(), NoText>
     requires no_fault { W.fault out.old ≡ None }
     requires asked { IfSome asked (AreOps file.now.table) }
-    ensures { OnOk result (Adds (W.taken out.old) (W.taken out.new) (ExplainsPairs kind file.now (pair_as asked))) }
+    ensures { OnOk result (AddsText (W.taken out.old) (W.taken out.new) (ExplainsPairs kind file.now (pair_as asked))) }
 {
     let explainer = Explainer::new(alloc, file)?;
     match asked {
@@ -358,7 +360,7 @@ fn put_rows<W: Out>(
 ) -> Result<(), NoText>
     requires no_fault { W.fault out.old ≡ None }
     requires known { IsExplainer file.now explainer.now }
-    ensures { OnOk result (Adds (W.taken out.old) (W.taken out.new) (ExplainsPairs kind file.now None)) }
+    ensures { OnOk result (AddsText (W.taken out.old) (W.taken out.new) (ExplainsPairs kind file.now None)) }
 {
     let led = explainer.led();
     let rows = explainer.rows(alloc, kind, file)?;
@@ -378,7 +380,7 @@ fn put_pair<W: Out>(
     requires no_fault { W.fault out.old ≡ None }
     requires known { IsExplainer file.now explainer.now }
     requires asked { AreOps file.now.table asked }
-    ensures { OnOk result (Adds (W.taken out.old) (W.taken out.new) (ExplainsPairs kind file.now (Some (asked.p, asked.q)))) }
+    ensures { OnOk result (AddsText (W.taken out.old) (W.taken out.new) (ExplainsPairs kind file.now (Some (asked.p, asked.q)))) }
 {
     let led = explainer.led();
     let pair = explainer.pair(alloc, kind, file, asked.p, asked.q)?;
@@ -397,7 +399,7 @@ fn put_bounds<W: Out>(
     requires no_fault { W.fault out.old ≡ None }
     requires numeric { checked.now.kind ≡ kinds.Escrow }
     requires same { checked.now.file ≡ file_of declared.now }
-    ensures { OnOk result (Adds (W.taken out.old) (W.taken out.new) (ExplainsNumber declared.now (pair_as asked) verdicts.Yes)) }
+    ensures { OnOk result (AddsText (W.taken out.old) (W.taken out.new) (ExplainsNumber declared.now (pair_as asked) verdicts.Yes)) }
 {
     let rows = rows_asked(alloc, declared, asked)?;
     write_row_lines(declared, checked, &rows, out)?;
@@ -437,7 +439,7 @@ fn is_asked(asked: Option<Asked>, k: u8) -> bool
 fn put_why_not<W: Out>(table: &TypeTable, refusal: CheckRefusal, out: &mut W) -> Result<(), NoText>
     requires no_fault { W.fault out.old ≡ None }
     requires first { IsFirstOfNumeric table.now refusal }
-    ensures { OnOk result (Adds (W.taken out.old) (W.taken out.new) (ExplainsFault table.now)) }
+    ensures { OnOk result (AddsText (W.taken out.old) (W.taken out.new) (ExplainsFault table.now)) }
 {
     match refusal {
         CheckRefusal::NotNumeric { k, s } => put_fault(table, k, s, out),
@@ -450,7 +452,7 @@ fn put_why_not<W: Out>(table: &TypeTable, refusal: CheckRefusal, out: &mut W) ->
 fn put_fault<W: Out>(table: &TypeTable, k: u8, s: u16, out: &mut W) -> Result<(), NoText>
     requires no_fault { W.fault out.old ≡ None }
     requires first { IsFirstNumericFault table.now k s }
-    ensures { OnOk result (Adds (W.taken out.old) (W.taken out.new) (ExplainsFault table.now)) }
+    ensures { OnOk result (AddsText (W.taken out.old) (W.taken out.new) (ExplainsFault table.now)) }
 {
     let why = why_not(table, k, s);
     write_why_not(table, k, s, why, out)?;

@@ -1,11 +1,11 @@
 //! Laws of the definitions: each is a function that does nothing, whose contract is the law.
 
 ghost use Rattle.std.specs.Prelude.{◌≡◌, ℕ, map};
-ghost use Rattle.number_text.specs.Operations.{op_bounds, ops_of_call};
+ghost use Rattle.number_types.specs.Operations.{op_bounds, ops_of_call};
 ghost use Rattle.type_commands.specs.Rows.{any_bounds, any_ops, bounds_for, op_for};
 ghost use Rattle.type_commands.specs.declared.rows.AnyOp.{AnyOp as AnyOpValue};
 
-use number_text::NumberCall;
+use number_types::NumberCall;
 
 /// For each amount n the operations of a call that takes any are those with this amount, and so of the value; and
 /// with n for N their bounds are those of these operations.

@@ -8,10 +8,10 @@ ghost use Rattle.type_commands.specs.Request.{texts, wanted_of};
 use crate::request::{make, request_of};
 use crate::write::answer_declared;
 use command_files::{Fault, Verdict};
+use declared_types::DeclaredType;
+use outputs::Out;
 use std::alloc::Global;
-use table_checker::DeclaredType;
 use table_maker::MakeError;
-use type_text::Out;
 
 /// `make FAMILY SIZE ITEM...`: the type file of the family, or the number.
 ///

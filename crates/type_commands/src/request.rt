@@ -3,19 +3,21 @@
 ghost use Rattle.std.specs.Prelude.{◌≡◌, None, IfOk, IfErr, filter_map, is_some};
 ghost use Rattle.std.specs.List.{list_all};
 ghost use Rattle.type_commands.specs.Made.{MakesWanted};
-ghost use Rattle.type_commands.specs.Request.{Fits, Gives, IsGood, Wanted, each_of, formula_of, long_parameter_of, name_of, of_seats, of_set, parameter_of, table, texts, value, wanted_by, wanted_of};
+ghost use Rattle.type_commands.specs.Request.{Fits, GivesSaid, IsGood, Wanted, each_of, formula_of, long_parameter_of, name_of_text, of_seats, of_set, parameter_of, table, texts, value, wanted_by, wanted_of};
 ghost use Rattle.table_families.specs.Number.{MakesNumber};
 ghost use Rattle.table_maker.specs.Made.{Family, Makes};
-ghost use Rattle.number_text.specs.NumberFile.{Number};
+ghost use Rattle.number_types.specs.Number.{Number};
 
-use line_text::{long_number_of, number_of};
-use number_text::NumberFile;
+use decimals::{long_number_of, number_of};
+use declared_types::{DeclaredType, TypeFile};
+use number_types::NumberFile;
 use std::alloc::{AllocError, Global};
-use table_checker::DeclaredType;
-use table_families::{make_number, make_queue, make_seats, make_stock};
-use table_maker::{MakeError, make_account, make_counter, make_semiqueue, make_set};
+use table_families::{
+    make_account, make_counter, make_number, make_queue, make_seats, make_semiqueue, make_set,
+    make_stock,
+};
+use table_maker::MakeError;
 use type_table::Name;
-use type_text::TypeFile;
 
 /// A family of types and its parameters, which may be out of their ranges.
 #[derive(Drop)]
@@ -90,7 +92,7 @@ pub fn request_of(
     size: &str,
     items: &[&str],
 ) -> Result<Request, MakeError>
-    ensures { Gives (wanted_of family.now size.now (texts items.now)) wanted_by result }
+    ensures { GivesSaid (wanted_of family.now size.now (texts items.now)) wanted_by result }
 {
     match family {
         "account" => Ok(Request::Account {
@@ -125,7 +127,7 @@ pub fn request_of(
 
 /// What is asked for of a set, whose SIZE is `0`.
 fn set_of(alloc: Global, size: &str, items: &[&str]) -> Result<Request, MakeError>
-    ensures { Gives (of_set size.now (texts items.now)) wanted_by result }
+    ensures { GivesSaid (of_set size.now (texts items.now)) wanted_by result }
 {
     if size != "0" {
         return Err(MakeError::BadParameter);
@@ -137,7 +139,7 @@ fn set_of(alloc: Global, size: &str, items: &[&str]) -> Result<Request, MakeErro
 
 /// What is asked for of seats, which have no ITEM.
 fn seats_of(size: &str, items: &[&str]) -> Result<Request, MakeError>
-    ensures { Gives (of_seats size.now (texts items.now)) wanted_by result }
+    ensures { GivesSaid (of_seats size.now (texts items.now)) wanted_by result }
 {
     if !items.is_empty() {
         return Err(MakeError::BadParameter);
@@ -171,7 +173,7 @@ fn small_number(word: &str) -> Option<u16>
 
 /// The numbers that the words are. Memory is taken only where each of them is one.
 fn amounts_of(alloc: Global, words: &[&str]) -> Result<Vec<u16>, MakeError>
-    ensures { Gives (each_of parameter_of (texts words.now)) (λ amounts. amounts.items) result }
+    ensures { GivesSaid (each_of parameter_of (texts words.now)) (λ amounts. amounts.items) result }
 {
     if !are_parameters(words) {
         return Err(MakeError::BadParameter);
@@ -218,7 +220,7 @@ fn long_number(word: &str) -> Option<u32>
 
 /// The numbers of up to ten digits that the words are. Memory is taken only where each of them is one.
 fn long_amounts_of(alloc: Global, words: &[&str]) -> Result<Vec<u32>, MakeError>
-    ensures { Gives (each_of long_parameter_of (texts words.now)) (λ amounts. amounts.items) result }
+    ensures { GivesSaid (each_of long_parameter_of (texts words.now)) (λ amounts. amounts.items) result }
 {
     if !are_long_parameters(words) {
         return Err(MakeError::BadParameter);
@@ -243,7 +245,7 @@ fn long_parameters_among(alloc: Global, words: &[&str]) -> Result<Vec<u32>, Allo
 
 /// The names that the words are. Memory is taken only where each of them is one.
 fn elements_of(alloc: Global, words: &[&str]) -> Result<Vec<Name>, MakeError>
-    ensures { Gives (each_of name_of (texts words.now)) (λ elements. elements.items) result }
+    ensures { GivesSaid (each_of name_of_text (texts words.now)) (λ elements. elements.items) result }
 {
     if !are_names(words) {
         return Err(MakeError::BadParameter);
@@ -252,13 +254,13 @@ fn elements_of(alloc: Global, words: &[&str]) -> Result<Vec<Name>, MakeError>
 }
 
 fn are_names(words: &[&str]) -> bool
-    ensures { result ≡ list_all (λ word. is_some (name_of word.now)) words.now }
+    ensures { result ≡ list_all (λ word. is_some (name_of_text word.now)) words.now }
 {
     words.iter().all(|word| Name::new(word).is_some())
 }
 
 fn names_among(alloc: Global, words: &[&str]) -> Result<Vec<Name>, AllocError>
-    ensures { IfOk result (λ names. names.items ≡ filter_map (λ word. name_of word.now) words.now) }
+    ensures { IfOk result (λ names. names.items ≡ filter_map (λ word. name_of_text word.now) words.now) }
 {
     words
         .iter()

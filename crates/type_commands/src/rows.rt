@@ -1,20 +1,21 @@
 //! Escrow: the lines of a type's rows.
 
 ghost use Rattle.std.specs.Prelude.{◌≡◌, ◌++◌, ◌∷◌, [], ◌<◌, ℕ, All, None, codes, length, slice_get, true};
-ghost use Rattle.explaining.specs.Numeric.{bounds_line};
-ghost use Rattle.explaining.specs.Text.{word_of};
-ghost use Rattle.number_text.specs.Operations.{number_rows, number_table};
+ghost use Rattle.need_text.specs.Numeric.{bounds_line};
+ghost use Rattle.need_text.specs.Text.{word_of};
+ghost use Rattle.number_types.specs.Operations.{number_rows, number_table};
 ghost use Rattle.outputs.specs.Out.{Puts};
-ghost use Rattle.table_checker.specs.Declarations.{file_of, number_file, rows_of};
+ghost use Rattle.declared_types.specs.Declarations.{file_of, number_file, rows_of};
 ghost use Rattle.type_table.specs.Table.{has_op};
 ghost use Rattle.type_table.specs.declared.kind.Kind.TheVariants as kinds;
-ghost use Rattle.type_commands.specs.Rows.{any_bounds, any_op_at, any_ops, any_words, number_line, row_line, rows_text};
+ghost use Rattle.type_commands.specs.Rows.{any_bounds, any_op_at, any_ops, any_words, number_row_line, type_row_line, rows_text};
 
-use explaining::write_bounds;
+use declared_types::{Declaration, DeclaredType};
 use itoa::Buffer;
-use number_text::{NumberCall, NumberFile};
+use need_text::write_bounds;
+use number_types::{NumberCall, NumberFile};
 use outputs::{Out, OutFault, items_in_turn, put, put_all, texts_in_turn};
-use table_checker::{CheckedType, Declaration, DeclaredType};
+use table_checker::CheckedType;
 use type_table::{Op, Operation};
 
 /// An operation of a number of which there is one for each amount.
@@ -68,7 +69,7 @@ fn write_row_line<W: Out>(
     requires numeric { checked.now.kind ≡ kinds.Escrow }
     requires same { checked.now.file ≡ file_of declared.now }
     requires inside { k < length (rows_of declared.now) }
-    ensures { Puts (W.taken out.old) (W.taken out.new) (W.fault out.new) (row_line declared.now k) result }
+    ensures { Puts (W.taken out.old) (W.taken out.new) (W.fault out.new) (type_row_line declared.now k) result }
 {
     let row = declared.rows()[usize::from(k)];
     // (read for its clause on what is known of a name)
@@ -91,7 +92,7 @@ fn write_number_line<W: Out>(
     requires numeric { checked.now.kind ≡ kinds.Escrow }
     requires same { checked.now.file ≡ number_file number.now }
     requires row { slice_get (number_rows number.now) k ≡ Some row }
-    ensures { Puts (W.taken out.old) (W.taken out.new) (W.fault out.new) (number_line number.now k (any_op_at number.now k)) result }
+    ensures { Puts (W.taken out.old) (W.taken out.new) (W.fault out.new) (number_row_line number.now k (any_op_at number.now k)) result }
 {
     // (read for its clause on what is known of a number)
     let _calls = number.calls();

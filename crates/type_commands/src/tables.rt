@@ -7,10 +7,10 @@ ghost use Rattle.type_commands.specs.Made.{MakesTables, MakesTablesOf};
 
 use crate::write::answer_declared;
 use command_files::{Fault, Source, TypeFormat, Verdict, read_file};
+use declared_types::{DeclaredType, TypeFile};
+use outputs::Out;
 use std::alloc::Global;
-use table_checker::DeclaredType;
 use table_maker::make_tables;
-use type_text::{Out, TypeFile};
 
 /// `tables FILE`: the file with made tables.
 ///

@@ -6,15 +6,15 @@ ghost use Rattle.std.specs.Borrow.{Bor};
 ghost use Rattle.command_files.specs.declared.fault.Fault.{Fault as FaultValue};
 ghost use Rattle.command_files.specs.declared.status.Verdict.{Verdict as VerdictValue};
 ghost use Rattle.declared_text.specs.Examples.{credit_bytes};
-ghost use Rattle.explaining.specs.Numeric.{bounds_line};
+ghost use Rattle.need_text.specs.Numeric.{bounds_line};
 ghost use Rattle.line_text.specs.declared.fault.TextFault.{TextFault};
-ghost use Rattle.number_text.specs.Examples.{purse};
-ghost use Rattle.number_text.specs.NumberFile.{Number, IsNumber};
-ghost use Rattle.number_text.specs.Operations.{number_table};
-ghost use Rattle.table_checker.specs.Declarations.{number_file, rows_of};
-ghost use Rattle.table_checker.specs.declared.declared_type.Declaration.TheVariants.{Number as Numbers};
-ghost use Rattle.type_commands.specs.Explain.{asked_of};
-ghost use Rattle.type_commands.specs.Rows.{row_line, rows_text};
+ghost use Rattle.number_types.specs.Examples.{purse};
+ghost use Rattle.number_types.specs.Number.{Number, IsNumber};
+ghost use Rattle.number_types.specs.Operations.{number_table};
+ghost use Rattle.declared_types.specs.Declarations.{number_file, rows_of};
+ghost use Rattle.declared_types.specs.declared.declared_type.Declaration.TheVariants.{Number as Numbers};
+ghost use Rattle.type_commands.specs.Explain.{asked_rows};
+ghost use Rattle.type_commands.specs.Rows.{type_row_line, rows_text};
 ghost use Rattle.type_commands.specs.Verdict.{CannotBeChecked, ChecksFile, IsToldEscrow, SaysOf};
 
 use command_files::{Fault, Verdict};
@@ -52,15 +52,15 @@ pub fn a_number_is_told()
 
 /// The rows of the purse, of which 3 may be taken by a line of its own, and any other amount.
 pub fn rows_of_the_purse()
-    ensures listed { row_line (Numbers purse) 1 ≡ bounds_line (number_table purse) 1 }
+    ensures listed { type_row_line (Numbers purse) 1 ≡ bounds_line (number_table purse) 1 }
     ensures any { rows_text (Numbers purse) (2 ∷ 3 ∷ 4 ∷ 5 ∷ 6 ∷ []) ≡
         codes "bounds take:any/ok N 9 -N\n"
         ++ codes "bounds take:any/short 0 N-1 0\n"
         ++ codes "bounds give:any/ok 0 9-N +N\n"
         ++ codes "bounds give:any/full 9-N+1 9 0\n"
         ++ codes "bounds value/n N N 0\n" }
-    ensures named { asked_of (rows_of (Numbers purse)) (Some (codes "take:any/short", codes "value/n")) ≡ Some (Some (3, 6)) }
-    ensures numbered { asked_of (rows_of (Numbers purse)) (Some (codes "1", codes "5")) ≡ Some (Some (1, 5)) }
-    ensures past { asked_of (rows_of (Numbers purse)) (Some (codes "0", codes "7")) ≡ None }
-    ensures no_row { asked_of (rows_of (Numbers purse)) (Some (codes "take:4/ok", codes "0")) ≡ None }
+    ensures named { asked_rows (rows_of (Numbers purse)) (Some (codes "take:any/short", codes "value/n")) ≡ Some (Some (3, 6)) }
+    ensures numbered { asked_rows (rows_of (Numbers purse)) (Some (codes "1", codes "5")) ≡ Some (Some (1, 5)) }
+    ensures past { asked_rows (rows_of (Numbers purse)) (Some (codes "0", codes "7")) ≡ None }
+    ensures no_row { asked_rows (rows_of (Numbers purse)) (Some (codes "take:4/ok", codes "0")) ≡ None }
 {}

@@ -7,9 +7,9 @@ ghost use Rattle.declared_text.specs.Canonical.{canonical_text};
 
 use command_files::{Fault, Verdict, put_answer};
 use declared_text::write_declared;
+use declared_types::DeclaredType;
+use outputs::{Out, OutFault, Sink};
 use std::alloc::Global;
-use table_checker::DeclaredType;
-use type_text::{Out, OutFault, Sink};
 
 /// Answers with the canonical text of what declares a type. It is put together in memory first, so that a
 /// growth that is refused leaves nothing written.

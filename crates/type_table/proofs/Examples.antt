@@ -5,7 +5,7 @@ use Rattle.type_table.specs.Table.{Table, next}
 use Rattle.type_table.specs.Run.{run, Looks}
 use Rattle.type_table.specs.ConflictTable.{conflicts}
 use Rattle.type_table.specs.Commute.{CommuteForward}
-use Rattle.type_table.specs.Examples.{counter, three_states, forward_pairs, one_way, five_states}
+use Rattle.type_table.specs.Examples.{counter_table, three_states, forward_pairs, one_way, five_states}
 use Rattle.type_table.proofs.Legal.{run_from_none}
 
 -- a legal operation is one of the table's
@@ -28,28 +28,28 @@ at_five P zeroth first second third fourth s inside =
 
 -- ---- the counter
 
-up_down : CommuteForward counter three_states 0 1
+up_down : CommuteForward counter_table three_states 0 1
 unfolding next
 up_down = at_three _
     (λ _ legal. absurd (false≢true legal))
     (λ _ _. (refl, refl, (λ _ legal. legal, λ _ legal. legal)))
     (λ legal _. absurd (false≢true legal))
 
-down_up : CommuteForward counter three_states 1 0
+down_up : CommuteForward counter_table three_states 1 0
 unfolding next
 down_up = at_three _
     (λ legal _. absurd (false≢true legal))
     (λ _ _. (refl, refl, (λ _ legal. legal, λ _ legal. legal)))
     (λ _ legal. absurd (false≢true legal))
 
-pub counter-forward : (p q : ℕ) → conflicts forward_pairs p q ≡ false → CommuteForward counter three_states p q
+pub counter-forward : (p q : ℕ) → conflicts forward_pairs p q ≡ false → CommuteForward counter_table three_states p q
 counter-forward zero zero apart = absurd (true≢false apart)
 counter-forward zero (suc zero) apart = up_down
-counter-forward zero (suc (suc q)) apart = λ s _ _ legal. absurd (omega (arith, legal_inside counter s (suc (suc q)) legal))
+counter-forward zero (suc (suc q)) apart = λ s _ _ legal. absurd (omega (arith, legal_inside counter_table s (suc (suc q)) legal))
 counter-forward (suc zero) zero apart = down_up
 counter-forward (suc zero) (suc zero) apart = absurd (true≢false apart)
-counter-forward (suc zero) (suc (suc q)) apart = λ s _ _ legal. absurd (omega (arith, legal_inside counter s (suc (suc q)) legal))
-counter-forward (suc (suc p)) q apart = λ s _ legal _. absurd (omega (arith, legal_inside counter s (suc (suc p)) legal))
+counter-forward (suc zero) (suc (suc q)) apart = λ s _ _ legal. absurd (omega (arith, legal_inside counter_table s (suc (suc q)) legal))
+counter-forward (suc (suc p)) q apart = λ s _ legal _. absurd (omega (arith, legal_inside counter_table s (suc (suc p)) legal))
 
 -- ---- the one-way type
 

@@ -8,8 +8,8 @@ abbrev pub ok_op : List ℕ → Op
 ok_op call = record { call = call; reply = codes "ok" }
 
 -- a counter of 0, 1 or 2, by which operation 0 counts up and operation 1 down
-abbrev pub counter : Table
-counter = record {
+abbrev pub counter_table : Table
+counter_table = record {
   name = codes "counter";
   states = 3;
   initial = 0;

@@ -17,12 +17,12 @@ pub struct ConflictTable {
 
 impl Model for ConflictTable {
     ghost use Rattle.std.specs.Prelude.{◌≤◌, Bool, List};
-    ghost use Rattle.type_table.specs.ConflictTable.{rows_of};
+    ghost use Rattle.type_table.specs.ConflictTable.{conflict_rows};
     ghost use Rattle.type_table.specs.Limits.{most_ops};
 
     ghost Value = { List (List Bool) };
 
-    ghost view = { λ a. rows_of a.ops a.words };
+    ghost view = { λ a. conflict_rows a.ops a.words };
 
     ghost invariant = { λ a. a.ops ≤ most_ops };
 }

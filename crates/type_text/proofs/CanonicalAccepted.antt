@@ -3,7 +3,7 @@ use Rattle.std.proofs.Common.{◌≡◌, ℕ, ◌<◌, ◌≤◌, List, [], ◌�
 use Rattle.line_text.specs.Accepted.{IsAccepted}
 use Rattle.type_table.specs.Laws.{StepsWithin}
 use Rattle.type_table.specs.declared.table_kind.TableKind.TheVariants.{Undo, Intentions}
-use Rattle.type_text.specs.declared.type_file.TypeFile.{TypeFile}
+use Rattle.declared_types.specs.declared.type_file.TypeFile.{TypeFile}
 use Rattle.type_text.specs.declared.type_line.TypeLine.{TypeLine}
 use Rattle.type_text.specs.declared.type_line.TypeLine.TheVariants.{Operation, End}
 use Rattle.type_text.specs.declared.entries.Entries.{Entries}

@@ -10,14 +10,14 @@ use Rattle.type_table.specs.StateSet.{has}
 use Rattle.type_table.specs.ConflictTable.{conflicts}
 use Rattle.type_table.specs.declared.table_kind.TableKind.{TableKind}
 use Rattle.equi_cert.specs.Relation.{relates}
-use Rattle.type_text.specs.TypeFile.{conflicts_of}
-use Rattle.type_text.specs.declared.type_file.TypeFile.{TypeFile}
+use Rattle.declared_types.specs.TypeFile.{conflicts_of, is_whole}
+use Rattle.declared_types.specs.declared.type_file.TypeFile.{TypeFile}
 use Rattle.type_text.specs.declared.type_line.TypeLine.{TypeLine}
 use Rattle.type_text.specs.declared.type_line.TypeLine.TheVariants.{States, Initial, Step, Reach, Equi, Conflict}
 use Rattle.type_text.specs.declared.entries.Entries.{Entries}
 use Rattle.type_text.specs.declared.entries.Entries.TheVariants.{Steps, Members, Pairs, Conflicts}
 use Rattle.type_text.specs.TypeLines.{rank_of, conflict_rank, key_of, is_in_range, is_twin, op_in, states_of, op_count}
-use Rattle.type_text.specs.Canonical.{rows, columns, is_whole, line_at, IsNamed, IsTypeFile}
+use Rattle.type_text.specs.Canonical.{rows, columns, line_at, IsNamed, IsTypeFile}
 use Rattle.type_text.proofs.Twins.{never_twin}
 use Rattle.type_text.proofs.CanonicalFront.{AreCounted}
 

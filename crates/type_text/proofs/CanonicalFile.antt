@@ -9,18 +9,19 @@ use Rattle.std.proofs.lemmas.List.Sums.{AllPass-from_list_all}
 use Rattle.type_table.specs.Table.{next}
 use Rattle.type_table.specs.Laws.{StepsWithin}
 use Rattle.type_table.specs.StateSet.{has}
-use Rattle.type_table.specs.ConflictTable.{row, conflicts, IsSquare}
+use Rattle.type_table.specs.ConflictTable.{conflict_row, conflicts, IsSquare}
 use Rattle.type_table.specs.declared.table_kind.TableKind.{TableKind}
 use Rattle.type_table.specs.declared.table_kind.TableKind.TheVariants.{Undo, Intentions}
 use Rattle.equi_cert.specs.Relation.{relates}
-use Rattle.type_text.specs.declared.type_file.TypeFile.{TypeFile}
+use Rattle.declared_types.specs.declared.type_file.TypeFile.{TypeFile}
 use Rattle.type_text.specs.declared.type_line.TypeLine.{TypeLine}
 use Rattle.type_text.specs.declared.type_line.TypeLine.TheVariants.{Step, Reach, Equi, Conflict, End}
 use Rattle.type_text.specs.declared.entries.Entries.{Entries}
 use Rattle.type_text.specs.declared.entries.Entries.TheVariants.{Steps, Members, Pairs, Conflicts}
 use Rattle.type_text.specs.TypeLines.{rank_of, op_in, ops_of}
-use Rattle.type_text.specs.TypeFile.{IsTableOf, IsReached, IsFileOf, conflicts_of}
-use Rattle.type_text.specs.Canonical.{rows, is_whole, canonical_lines, IsTypeFile}
+use Rattle.type_text.specs.TypeFile.{IsTableOf, IsReached, IsFileOf}
+use Rattle.declared_types.specs.TypeFile.{conflicts_of, is_whole}
+use Rattle.type_text.specs.Canonical.{rows, canonical_lines, IsTypeFile}
 use Rattle.type_text.proofs.CanonicalEntries.{entry_rank, entry_at, picked, mapped}
 use Rattle.type_text.proofs.CanonicalMembers.{IsCell, cell_of_line, contains_cell, section_in_lines, body, each_in_body}
 use Rattle.type_text.proofs.CanonicalAccepted.{body_ops}
@@ -196,10 +197,10 @@ module _ (within : StepsWithin) (file : TypeFile) (known : IsTypeFile file) wher
   pair_within ops table p q square h = elim (cases_lt p ops) [
     | inl p_in ↦ elim (cases_lt q ops) [
       | inl q_in ↦ (p_in, q_in)
-      | inr past ↦ absurd (false≢true (sym (get_or_past (row table p) q false (omega (arith, square.width p p_in, past))) ∙ h))
+      | inr past ↦ absurd (false≢true (sym (get_or_past (conflict_row table p) q false (omega (arith, square.width p p_in, past))) ∙ h))
     ]
     | inr past ↦
-        let no_row : row table p ≡ [] = get_or_past table p [] (omega (arith, square.height, past)) in
+        let no_row : conflict_row table p ≡ [] = get_or_past table p [] (omega (arith, square.height, past)) in
         absurd (false≢true (sym (ap (λ cells. get_or cells q false) no_row) ∙ h))
   ]
 

@@ -6,7 +6,7 @@ use Rattle.std.proofs.lemmas.List.{length-append}
 use Rattle.std.proofs.lemmas.List.Sums.{sum_by-cons}
 use Rattle.line_text.specs.Rules.{was_read, last_item}
 use Rattle.type_table.specs.declared.table_kind.TableKind.TheVariants.{Undo, Intentions}
-use Rattle.type_text.specs.declared.type_file.TypeFile.{TypeFile}
+use Rattle.declared_types.specs.declared.type_file.TypeFile.{TypeFile}
 use Rattle.type_text.specs.declared.type_line.TypeLine.{TypeLine}
 use Rattle.type_text.specs.declared.type_line.TypeLine.TheVariants.{TypeName, States, Initial, Operation, Conflict}
 use Rattle.type_text.specs.TypeLines.{rank_of, ops_of, op_count, states_of, type_rules}

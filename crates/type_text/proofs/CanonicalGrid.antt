@@ -10,7 +10,7 @@ use Rattle.line_text.specs.LineTests.{is_late, lacks, is_full, is_single, ascend
 use Rattle.line_text.specs.Accepted.{HasPassed}
 use Rattle.type_table.specs.Laws.{StepsWithin}
 use Rattle.type_table.specs.declared.table_kind.TableKind.TheVariants.{Undo, Intentions}
-use Rattle.type_text.specs.declared.type_file.TypeFile.{TypeFile}
+use Rattle.declared_types.specs.declared.type_file.TypeFile.{TypeFile}
 use Rattle.type_text.specs.declared.type_line.TypeLine.{TypeLine}
 use Rattle.type_text.specs.declared.entries.Entries.{Entries}
 use Rattle.type_text.specs.declared.entries.Entries.TheVariants.{Steps, Members, Pairs, Conflicts}

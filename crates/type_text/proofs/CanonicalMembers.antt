@@ -6,7 +6,7 @@ use Rattle.std.proofs.lemmas.List.Elements.{Contains-append_left, Contains-appen
 use Rattle.std.proofs.lemmas.List.FromFn.{length-range_with_len, get_or-range_with_len}
 use Rattle.type_table.specs.declared.op.Op.{Op}
 use Rattle.type_table.specs.declared.table_kind.TableKind.TheVariants.{Undo, Intentions}
-use Rattle.type_text.specs.declared.type_file.TypeFile.{TypeFile}
+use Rattle.declared_types.specs.declared.type_file.TypeFile.{TypeFile}
 use Rattle.type_text.specs.declared.type_line.TypeLine.{TypeLine}
 use Rattle.type_text.specs.declared.type_line.TypeLine.TheVariants.{TypeName, States, Initial, Operation, End}
 use Rattle.type_text.specs.declared.entries.Entries.{Entries}

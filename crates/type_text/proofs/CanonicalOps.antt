@@ -8,7 +8,7 @@ use Rattle.line_text.specs.LineTests.{is_late, ascends, keys_ascend}
 use Rattle.line_text.specs.Accepted.{HasPassed}
 use Rattle.type_table.specs.Op.{is_same_op, has_twin}
 use Rattle.type_table.specs.declared.op.Op.{Op}
-use Rattle.type_text.specs.declared.type_file.TypeFile.{TypeFile}
+use Rattle.declared_types.specs.declared.type_file.TypeFile.{TypeFile}
 use Rattle.type_text.specs.declared.type_line.TypeLine.{TypeLine}
 use Rattle.type_text.specs.declared.type_line.TypeLine.TheVariants.{TypeName, States, Initial, Operation, End}
 use Rattle.type_text.specs.TypeLines.{rank_of, key_of, ops_of, op_count, is_twin, type_rules}

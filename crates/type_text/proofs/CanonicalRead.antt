@@ -7,7 +7,7 @@ use Rattle.type_table.specs.declared.op.Op.{Op}
 use Rattle.type_table.specs.Laws.{StepsWithin}
 use Rattle.line_text.specs.Rules.{Rules}
 use Rattle.line_text.specs.Spelling.{Spells, IsReadAgain, NumberIsReadAgain, NameIsWord}
-use Rattle.type_text.specs.declared.type_file.TypeFile.{TypeFile}
+use Rattle.declared_types.specs.declared.type_file.TypeFile.{TypeFile}
 use Rattle.type_text.specs.declared.type_line.TypeLine.{TypeLine}
 use Rattle.type_text.specs.declared.type_line.TypeLine.TheVariants.{TypeName, States, Initial, Operation, End}
 use Rattle.type_text.specs.TypeLines.{type_rules}

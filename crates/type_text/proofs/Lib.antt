@@ -19,4 +19,3 @@ pub mod CanonicalSpelled
 pub mod CanonicalFile
 pub mod CanonicalRead
 pub mod SameFile
-pub mod SameParts

@@ -8,7 +8,7 @@ use Rattle.type_table.specs.ConflictTable.{conflicts, IsSquare}
 use Rattle.type_table.proofs.Legal.{next-entry}
 use Rattle.equi_cert.specs.Relation.{relates}
 use Rattle.equi_cert.specs.Laws.{SamePairs}
-use Rattle.type_text.specs.declared.type_file.TypeFile.{TypeFile}
+use Rattle.declared_types.specs.declared.type_file.TypeFile.{TypeFile}
 use Rattle.type_text.specs.declared.type_line.TypeLine.{TypeLine}
 use Rattle.type_text.specs.declared.type_line.TypeLine.TheVariants.{TypeName, States, Initial, Step}
 use Rattle.type_text.specs.TypeFile.{IsTableOf, IsReached, IsFileOf}

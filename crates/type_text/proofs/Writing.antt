@@ -16,7 +16,7 @@ use Rattle.type_text.specs.declared.entries.Entries.{Entries}
 use Rattle.type_text.specs.declared.entries.Entries.TheVariants.{Steps, Members, Pairs, Conflicts}
 use Rattle.outputs.specs.declared.out.OutFault.{OutFault}
 use Rattle.outputs.proofs.Turns.{Puts-append, Puts-exit_at}
-use Rattle.type_text.specs.declared.type_file.TypeFile.{TypeFile}
+use Rattle.declared_types.specs.declared.type_file.TypeFile.{TypeFile}
 use Rattle.type_text.specs.declared.type_line.TypeLine.{TypeLine}
 use Rattle.type_text.specs.declared.type_line.TypeLine.TheVariants.{TypeName, States, Initial, Operation, End}
 use Rattle.type_text.proofs.Members.{take-more}

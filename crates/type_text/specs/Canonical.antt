@@ -14,8 +14,9 @@ use Rattle.equi_cert.specs.Relation.{relates, IsRelation}
 use Rattle.line_text.specs.Spelling.{text_of}
 use Rattle.line_text.specs.Outcome.{outcome_of}
 use Rattle.type_text.specs.TypeLines.{type_rules}
-use Rattle.type_text.specs.TypeFile.{IsFileOf, Reads, conflicts_of}
-use Rattle.type_text.specs.declared.type_file.TypeFile.{TypeFile}
+use Rattle.type_text.specs.TypeFile.{IsFileOf, Reads}
+use Rattle.declared_types.specs.TypeFile.{conflicts_of, is_whole, IsSameFile}
+use Rattle.declared_types.specs.declared.type_file.TypeFile.{TypeFile}
 use Rattle.type_text.specs.declared.type_line.TypeLine.{TypeLine}
 use Rattle.type_text.specs.declared.type_line.TypeLine.TheVariants.{TypeName, States, Initial, Operation, Step, Reach, Equi, Conflict, End}
 use Rattle.type_text.specs.declared.entries.Entries.{Entries}
@@ -40,10 +41,6 @@ words_of End = codes "end" ∷ []
 -- the line of a cell that is an entry
 abbrev pub line_where : Bool → TypeLine → Option TypeLine
 line_where is_entry line = if is_entry then Some line else None
-
--- the set is that of all states
-abbrev pub is_whole : List Bool → Bool
-is_whole members = list_all (λ member. member) members
 
 -- the rows of the grid; a set of all states has none, since a text without `reach` lines says it
 abbrev pub rows : TypeFile → Entries → ℕ
@@ -113,14 +110,6 @@ pub record IsReadBack (file : TypeFile) : Type 0 where
   pub read : outcome_of type_rules (canonical_text file) ≡ Ok (canonical_lines file)
   pub described : IsFileOf (canonical_lines file) file
 
--- two files with the same parts
-pub record IsSameFile (a b : TypeFile) : Type 0 where
-  pub table : a.table ≡ b.table
-  pub reach : a.reach ≡ b.reach
-  pub relation : a.relation ≡ b.relation
-  pub undo : a.undo ≡ b.undo
-  pub intentions : a.intentions ≡ b.intentions
-
 -- ---- statements of laws
 
 -- the canonical text of a file is read as that file
@@ -130,10 +119,6 @@ CanonicalIsRead = (file : TypeFile) → IsTypeFile file → HasNames file.table 
 -- two files that the same lines describe have the same parts
 abbrev pub LinesTellTheFile : Type 0
 LinesTellTheFile = (lines : List TypeLine) (a b : TypeFile) → IsTypeFile a → IsTypeFile b → IsFileOf lines a → IsFileOf lines b → IsSameFile a b
-
--- two files with the same parts are one
-abbrev pub PartsTellTheFile : Type 0
-PartsTellTheFile = (a b : TypeFile) → IsSameFile a b → a ≡ b
 
 -- what a reading answers of the canonical text of a file has the parts of that file
 abbrev pub WrittenIsRead : Type 0

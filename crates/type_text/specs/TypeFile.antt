@@ -12,7 +12,7 @@ use Rattle.line_text.specs.declared.fault.TextFault.{TextFault}
 use Rattle.line_text.specs.declared.fault.FaultKind.TheVariants.{NoMemory}
 use Rattle.type_text.specs.declared.type_line.TypeLine.{TypeLine}
 use Rattle.type_text.specs.declared.type_line.TypeLine.TheVariants.{TypeName, States, Initial, Step, Reach, Equi, Conflict}
-use Rattle.type_text.specs.declared.type_file.TypeFile.{TypeFile}
+use Rattle.declared_types.specs.declared.type_file.TypeFile.{TypeFile}
 use Rattle.type_text.specs.TypeLines.{ops_of, type_rules}
 
 -- the table's parts are what the lines say: its name, states and initial state in the first three, and the entries of its sections
@@ -34,15 +34,6 @@ pub record IsFileOf (lines : List TypeLine) (file : TypeFile) : Type 0 where
   pub relation : (s t : ℕ) → s < file.table.states → t < file.table.states → (relates file.relation s t ≡ true) ↔ ((s ≡ t) ⊎ Contains lines (Equi s t))
   pub undo : (p q : ℕ) → (conflicts file.undo p q ≡ true) ↔ Contains lines (Conflict Undo p q)
   pub intentions : (p q : ℕ) → (conflicts file.intentions p q ≡ true) ↔ Contains lines (Conflict Intentions p q)
-
--- the file of the type that begins at s
-abbrev pub file_at : TypeFile → ℕ → TypeFile
-file_at file s = record file { table = table_at file.table s }
-
--- the file's conflict table for a kind
-abbrev pub conflicts_of : TableKind → TypeFile → List (List Bool)
-conflicts_of Undo file = file.undo
-conflicts_of Intentions file = file.intentions
 
 -- the file of a text that has a value, else the text's fault; or memory was refused at the line that was being read
 abbrev pub Reads : Result TypeFile TextFault → List ℕ → Type 0

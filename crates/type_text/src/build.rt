@@ -15,9 +15,9 @@ ghost use Rattle.type_table.specs.StateSet.{has};
 ghost use Rattle.equi_cert.specs.Relation.{relates};
 
 use crate::row::{Row, line_of_row};
-use crate::type_file::TypeFile;
 use crate::type_line::TypeLine;
 use crate::type_lines::TypeLines;
+use declared_types::TypeFile;
 use equi_cert::Relation;
 use indexmap::IndexSet;
 use std::alloc::{AllocError, Global};

@@ -1,7 +1,7 @@
 //! Laws of the canonical text: each is a function that does nothing, whose contract is the law. It
 //! calls the laws on which it depends.
 
-ghost use Rattle.type_text.specs.Canonical.{CanonicalIsRead, LinesTellTheFile, PartsTellTheFile, WrittenIsRead};
+ghost use Rattle.type_text.specs.Canonical.{CanonicalIsRead, LinesTellTheFile, WrittenIsRead};
 
 use crate::type_line::TypeLine;
 use equi_cert::same_pairs;
@@ -24,12 +24,6 @@ pub fn lines_tell_the_file()
 {
     same_pairs();
 }
-
-/// Two files with the same parts are one.
-#[tactic(auto, using(crate::proofs::SameParts::parts_tell))]
-pub fn parts_tell_the_file()
-    ensures { PartsTellTheFile }
-{}
 
 /// What is read from the canonical text of a file is that file.
 pub fn written_is_read()

@@ -1,9 +1,9 @@
 ghost use Rattle.type_text.specs.TypeFile.{Reads};
 
 use crate::build::file_of;
-use crate::type_file::TypeFile;
 use crate::type_grammar::TypeGrammar;
 use crate::type_line::TypeLine;
+use declared_types::TypeFile;
 use line_text::{FaultKind, TextFault, accepted_in_order, read_items};
 use std::alloc::Global;
 

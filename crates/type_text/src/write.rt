@@ -8,12 +8,13 @@ ghost use Rattle.type_table.specs.Name.{is_name};
 ghost use Rattle.type_table.specs.Table.{IsTable};
 ghost use Rattle.outputs.specs.Out.{Puts};
 ghost use Rattle.type_text.specs.declared.type_line.TypeLine.TheVariants.{Conflict};
-ghost use Rattle.type_text.specs.Canonical.{words_of, is_whole, rows, columns, line_at, lines_of_row, lines_of_entries, canonical_text, line_where, IsNamed, IsTypeFile, IsReadBack};
+ghost use Rattle.type_text.specs.Canonical.{words_of, rows, columns, line_at, lines_of_row, lines_of_entries, canonical_text, line_where, IsNamed, IsTypeFile, IsReadBack};
+ghost use Rattle.declared_types.specs.TypeFile.{is_whole};
 
 use crate::entries::Entries;
 use crate::laws::canonical_is_read;
-use crate::type_file::TypeFile;
 use crate::type_line::TypeLine;
+use declared_types::{TypeFile, is_whole};
 use itoa::Buffer;
 use outputs::{Out, OutFault, items_in_turn, put_line, texts_in_turn};
 use type_table::{Op, StateSet, TableKind, TypeTable};
@@ -208,19 +209,6 @@ fn line_where(is_entry: bool, line: TypeLine) -> Option<TypeLine>
     ensures { result ≡ line_where is_entry line }
 {
     if is_entry { Some(line) } else { None }
-}
-
-/// Whether a set is that of all states, so that a text has no `reach` line of it. `states` is how many there are.
-pub fn is_whole(set: &StateSet, states: u16) -> bool
-    requires { length set.now ≡ states }
-    ensures { result ≡ is_whole set.now }
-{
-    for s in 0..states {
-        if !set.has(s) {
-            return false;
-        }
-    }
-    true
 }
 
 /// Writes a line.

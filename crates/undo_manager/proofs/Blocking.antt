@@ -10,7 +10,7 @@ use Rattle.object_trait.specs.Meaning.{Meaning, object}
 use Rattle.object_trait.specs.Steps.{stops_by, stopper}
 use Rattle.object_trait.specs.declared.log_entry.LogEntry.{LogEntry}
 use Rattle.object_trait.specs.Object.{conflicts_by}
-use Rattle.op_locks.specs.Locks.{blocker}
+use Rattle.op_locks.specs.Locks.{blocking_holder}
 use Rattle.op_locks.specs.declared.held.Held.{Held}
 use Rattle.undo_manager.specs.Held.{held_in}
 use Rattle.undo_manager.specs.Log.{entries, LeadsTo}
@@ -29,7 +29,7 @@ each-entry T (u ∷ log) each = (each.0, each-entry T log each.1)
 pub ops-fit : StepsWithin → (T : Table) → IsTable T → (s end : ℕ) (log : List UndoEntry) → LeadsTo T s log end → All (λ (u : UndoEntry). u.entry.op < length T.ops) log
 ops-fit within T table s end log steps = All-from_recursion (λ (u : UndoEntry). u.entry.op < length T.ops) log (each-fits within T table s end log steps)
 
-pub stopper-told : (m : Meaning) (t k : ℕ) → m.checked.kind ≡ Undo → blocker (conflicts_by m.checked.kind m.checked.file) t k (held_in m.log) ≡ stopper m t k
+pub stopper-told : (m : Meaning) (t k : ℕ) → m.checked.kind ≡ Undo → blocking_holder (conflicts_by m.checked.kind m.checked.file) t k (held_in m.log) ≡ stopper m t k
 stopper-told m t k in_place =
     blocker-open (conflicts_by m.checked.kind m.checked.file) t k m.log
     ∙ sym (ap (λ way. option_map (λ (e : LogEntry). e.by) (find (λ e. not (e.by == t) && stops_by way (object m) m.base m.log t k e) (filter (λ e. not e.done) m.log))) in_place)

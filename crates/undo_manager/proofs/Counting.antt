@@ -7,7 +7,7 @@ use Rattle.object_trait.specs.Laws.{OpensAreCounted}
 use Rattle.object_trait.specs.Steps.{open_transactions}
 use Rattle.object_trait.specs.declared.log_entry.LogEntry.{LogEntry}
 use Rattle.object_trait.proofs.Lists.{pairs-map}
-use Rattle.undo_manager.specs.Opened.{count_of, IsCounted}
+use Rattle.undo_manager.specs.Opened.{count_of, HasCounts}
 use Rattle.undo_manager.specs.declared.opened.Opened.{Opened}
 
 -- the transactions of a list of counts
@@ -24,7 +24,7 @@ count-lists t (o ∷ counts) p =
     ]
 
 -- so there are as many counts as open transactions, and no more than entries
-pub counts-length : OpensAreCounted → (log : List LogEntry) (counts : List Opened) → IsCounted log counts →
+pub counts-length : OpensAreCounted → (log : List LogEntry) (counts : List Opened) → HasCounts log counts →
     (length counts ≡ length (open_transactions log)) × (length counts ≤ length log)
 counts-length count log counts c =
     rw (length-map counts (λ (o : Opened). o.by)) at (count log (listed counts) (pairs-map (λ a b. eqb b a ≡ false) (λ (o : Opened). o.by) (λ a b apart. apart) counts c.listed.once) (λ t. count-lists t counts c.listed.some ∙ ap (ltb 0) (c.exact t)))

@@ -8,7 +8,7 @@ use Rattle.object_trait.specs.declared.log_entry.LogEntry.{LogEntry}
 use Rattle.std.specs.List.{find, AllByRecursion}
 use Rattle.std.specs.Option.{option_map}
 use Rattle.type_table.specs.ConflictTable.{conflicts}
-use Rattle.op_locks.specs.Locks.{is_by, without, blocks, blocker}
+use Rattle.op_locks.specs.Locks.{is_held_by, held_without, blocks, blocking_holder}
 use Rattle.op_locks.specs.declared.held.Held.{Held}
 use Rattle.undo_manager.specs.Held.{held_by, held_in}
 use Rattle.undo_manager.specs.Log.{entries, unsettled}
@@ -24,7 +24,7 @@ held-push (e ∷ log) t k =
     ]
 
 -- t's entries are done
-pub held-marked : (log : List LogEntry) (t : ℕ) → held_in (map (marked t) log) ≡ without t (held_in log)
+pub held-marked : (log : List LogEntry) (t : ℕ) → held_in (map (marked t) log) ≡ held_without t (held_in log)
 held-marked [] t = refl
 held-marked (e ∷ log) t =
     elim (cases_Bool e.done) [
@@ -36,7 +36,7 @@ held-marked (e ∷ log) t =
     ]
 
 -- the first n of t's open entries stay
-pub held-left : (log : List LogEntry) (t n : ℕ) → held_in (keep_first (is_open_of t) n log) ≡ keep_first (is_by t) n (held_in log)
+pub held-left : (log : List LogEntry) (t n : ℕ) → held_in (keep_first (is_open_of t) n log) ≡ keep_first (is_held_by t) n (held_in log)
 held-left [] t n = refl
 held-left (e ∷ log) t zero =
     elim (cases_Bool e.done) [
@@ -81,7 +81,7 @@ each-held P (e ∷ log) each =
 
 -- the first that blocks, among what is held and among the open entries
 pub blocker-open : (rows : List (List Bool)) (t k : ℕ) (log : List LogEntry) →
-    blocker rows t k (held_in log) ≡ option_map (λ (e : LogEntry). e.by) (find (λ e. not (e.by == t) && conflicts rows k e.op) (filter (λ e. not e.done) log))
+    blocking_holder rows t k (held_in log) ≡ option_map (λ (e : LogEntry). e.by) (find (λ e. not (e.by == t) && conflicts rows k e.op) (filter (λ e. not e.done) log))
 blocker-open rows t k [] = refl
 blocker-open rows t k (e ∷ log) =
     elim (cases_Bool e.done) [

@@ -9,14 +9,14 @@ use Rattle.type_table.specs.Laws.{EndsWithin}
 use Rattle.type_table.specs.declared.kind.Kind.TheVariants.{Undo}
 use Rattle.table_checker.specs.Checked.{Checked, IsChecked}
 use Rattle.object_trait.specs.Object.{IsCovered, object_of}
-use Rattle.object_trait.specs.Meaning.{Meaning, ops_of, is_open_of, open_of, state_of, view_of}
+use Rattle.object_trait.specs.Meaning.{Meaning, log_ops, is_open_of, open_of, state_of, view_of}
 use Rattle.object_trait.specs.Sound.{IsSoundUndo}
 use Rattle.object_trait.specs.Steps.{IsLegalFor}
 use Rattle.object_trait.specs.Laws.{CheckedIsCovered, FreshIsSound, OpensAreCounted}
 use Rattle.object_trait.specs.declared.log_entry.LogEntry.{LogEntry}
 use Rattle.undo_manager.specs.Kept.{IsKeptInPlace}
 use Rattle.undo_manager.specs.Log.{entries, LeadsTo, start_of, unsettled}
-use Rattle.undo_manager.specs.Opened.{count_of, IsCounted, IsRecounted}
+use Rattle.undo_manager.specs.Opened.{count_of, HasCounts, IsRecounted}
 use Rattle.undo_manager.specs.declared.opened.Opened.{Opened}
 use Rattle.undo_manager.specs.declared.undo_entry.UndoEntry.{UndoEntry}
 use Rattle.undo_manager.proofs.Counting.{counts-length}
@@ -63,15 +63,15 @@ counts-fit count c base state log counts kept =
     omega (arith, (counts-length count (entries log) counts kept.counted).1, length-map log (λ (u : UndoEntry). u.entry), kept.room)
 
 -- and none of a transaction's is more than the log's length
-pub count-length : (t : ℕ) (log : List LogEntry) (counts : List Opened) → IsCounted log counts → count_of t counts ≤ length log
+pub count-length : (t : ℕ) (log : List LogEntry) (counts : List Opened) → HasCounts log counts → count_of t counts ≤ length log
 count-length t log counts c =
     omega (arith, c.exact t, length-filter_both (is_open_of t) (λ e. not (is_open_of t e)) (λ e. refl) log)
 
 -- ---- new counts
 
 -- where one count is as the new log has it, and the others' entries are as many as they were
-pub recounted : (old new : List LogEntry) (counts new_counts : List Opened) (t n : ℕ) → IsCounted old counts → IsRecounted t n counts new_counts → n ≡ length (open_of t new) →
-    ((u : ℕ) → eqb u t ≡ false → length (open_of u new) ≡ length (open_of u old)) → IsCounted new new_counts
+pub recounted : (old new : List LogEntry) (counts new_counts : List Opened) (t n : ℕ) → HasCounts old counts → IsRecounted t n counts new_counts → n ≡ length (open_of t new) →
+    ((u : ℕ) → eqb u t ≡ false → length (open_of u new) ≡ length (open_of u old)) → HasCounts new new_counts
 recounted old new counts new_counts t n c r mine others = record { listed = r.listed; exact = λ u. at u }
   where
     at : (u : ℕ) → count_of u new_counts ≡ length (open_of u new)
@@ -91,7 +91,7 @@ pub record IsLeft (c : Checked) (base state : ℕ) (log : List UndoEntry) (count
   pub base_fits : base < c.file.table.states
   pub room : length log ≤ 4294967295
   pub steps : LeadsTo c.file.table base log state
-  pub counted : IsCounted (entries log) counts
+  pub counted : HasCounts (entries log) counts
 
 -- once it is settled, and sound, all is kept
 pub settled-kept : EndsWithin → (c : Checked) (base state : ℕ) (log : List UndoEntry) (counts : List Opened) → IsLeft c base state log counts →
@@ -102,8 +102,8 @@ settled-kept ends c base state log counts left sound =
       in_place = left.in_place;
       table = left.table;
       covered = left.covered;
-      base_fits = ends c.file.table base (start_of (unsettled log) state) (ops_of s.moved) left.table left.base_fits s.reached;
-      state_fits = ends c.file.table base state (ops_of (entries log)) left.table left.base_fits (steps-run c.file.table base log state left.steps);
+      base_fits = ends c.file.table base (start_of (unsettled log) state) (log_ops s.moved) left.table left.base_fits s.reached;
+      state_fits = ends c.file.table base state (log_ops (entries log)) left.table left.base_fits (steps-run c.file.table base log state left.steps);
       room = omega (arith, unsettled-length log, left.room);
       steps = unsettled-steps c.file.table base log state left.steps;
       sound = sound;

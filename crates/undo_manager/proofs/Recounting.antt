@@ -6,7 +6,7 @@ use Rattle.std.proofs.lemmas.List.Elements.{All-from_recursion}
 use Rattle.type_table.proofs.Elements.{each-push, each-filter, differ_turned}
 use Rattle.object_trait.specs.Orders.{Pairs}
 use Rattle.object_trait.proofs.Lists.{pairs-push, pairs-filter}
-use Rattle.undo_manager.specs.Opened.{count_of, AreListed, IsRecounted}
+use Rattle.undo_manager.specs.Opened.{count_of, AreListedOnce, IsRecounted}
 use Rattle.undo_manager.specs.declared.opened.Opened.{Opened}
 
 -- b is of another transaction than a
@@ -44,7 +44,7 @@ pushed-others t u [] differ = rw (differ_turned t u differ) refl
 pushed-others t u (o ∷ counts) differ = ap (λ rest. cond (eqb o.by u) o.count rest) (pushed-others t u counts differ)
 
 -- a further line, of a transaction that wasn't listed
-pub pushed : (t : ℕ) (counts : List Opened) → AreListed counts → count_of t counts ≡ 0 → IsRecounted t 1 counts (counts ++ one_of t ∷ [])
+pub pushed : (t : ℕ) (counts : List Opened) → AreListedOnce counts → count_of t counts ≡ 0 → IsRecounted t 1 counts (counts ++ one_of t ∷ [])
 pushed t counts listed none =
     let apart = unlisted t counts listed.some none in
     record {
@@ -101,7 +101,7 @@ put-others t n u (o ∷ counts) differ =
     ]
 
 -- another count for a transaction that is listed
-pub put : (t n : ℕ) (counts : List Opened) → AreListed counts → 0 < count_of t counts → 0 < n → IsRecounted t n counts (map (with_count t n) counts)
+pub put : (t n : ℕ) (counts : List Opened) → AreListedOnce counts → 0 < count_of t counts → 0 < n → IsRecounted t n counts (map (with_count t n) counts)
 put t n counts listed held some = record {
   listed = record { once = put-once t n counts listed.once; some = put-some t n counts some listed.some };
   mine = put-mine t n counts held;
@@ -159,7 +159,7 @@ gone-others t u (o ∷ counts) differ =
     ]
 
 -- the list without a transaction
-pub gone : (t : ℕ) (counts : List Opened) → AreListed counts → IsRecounted t 0 counts (filter (is_apart t) counts)
+pub gone : (t : ℕ) (counts : List Opened) → AreListedOnce counts → IsRecounted t 0 counts (filter (is_apart t) counts)
 gone t counts listed = record {
   listed = record {
     once = pairs-filter IsApart (is_apart t) counts listed.once;

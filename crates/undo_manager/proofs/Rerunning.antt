@@ -6,16 +6,16 @@ use Rattle.std.proofs.lemmas.List.{append-nil, append_assoc, drop_more, drop_all
 use Rattle.type_table.specs.Table.{Table, next}
 use Rattle.type_table.specs.Run.{IsLegal}
 use Rattle.type_table.proofs.Legal.{legal_there, legal-somewhere}
-use Rattle.object_trait.specs.Meaning.{ops_of, is_open_of}
+use Rattle.object_trait.specs.Meaning.{log_ops, is_open_of}
 use Rattle.object_trait.specs.declared.log_entry.LogEntry.{LogEntry}
-use Rattle.undo_manager.specs.Log.{entries, LeadsTo, stays}
+use Rattle.undo_manager.specs.Log.{entries, LeadsTo, stays_in_log}
 use Rattle.undo_manager.specs.Rerun.{IsRerun}
 use Rattle.undo_manager.specs.declared.undo_entry.UndoEntry.{UndoEntry}
 use Rattle.undo_manager.proofs.Running.{entries-append, steps-join}
 
 -- what a strike of t's leaves of a log
 abbrev pub left_of : ℕ → List UndoEntry → List LogEntry
-left_of t log = filter (stays t) (entries log)
+left_of t log = filter (stays_in_log t) (entries log)
 
 -- the entries from a place up to `read` were run again: those that are left come first in the log, and lead to a state
 pub record IsRunTo (T : Table) (t place : ℕ) (old : List UndoEntry) (start : ℕ) (now : List UndoEntry) (kept read state : ℕ) : Type 0 where
@@ -24,12 +24,12 @@ pub record IsRunTo (T : Table) (t place : ℕ) (old : List UndoEntry) (start : �
   pub behind : drop read now ≡ drop read old
   pub left : entries rest ++ left_of t (drop read old) ≡ left_of t (drop place old)
   pub steps : LeadsTo T start rest state
-  pub legal : IsLegal T (Some state) (ops_of (left_of t (drop read old)))
+  pub legal : IsLegal T (Some state) (log_ops (left_of t (drop read old)))
   pub order : kept ≤ read
   pub long : length now ≡ length old
 
 -- none was
-pub run-begins : (T : Table) (t place : ℕ) (old : List UndoEntry) (start : ℕ) → IsLegal T (Some start) (ops_of (left_of t (drop place old))) →
+pub run-begins : (T : Table) (t place : ℕ) (old : List UndoEntry) (start : ℕ) → IsLegal T (Some start) (log_ops (left_of t (drop place old))) →
     IsRunTo T t place old start old place place start
 run-begins T t place old start legal = record {
   rest = [];
@@ -50,20 +50,20 @@ read-behind read old now x same e =
 
 -- what is left from an entry on
 left-behind : (t read : ℕ) (old : List UndoEntry) (x : UndoEntry) → read < length old → x ≡ get_or old read x →
-    left_of t (drop read old) ≡ cond (stays t x.entry) (x.entry ∷ left_of t (drop (read + 1) old)) (left_of t (drop (read + 1) old))
+    left_of t (drop read old) ≡ cond (stays_in_log t x.entry) (x.entry ∷ left_of t (drop (read + 1) old)) (left_of t (drop (read + 1) old))
 left-behind t read old x inside e = ap (left_of t) (drop_more old read x inside ∙ ap (λ y. y ∷ drop (read + 1) old) (sym e))
 
 -- where it is struck
 left-struck : (t read : ℕ) (old : List UndoEntry) (x : UndoEntry) → read < length old → x ≡ get_or old read x → is_open_of t x.entry ≡ true →
     left_of t (drop read old) ≡ left_of t (drop (read + 1) old)
 left-struck t read old x inside e is =
-    left-behind t read old x inside e ∙ cond-false (stays t x.entry) (x.entry ∷ left_of t (drop (read + 1) old)) (left_of t (drop (read + 1) old)) (not_from_true (is_open_of t x.entry) is)
+    left-behind t read old x inside e ∙ cond-false (stays_in_log t x.entry) (x.entry ∷ left_of t (drop (read + 1) old)) (left_of t (drop (read + 1) old)) (not_from_true (is_open_of t x.entry) is)
 
 -- where it isn't
 left-kept : (t read : ℕ) (old : List UndoEntry) (x : UndoEntry) → read < length old → x ≡ get_or old read x → is_open_of t x.entry ≡ false →
     left_of t (drop read old) ≡ x.entry ∷ left_of t (drop (read + 1) old)
 left-kept t read old x inside e isnt =
-    left-behind t read old x inside e ∙ cond-true (stays t x.entry) (x.entry ∷ left_of t (drop (read + 1) old)) (left_of t (drop (read + 1) old)) (not_from_false (is_open_of t x.entry) isnt)
+    left-behind t read old x inside e ∙ cond-true (stays_in_log t x.entry) (x.entry ∷ left_of t (drop (read + 1) old)) (left_of t (drop (read + 1) old)) (not_from_false (is_open_of t x.entry) isnt)
 
 -- equal from a place on, and so from the next
 drop-next : (read : ℕ) (old now : List UndoEntry) → drop read now ≡ drop read old → drop (read + 1) now ≡ drop (read + 1) old
@@ -93,7 +93,7 @@ pub run-next : (T : Table) (t place : ℕ) (old : List UndoEntry) (start : ℕ) 
     IsSome (next T state x.entry.op)
 run-next T t place old start now kept read state x r inside e isnt =
     let same = left-kept t read old x inside (read-behind read old now x r.behind e) isnt in
-    legal-somewhere T (next T state x.entry.op) (ops_of (left_of t (drop (read + 1) old))) (rw same at r.legal)
+    legal-somewhere T (next T state x.entry.op) (log_ops (left_of t (drop (read + 1) old))) (rw same at r.legal)
 
 -- and is run again
 pub run-kept : (T : Table) (t place : ℕ) (old : List UndoEntry) (start : ℕ) (now : List UndoEntry) (kept read state : ℕ) (x : UndoEntry) (after : ℕ) →
@@ -111,7 +111,7 @@ run-kept T t place old start now kept read state x after r inside e isnt step =
       left = ap (λ l. l ++ left_of t (drop (read + 1) old)) (entries-append r.rest (one ∷ [])) ∙
           (append_assoc (entries r.rest) (x.entry ∷ []) (left_of t (drop (read + 1) old)) ∙ (ap (λ l. entries r.rest ++ l) (sym same) ∙ r.left));
       steps = steps-join T start r.rest (one ∷ []) state after r.steps (refl, (after, (step, refl)));
-      legal = legal_there T (next T state x.entry.op) after (ops_of (left_of t (drop (read + 1) old))) step (rw same at r.legal);
+      legal = legal_there T (next T state x.entry.op) after (log_ops (left_of t (drop (read + 1) old))) step (rw same at r.legal);
       order = omega arith;
       long = length-set now kept one ∙ r.long;
     }

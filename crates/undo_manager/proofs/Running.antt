@@ -3,7 +3,7 @@ use Rattle.std.proofs.Common.{◌≡◌, ℕ, List, [], ◌∷◌, ◌++◌, map
 use Rattle.std.proofs.lemmas.List.{map-append}
 use Rattle.type_table.specs.Table.{Table, next}
 use Rattle.type_table.specs.Run.{run}
-use Rattle.object_trait.specs.Meaning.{ops_of}
+use Rattle.object_trait.specs.Meaning.{log_ops}
 use Rattle.object_trait.specs.Steps.{marked}
 use Rattle.undo_manager.specs.Log.{entries, LeadsTo, start_of, marked_one}
 use Rattle.undo_manager.specs.declared.undo_entry.UndoEntry.{UndoEntry}
@@ -21,9 +21,9 @@ entries-append V W = map-append (λ (u : UndoEntry). u.entry) V W
 -- ---- logs that keep the states before their entries
 
 -- a log leads along its operations to its end
-pub steps-run : (T : Table) (s : ℕ) (log : List UndoEntry) (end : ℕ) → LeadsTo T s log end → run T (Some s) (ops_of (entries log)) ≡ Some end
+pub steps-run : (T : Table) (s : ℕ) (log : List UndoEntry) (end : ℕ) → LeadsTo T s log end → run T (Some s) (log_ops (entries log)) ≡ Some end
 steps-run T s [] end h = ap Some h
-steps-run T s (u ∷ log) end h = run_there T (next T s u.entry.op) h.1.0 (ops_of (entries log)) (Some end) h.1.1.0 (steps-run T h.1.0 log end h.1.1.1)
+steps-run T s (u ∷ log) end h = run_there T (next T s u.entry.op) h.1.0 (log_ops (entries log)) (Some end) h.1.1.0 (steps-run T h.1.0 log end h.1.1.1)
 
 -- and begins at the state before it
 pub steps-start : (T : Table) (s : ℕ) (log : List UndoEntry) (end : ℕ) → LeadsTo T s log end → start_of log end ≡ s

@@ -4,7 +4,7 @@ use Rattle.std.proofs.lemmas.Bool.{cases_Bool, and_right, not_from_true}
 use Rattle.std.proofs.lemmas.List.{drop_more}
 use Rattle.type_table.specs.Table.{Table, next}
 use Rattle.object_trait.specs.Object.{Object}
-use Rattle.object_trait.specs.Meaning.{ops_of, open_of}
+use Rattle.object_trait.specs.Meaning.{log_ops, open_of}
 use Rattle.object_trait.specs.Steps.{IsSettled}
 use Rattle.undo_manager.specs.Log.{entries, LeadsTo, start_of, unsettled, BeginsOpen}
 use Rattle.undo_manager.specs.declared.undo_entry.UndoEntry.{UndoEntry}
@@ -60,7 +60,7 @@ unsettled-settled o s (u ∷ log) end h =
         moved = u.entry ∷ rest.moved;
         front = ap (λ r. u.entry ∷ r) rest.front;
         done = (done, rest.done);
-        reached = run_there o.table (next o.table s u.entry.op) h.1.0 (ops_of rest.moved) (Some (start_of (unsettled log) end)) h.1.1.0 rest.reached;
+        reached = run_there o.table (next o.table s u.entry.op) h.1.0 (log_ops rest.moved) (Some (start_of (unsettled log) end)) h.1.1.0 rest.reached;
       })
       | inr held ↦ rw (unsettled-open u log held) (record { moved = []; front = refl; done = tt; reached = ap Some (sym h.0) })
     ]

@@ -9,7 +9,7 @@ use Rattle.type_table.proofs.Elements.{differ_turned}
 use Rattle.table_checker.specs.Checked.{Checked}
 use Rattle.object_trait.specs.Object.{object_of}
 use Rattle.object_trait.specs.Strike.{keep_first}
-use Rattle.object_trait.specs.Meaning.{ops_of, is_open_of, open_of}
+use Rattle.object_trait.specs.Meaning.{log_ops, is_open_of, open_of}
 use Rattle.object_trait.specs.Steps.{IsSettled, IsStrike}
 use Rattle.object_trait.specs.Laws.{KeepsFirst, KeepsNone, KeepsParts, KeepsOthers, StruckLogIsLegal, SoundAfterStrike}
 use Rattle.object_trait.specs.declared.log_entry.LogEntry.{LogEntry}
@@ -58,16 +58,16 @@ log-steps c base state place log steps = steps-part c.file.table base (take plac
 
 -- what is left there can be run from the state before that place
 pub strike-legal : RunsAlong → KeepsNone LogEntry → KeepsParts LogEntry → StruckLogIsLegal → (c : Checked) (base state : ℕ) (log : List UndoEntry) (counts : List Opened) (t m place : ℕ) →
-    IsKeptInPlace c base state log counts → opens t (drop place log) ≡ m → IsLegal c.file.table (Some (start_of (drop place log) state)) (ops_of (left_of t (drop place log)))
+    IsKeptInPlace c base state log counts → opens t (drop place log) ≡ m → IsLegal c.file.table (Some (start_of (drop place log) state)) (log_ops (left_of t (drop place log)))
 strike-legal along none parts legal c base state log counts t m place kept passed =
     let front : List LogEntry = entries (take place log) in
     let left : List LogEntry = left_of t (drop place log) in
     let start : ℕ = start_of (drop place log) state in
-    let whole : IsLegal c.file.table (Some base) (ops_of (keep_first (is_open_of t) (opens t log - m) (entries log))) =
+    let whole : IsLegal c.file.table (Some base) (log_ops (keep_first (is_open_of t) (opens t log - m) (entries log))) =
     legal (meaning_of c base log) t m kept.covered kept.in_place (sound_in c.kind kept.in_place (object_of c) base (entries log) kept.sound) in
-    let split : IsLegal c.file.table (Some base) (ops_of front ++ ops_of left) = rw (strike-log none parts t m place log passed, ops-append front left) at whole in
-    let after : IsLegal c.file.table (run c.file.table (Some base) (ops_of front)) (ops_of left) = rw (along c.file.table (Some base) (ops_of front) (ops_of left)) at split in
-    legal_there c.file.table (run c.file.table (Some base) (ops_of front)) start (ops_of left)
+    let split : IsLegal c.file.table (Some base) (log_ops front ++ log_ops left) = rw (strike-log none parts t m place log passed, ops-append front left) at whole in
+    let after : IsLegal c.file.table (run c.file.table (Some base) (log_ops front)) (log_ops left) = rw (along c.file.table (Some base) (log_ops front) (log_ops left)) at split in
+    legal_there c.file.table (run c.file.table (Some base) (log_ops front)) start (log_ops left)
     (steps-run c.file.table base (take place log) start (log-steps c base state place log kept.steps).0) after
 
 -- ---- after it

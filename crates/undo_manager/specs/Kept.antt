@@ -6,7 +6,7 @@ use Rattle.table_checker.specs.Checked.{Checked}
 use Rattle.object_trait.specs.Object.{IsCovered, object_of}
 use Rattle.object_trait.specs.Sound.{IsSoundUndo}
 use Rattle.undo_manager.specs.Log.{entries, LeadsTo, BeginsOpen}
-use Rattle.undo_manager.specs.Opened.{IsCounted}
+use Rattle.undo_manager.specs.Opened.{HasCounts}
 use Rattle.undo_manager.specs.declared.undo_entry.UndoEntry.{UndoEntry}
 use Rattle.undo_manager.specs.declared.opened.Opened.{Opened}
 
@@ -21,4 +21,4 @@ pub record IsKeptInPlace (checked : Checked) (base state : ℕ) (log : List Undo
   pub steps : LeadsTo checked.file.table base log state
   pub sound : IsSoundUndo (object_of checked) base (entries log)
   pub front : BeginsOpen (entries log)
-  pub counted : IsCounted (entries log) counts
+  pub counted : HasCounts (entries log) counts

@@ -35,5 +35,5 @@ abbrev pub marked_one : ℕ → UndoEntry → UndoEntry
 marked_one t u = record u { entry = marked t u.entry }
 
 -- an entry that isn't an open one of t
-abbrev pub stays : ℕ → LogEntry → Bool
-stays t e = not (is_open_of t e)
+abbrev pub stays_in_log : ℕ → LogEntry → Bool
+stays_in_log t e = not (is_open_of t e)

@@ -3,7 +3,7 @@
 ghost use Rattle.std.specs.Prelude.{◌≡◌, ◌+◌, ◌≤◌, ◌<◌, ◌++◌, ◌∷◌, [], ℕ, length, map, drop, OnOk, OnErr, ◌==◌, ◌&&◌, false, not, All};
 ghost use Rattle.object_trait.specs.Meaning.{open_of};
 ghost use Rattle.undo_manager.specs.Log.{entries, unsettled, marked_one, start_of};
-ghost use Rattle.undo_manager.specs.Opened.{count_of, AreListed, IsRecounted};
+ghost use Rattle.undo_manager.specs.Opened.{count_of, AreListedOnce, IsRecounted};
 
 use crate::opened::{Opened, count_one_more};
 use crate::undo_entry::UndoEntry;
@@ -19,7 +19,7 @@ pub fn append(
     counts: &mut Vec<Opened>,
     one: UndoEntry,
 ) -> Result<(), AllocError>
-    requires listed { AreListed counts.old.items }
+    requires listed { AreListedOnce counts.old.items }
     requires fits { count_of one.entry.by counts.old.items < 4294967295 }
     ensures log { OnOk result (log.new.items ≡ log.old.items ++ one ∷ []) }
     ensures counts { OnOk result (IsRecounted one.entry.by (count_of one.entry.by counts.old.items + 1) counts.old.items counts.new.items) }
@@ -41,19 +41,19 @@ pub fn mark(log: &mut Vec<UndoEntry>, t: u32, count: u32)
     ensures { log.new.items ≡ map (marked_one t) log.old.items }
 {
     let mut left = count;
-    let mut place = log.len();
+    let mut position = log.len();
     while left > 0 {
-        place -= 1;
-        let mut one = log[place];
+        position -= 1;
+        let mut one = log[position];
         if one.entry.is_open_of(t) {
             one.entry.done = true;
-            log[place] = one;
+            log[position] = one;
             left -= 1;
         }
     }
 }
 
-/// The place from which on the log has m open entries of t, which has at least m. It goes from the back
+/// The position from which on the log has m open entries of t, which has at least m. It goes from the back
 /// until it has passed them.
 pub fn place_of(log: &[UndoEntry], t: u32, m: u32) -> usize
     requires { m ≤ length (open_of t (entries log.now)) }
@@ -61,14 +61,14 @@ pub fn place_of(log: &[UndoEntry], t: u32, m: u32) -> usize
     ensures exact { length (open_of t (entries (drop result log.now))) ≡ m }
 {
     let mut left = m;
-    let mut place = log.len();
+    let mut position = log.len();
     while left > 0 {
-        place -= 1;
-        if log[place].entry.is_open_of(t) {
+        position -= 1;
+        if log[position].entry.is_open_of(t) {
             left -= 1;
         }
     }
-    place
+    position
 }
 
 /// Takes the leading done entries out of a log that leads to a state, and answers the state before
@@ -107,12 +107,12 @@ fn take_front(log: &mut Vec<UndoEntry>, count: usize)
     log.truncate(left);
 }
 
-/// The state before a place of a log that leads to a state.
-pub fn state_before(log: &[UndoEntry], place: usize, state: u16) -> u16
-    ensures { result ≡ start_of (drop place log.now) state }
+/// The state before a position of a log that leads to a state.
+pub fn state_before(log: &[UndoEntry], position: usize, state: u16) -> u16
+    ensures { result ≡ start_of (drop position log.now) state }
 {
-    if place < log.len() {
-        log[place].before
+    if position < log.len() {
+        log[position].before
     } else {
         state
     }

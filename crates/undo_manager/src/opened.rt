@@ -1,7 +1,7 @@
 //! The transactions that are open at an object, with the number of open entries of each.
 
 ghost use Rattle.std.specs.Prelude.{◌≡◌, ◌<◌, ◌+◌, ◌≤◌, vec_len, vec_capacity};
-ghost use Rattle.undo_manager.specs.Opened.{count_of, AreListed, IsRecounted};
+ghost use Rattle.undo_manager.specs.Opened.{count_of, AreListedOnce, IsRecounted};
 
 /// A transaction, and the number of its open entries, which is at least 1.
 #[derive(Clone, Copy)]
@@ -24,7 +24,7 @@ pub fn count_of(counts: &[Opened], t: u32) -> u32
 
 /// Counts one more entry of t, for which there is room.
 pub fn count_one_more(counts: &mut Vec<Opened>, t: u32)
-    requires listed { AreListed counts.old.items }
+    requires listed { AreListedOnce counts.old.items }
     requires room { vec_len counts.old < vec_capacity counts.old }
     requires fits { count_of t counts.old.items < 4294967295 }
     ensures { IsRecounted t (count_of t counts.old.items + 1) counts.old.items counts.new.items }
@@ -39,7 +39,7 @@ pub fn count_one_more(counts: &mut Vec<Opened>, t: u32)
 
 /// Leaves t this count, which is at most what it was.
 pub fn leave_count(counts: &mut Vec<Opened>, t: u32, count: u32)
-    requires listed { AreListed counts.old.items }
+    requires listed { AreListedOnce counts.old.items }
     requires fewer { count ≤ count_of t counts.old.items }
     ensures { IsRecounted t count counts.old.items counts.new.items }
 {
@@ -52,15 +52,15 @@ pub fn leave_count(counts: &mut Vec<Opened>, t: u32, count: u32)
 
 /// Gives t, which is listed, this count.
 fn put_count(counts: &mut Vec<Opened>, t: u32, count: u32)
-    requires listed { AreListed counts.old.items }
+    requires listed { AreListedOnce counts.old.items }
     requires held { 0 < count_of t counts.old.items }
     requires some { 0 < count }
     ensures { IsRecounted t count counts.old.items counts.new.items }
 {
-    for place in 0..counts.len() {
-        let one = counts[place];
+    for position in 0..counts.len() {
+        let one = counts[position];
         if one.by == t {
-            counts[place] = Opened { count, ..one };
+            counts[position] = Opened { count, ..one };
             return;
         }
     }
@@ -68,7 +68,7 @@ fn put_count(counts: &mut Vec<Opened>, t: u32, count: u32)
 
 /// Takes t out of the list.
 fn take_out(counts: &mut Vec<Opened>, t: u32)
-    requires { AreListed counts.old.items }
+    requires { AreListedOnce counts.old.items }
     ensures { IsRecounted t 0 counts.old.items counts.new.items }
 {
     counts.retain(|one| one.by != t);

@@ -8,6 +8,7 @@ use crate::opened::{count_of, leave_count};
 use crate::stepping::{next_state, rerun};
 use crate::undo_entry::UndoEntry;
 use crate::undo_manager::UndoManager;
+use declared_types::DeclaredType;
 use object_trait::{
     LogEntry, Recovery, Renew, keeps_first, keeps_none, keeps_others, keeps_parts,
     opens_are_counted, sound_after_apply, sound_after_commit, sound_after_strike,
@@ -15,7 +16,7 @@ use object_trait::{
 };
 use std::alloc::{AllocError, Global};
 use std::sync::Arc;
-use table_checker::{CheckedType, DeclaredType};
+use table_checker::CheckedType;
 use type_table::{Operation, TableKind, ends_within, runs_along, steps_within};
 
 impl UndoManager {
@@ -102,10 +103,10 @@ impl Recovery for UndoManager {
         ends_within();
         struck_log_is_legal();
         sound_after_strike();
-        let place = place_of(&self.log, t, m);
-        let start = state_before(&self.log, place, self.state);
+        let position = place_of(&self.log, t, m);
+        let start = state_before(&self.log, position, self.state);
         let left = count_of(&self.opened, t) - m;
-        self.state = rerun(self.checked.table(), &mut self.log, place, t, start);
+        self.state = rerun(self.checked.table(), &mut self.log, position, t, start);
         leave_count(&mut self.opened, t, left);
         self.base = settle(&mut self.log, self.state);
         self.held.release_behind(t, left);

@@ -3,8 +3,8 @@
 ghost use Rattle.std.specs.Prelude.{◌≡◌, ◌≤◌, Some, IsSome, length, drop, filter};
 ghost use Rattle.type_table.specs.Table.{IsTable, next};
 ghost use Rattle.type_table.specs.Run.{IsLegal};
-ghost use Rattle.object_trait.specs.Meaning.{ops_of};
-ghost use Rattle.undo_manager.specs.Log.{entries, stays};
+ghost use Rattle.object_trait.specs.Meaning.{log_ops};
+ghost use Rattle.undo_manager.specs.Log.{entries, stays_in_log};
 ghost use Rattle.undo_manager.specs.Rerun.{IsRerun};
 
 use crate::undo_entry::UndoEntry;
@@ -23,17 +23,23 @@ pub fn next_state(table: &TypeTable, s: u16, k: Operation) -> u16
     }
 }
 
-/// Takes t's open entries at or after a place out of the log, runs the others there again from the
-/// state before that place, and answers the state after them.
-pub fn rerun(table: &TypeTable, log: &mut Vec<UndoEntry>, place: usize, t: u32, start: u16) -> u16
+/// Takes t's open entries at or after a position out of the log, runs the others there again from the
+/// state before that position, and answers the state after them.
+pub fn rerun(
+    table: &TypeTable,
+    log: &mut Vec<UndoEntry>,
+    position: usize,
+    t: u32,
+    start: u16,
+) -> u16
     requires table { IsTable table.now }
-    requires inside { place ≤ length log.old.items }
-    requires legal { IsLegal table.now (Some start) (ops_of (filter (stays t) (entries (drop place log.old.items)))) }
-    ensures { IsRerun table.now t place log.old.items start log.new.items result }
+    requires inside { position ≤ length log.old.items }
+    requires legal { IsLegal table.now (Some start) (log_ops (filter (stays_in_log t) (entries (drop position log.old.items)))) }
+    ensures { IsRerun table.now t position log.old.items start log.new.items result }
 {
     let mut state = start;
-    let mut kept = place;
-    for read in place..log.len() {
+    let mut kept = position;
+    for read in position..log.len() {
         let one = log[read];
         if !one.entry.is_open_of(t) {
             log[kept] = UndoEntry {

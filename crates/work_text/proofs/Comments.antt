@@ -4,31 +4,31 @@ use Rattle.std.specs.Prelude.{codes}
 use Rattle.std.specs.Fmt.{decimal}
 use Rattle.line_text.specs.Spelling.{spaced}
 use Rattle.line_text.proofs.CommentLines.{AreComments, IsText, both_comments, each_comments, line_comment, no_comments, number_text, placed_comments}
-use Rattle.history_audit.specs.Text.{audit_text, commit_line, serial_line}
+use Rattle.history_audit.specs.Text.{audit_text, committed_line, serial_line}
 use Rattle.history_audit.specs.declared.outcome.Audit.{Audit}
 use Rattle.history_audit.specs.declared.outcome.AuditFault.{AuditFault}
 use Rattle.history_audit.specs.declared.outcome.AuditFault.TheVariants as fault
 use Rattle.script_run.specs.Lines.{refusal_number}
 use Rattle.script_run.proofs.LongNumbers.{long_number_text}
-use Rattle.script_run.proofs.Reading.{one_digit, refusal_text}
+use Rattle.script_run.proofs.HistoryLines.{one_digit, refusal_text}
 use Rattle.worker_turns.specs.declared.outcome.Outcome.{Outcome}
 use Rattle.worker_turns.specs.declared.outcome.Outcome.TheVariants.{Committed, GaveUp, Refused, NotRun}
 use Rattle.worker_turns.specs.declared.outcome.Report.{Report}
 use Rattle.work_text.specs.Lines.{kept_line, kept_text, job_words, outcome_words, report_text, reports_text}
-use Rattle.work_text.specs.Reading.{AreShort, IsShort, IsShortAudit, IsShortOutcome, IsShortReport, IsWord}
+use Rattle.work_text.specs.TextHistory.{AreShort, IsShort, IsShortAudit, IsShortOutcome, IsShortReport, FitsWord}
 
 -- ---- kept states
 
-kept_comment : (x state : ℕ) → IsShort x → IsWord state → AreComments (spaced (kept_line (x, state)) ++ 10 ∷ [])
+kept_comment : (x state : ℕ) → IsShort x → FitsWord state → AreComments (spaced (kept_line (x, state)) ++ 10 ∷ [])
 kept_comment x state place short =
     line_comment (codes "kept" ∷ decimal x ∷ decimal state ∷ []) (record { bytes = refl; short = omega arith }, (number_text x place, (long_number_text state short, tt))) (omega arith)
 
 -- ---- the audit
 
-commit_comment : (t : ℕ) → IsShort t → AreComments (commit_line t)
+commit_comment : (t : ℕ) → IsShort t → AreComments (committed_line t)
 commit_comment t short = line_comment (codes "commit" ∷ decimal t ∷ []) (record { bytes = refl; short = omega arith }, (number_text t short, tt)) (omega arith)
 
-serial_comment : (x state : ℕ) → IsShort x → IsWord state → AreComments (serial_line (x, state))
+serial_comment : (x state : ℕ) → IsShort x → FitsWord state → AreComments (serial_line (x, state))
 serial_comment x state place short =
     line_comment (codes "serial" ∷ decimal x ∷ decimal state ∷ []) (record { bytes = refl; short = omega arith }, (number_text x place, (long_number_text state short, tt))) (omega arith)
 
@@ -38,7 +38,7 @@ audit = record { bytes = refl; short = omega arith }
 pub audit_comments : (said : Result Audit AuditFault) → IsShortAudit said → AreComments (audit_text said)
 audit_comments (Ok a) short =
     both_comments _ _ (line_comment (codes "audit" ∷ codes "yes" ∷ []) (audit, (record { bytes = refl; short = omega arith }, tt)) (omega arith))
-    (both_comments _ _ (each_comments IsShort commit_line commit_comment a.order.items short.order) (placed_comments IsWord serial_line serial_comment 0 a.finals.items (omega (arith, short.objects)) short.finals))
+    (both_comments _ _ (each_comments IsShort committed_line commit_comment a.order.items short.order) (placed_comments FitsWord serial_line serial_comment 0 a.finals.items (omega (arith, short.objects)) short.finals))
 audit_comments (Err (fault.BadEvent at)) short =
     line_comment (codes "audit" ∷ codes "no" ∷ codes "BadEvent" ∷ decimal at ∷ [])
     (audit, (record { bytes = refl; short = omega arith }, (record { bytes = refl; short = omega arith }, (number_text at short, tt)))) (omega arith)
@@ -74,6 +74,6 @@ pub comments_follow : (kept : List ℕ) (said : Result Audit AuditFault) (report
     → AreComments (kept_text kept ++ (audit_text said ++ reports_text reports))
 comments_follow kept said reports short =
     both_comments (kept_text kept) (audit_text said ++ reports_text reports)
-    (placed_comments IsWord (λ p. spaced (kept_line p) ++ 10 ∷ []) kept_comment 0 kept (omega (arith, short.objects)) short.states)
+    (placed_comments FitsWord (λ p. spaced (kept_line p) ++ 10 ∷ []) kept_comment 0 kept (omega (arith, short.objects)) short.states)
     (both_comments (audit_text said) (reports_text reports) (audit_comments said short.said)
     (placed_comments IsShortReport report_text report_comments 0 reports (omega (arith, short.workers)) short.jobs))

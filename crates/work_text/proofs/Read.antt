@@ -12,10 +12,10 @@ use Rattle.store_text.specs.Body.{store_rules}
 use Rattle.store_text.specs.declared.line.Line.{Line}
 use Rattle.store_text.specs.declared.line.Line.TheVariants.{Max, Object, Entry, End}
 use Rattle.history_text.specs.Canonical.{CanonicalIsRead, CommentsAreSkipped, canonical_lines, canonical_text, words_of}
-use Rattle.history_text.specs.Events.{events}
+use Rattle.history_text.specs.Events.{history_body}
 use Rattle.history_text.specs.declared.event_line.EventLine.{EventLine}
 use Rattle.history_text.specs.declared.event_line.EventLine.TheVariants.{Begin, Op, OpOf, Busy, Nothing, Commit, Abort, Rollback}
-use Rattle.work_text.specs.Reading.{WorkIsRead}
+use Rattle.work_text.specs.TextHistory.{WorkIsRead}
 use Rattle.work_text.proofs.Comments.{comments_follow}
 
 -- a line, without its LF
@@ -67,7 +67,7 @@ work_read skipped canonical = λ objects H kept audit reports fit short.
     let whole : lines_text all ≡ canonical_text objects H ++ lines_text rest.lines =
     flat_map-append ended (lines said) rest.lines ∙ ap (λ (t : List ℕ). t ++ lines_text rest.lines) (sym (text-lines said))
     in
-    let read = subst (λ (t : List ℕ). outcome_of (store_rules events) t ≡ Ok said) (sym alone) (canonical objects H fit).read in
+    let read = subst (λ (t : List ℕ). outcome_of (store_rules history_body) t ≡ Ok said) (sym alone) (canonical objects H fit).read in
     let may = skips_append (lines said) rest.lines (all_skip said) (comments_skip rest.lines rest.are) in
     let both = skipped all said may read in
-    subst (λ (t : List ℕ). outcome_of (store_rules events) t ≡ Ok said) (whole ∙ ap (λ (t : List ℕ). canonical_text objects H ++ t) (sym rest.is)) both
+    subst (λ (t : List ℕ). outcome_of (store_rules history_body) t ≡ Ok said) (whole ∙ ap (λ (t : List ℕ). canonical_text objects H ++ t) (sym rest.is)) both

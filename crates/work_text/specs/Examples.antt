@@ -14,15 +14,15 @@ abbrev pub one_line : List ObjectLine
 one_line = record { kind = Undo; file = 0 } ∷ []
 
 -- worker 1 counts up once
-abbrev pub one_up : List Event
-one_up = record { worker = 1; kind = Begin 0 } ∷ record { worker = 1; kind = Op 0 0 0 } ∷ record { worker = 1; kind = Commit 0 } ∷ []
+abbrev pub one_up_by_one : List Event
+one_up_by_one = record { worker = 1; kind = Begin 0 } ∷ record { worker = 1; kind = Op 0 0 0 } ∷ record { worker = 1; kind = Commit 0 } ∷ []
 
 -- the report has these outcomes
-abbrev pub Has : List Outcome → Report → Type 0
-Has outcomes report = report.outcomes.items ≡ outcomes
+abbrev pub HasOutcomes : List Outcome → Report → Type 0
+HasOutcomes outcomes report = report.outcomes.items ≡ outcomes
 
 -- a yes with this commit order and these serial states
-pub record SaysYes (order finals : List ℕ) (audit : Audit) : Type 0 where
+pub record IsYesWith (order finals : List ℕ) (audit : Audit) : Type 0 where
   pub order_is : audit.order.items ≡ order
   pub finals_are : audit.finals.items ≡ finals
 

@@ -1,4 +1,4 @@
 pub mod Lines
 pub mod Text
-pub mod Reading
+pub mod TextHistory
 pub mod Examples

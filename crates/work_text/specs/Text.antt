@@ -9,7 +9,7 @@ use Rattle.history_text.specs.Canonical.{canonical_text}
 use Rattle.history_audit.specs.Text.{audit_text}
 use Rattle.history_audit.specs.declared.outcome.Audit.{Audit}
 use Rattle.history_audit.specs.declared.outcome.AuditFault.{AuditFault}
-use Rattle.script_run.specs.Running.{AreKept}
+use Rattle.script_run.specs.Runs.{AreKept}
 use Rattle.worker_turns.specs.declared.outcome.Report.{Report}
 use Rattle.work_text.specs.Lines.{kept_text, reports_text}
 

@@ -1,7 +1,7 @@
 //! A law of the text of what workers did: a function that does nothing, whose contract is the law. It
 //! calls the laws on which it depends.
 
-ghost use Rattle.work_text.specs.Reading.{WorkIsRead};
+ghost use Rattle.work_text.specs.TextHistory.{WorkIsRead};
 
 use history_text::{canonical_is_read, comments_tell_nothing};
 

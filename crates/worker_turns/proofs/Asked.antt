@@ -11,7 +11,7 @@ use Rattle.type_table.specs.Least.{first_below}
 use Rattle.type_table.proofs.Least.{first_below-passes}
 use Rattle.serial_order.specs.Answer.{blocker, is_reply, is_free_reply, busy_with, refused, event_of_first, event_of_call}
 use Rattle.serial_order.specs.History.{Summary, summary, is_open}
-use Rattle.serial_order.specs.Replay.{call_at, is_full, call_event, appended}
+use Rattle.serial_order.specs.Replay.{call_at, is_history_full, call_event, appended}
 use Rattle.serial_order.specs.View.{is_legal_for, is_of_call}
 use Rattle.serial_order.specs.declared.command.Command.TheVariants as command
 use Rattle.serial_order.specs.declared.entry.Entry.{Entry}
@@ -20,9 +20,9 @@ use Rattle.object_calls.specs.declared.answer.Answer.{Answer}
 use Rattle.object_calls.specs.declared.answer.Answer.TheVariants as answer
 use Rattle.store_laws.specs.Stored.{Stored, objects, MayStep}
 use Rattle.store_laws.specs.Words.{as_event}
-use Rattle.store.specs.Calls.{noted, Answers}
+use Rattle.store.specs.Calls.{noted, NotesAnswer}
 use Rattle.jobs_text.specs.Jobs.{Call}
-use Rattle.worker_turns.specs.Parts.{number_of, IsReply, IsNoReply}
+use Rattle.worker_turns.specs.Parts.{number_at_object, IsReply, IsNoReply}
 use Rattle.worker_turns.specs.Progress.{Progress}
 use Rattle.worker_turns.specs.Turns.{receipt, Calls}
 use Rattle.worker_turns.specs.declared.outcome.Receipt.{Receipt}
@@ -64,7 +64,7 @@ pub record IsAnswered (old : Stored) (w t : ℕ) (call : Call) (a : Answer) (new
   pub o : Object
   pub there : slice_get (objects old) (call.0) ≡ Some o
   pub c : ℕ
-  pub number : number_of (objects old) call ≡ Some c
+  pub number : number_at_object (objects old) call ≡ Some c
   pub event : event_of_call o (summary old.history) (call.0) t c ≡ as_event t (call.0) c a
   pub makes : new ≡ noted old w (as_event t (call.0) c a)
 
@@ -79,9 +79,9 @@ same-event old w a b same =
 module _ (old : Stored) (w t : ℕ) (call : Call) (a : Answer) (new : Stored) where
   -- by the event that was appended and that of the answer
   answered-at : (there : Option Object) → slice_get (objects old) (call.0) ≡ there → is_some there ≡ true
-      → (number : Option ℕ) → number_of (objects old) call ≡ number → is_some number ≡ true
+      → (number : Option ℕ) → number_at_object (objects old) call ≡ number → is_some number ≡ true
       → new ≡ record old { history = appended old.history w (call_event there (summary old.history) (call.0) t number) }
-      → ((c : ℕ) → number ≡ Some c → Answers old w t (call.0) c (Ok a) new) → IsAnswered old w t call a new
+      → ((c : ℕ) → number ≡ Some c → NotesAnswer old w t (call.0) c (Ok a) new) → IsAnswered old w t call a new
   answered-at None at_object some number numbered is_number after told = absurd (false≢true some)
   answered-at (Some o) at_object some None numbered is_number after told = absurd (false≢true is_number)
   answered-at (Some o) at_object some (Some c) numbered is_number after told =
@@ -96,11 +96,11 @@ module _ (old : Stored) (w t : ℕ) (call : Call) (a : Answer) (new : Stored) wh
 
   -- by what the store says of it
   by-name : MayStep old w (command.Call t (call.0) (call.1)) (Ok a) new
-      → ((c : ℕ) → number_of (objects old) call ≡ Some c → Answers old w t (call.0) c (Ok a) new) → IsAnswered old w t call a new
+      → ((c : ℕ) → number_at_object (objects old) call ≡ Some c → NotesAnswer old w t (call.0) c (Ok a) new) → IsAnswered old w t call a new
   by-name (inl (reason, now)) told =
       let there = slice_get (objects old) (call.0) in
-      let number = number_of (objects old) call in
-      let fine = not_refused (is_open (summary old.history) t) (is_some there) (is_some number) (is_full old.max old.history 1) (sym reason) in
+      let number = number_at_object (objects old) call in
+      let fine = not_refused (is_open (summary old.history) t) (is_some there) (is_some number) (is_history_full old.max old.history 1) (sym reason) in
       answered-at there refl fine.0 number refl fine.1
       (now ∙ ap (λ (r : Option Refusal). record old { history = if is_some r then old.history else appended old.history w (call_event there (summary old.history) (call.0) t number) }) (sym reason))
       told
@@ -108,10 +108,10 @@ module _ (old : Stored) (w t : ℕ) (call : Call) (a : Answer) (new : Stored) wh
 
   -- and of the call with this name
   pub is-answered : (name : List ℕ) → name ≡ call.1 → MayStep old w (command.Call t (call.0) name) (Ok a) new
-      → ((c : ℕ) → call_at (slice_get (objects old) (call.0)) name ≡ Some c → Answers old w t (call.0) c (Ok a) new) → IsAnswered old w t call a new
+      → ((c : ℕ) → call_at (slice_get (objects old) (call.0)) name ≡ Some c → NotesAnswer old w t (call.0) c (Ok a) new) → IsAnswered old w t call a new
   is-answered name is step told =
       by-name (subst (λ n. MayStep old w (command.Call t (call.0) n) (Ok a) new) is step)
-      (subst (λ n. (c : ℕ) → call_at (slice_get (objects old) (call.0)) n ≡ Some c → Answers old w t (call.0) c (Ok a) new) is told)
+      (subst (λ n. (c : ℕ) → call_at (slice_get (objects old) (call.0)) n ≡ Some c → NotesAnswer old w t (call.0) c (Ok a) new) is told)
 
 -- ---- what it was answered with
 

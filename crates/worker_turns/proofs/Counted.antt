@@ -9,7 +9,7 @@ use Rattle.object_trait.specs.declared.event.EventKind.{EventKind}
 use Rattle.serial_order.specs.declared.refusal.Refusal.TheVariants.{NoMemory}
 use Rattle.store_laws.specs.Stored.{Stored, objects}
 use Rattle.jobs_text.specs.Jobs.{Call}
-use Rattle.worker_turns.specs.Progress.{Progress, job_of, IsAtEnd, IsSoFar, IsTold}
+use Rattle.worker_turns.specs.Progress.{Progress, current_job, IsAtEnd, IsSoFar, IsTold}
 use Rattle.worker_turns.specs.Turns.{goes_to, ends, breaks, CallsOrCommits, TurnsIn, turns_of, turns_in, turns_for, turns_left, TurnsAreCounted}
 use Rattle.worker_turns.specs.declared.outcome.Outcome.{Outcome}
 use Rattle.worker_turns.specs.declared.outcome.Outcome.TheVariants.{GaveUp, Refused}
@@ -31,7 +31,7 @@ falls all used more some less = omega arith
 module _ (o : List Object) (p : Progress) (told : IsTold o p) (going : IsAtEnd p → ⊥) where
   -- the turns that it may take for one try, for the jobs after this one, and for all that are left
   abbrev each : ℕ
-  each = turns_of (job_of p)
+  each = turns_of (current_job p)
 
   abbrev behind : ℕ
   behind = turns_for p.tries (drop (length p.outcomes + 1) p.jobs)
@@ -51,7 +51,7 @@ module _ (o : List Object) (p : Progress) (told : IsTold o p) (going : IsAtEnd p
 
   -- fewer were taken than it may have for its tries
   below : used < p.tries * each
-  below = omega (arith, mul-add-lt p.broken each (turns_in p.phase) p.tries told.left (within-try o (job_of p) p.phase told.now told.so_far))
+  below = omega (arith, mul-add-lt p.broken each (turns_in p.phase) p.tries told.left (within-try o (current_job p) p.phase told.now told.so_far))
 
   some : behind < all - used
   some = omega (arith, below, split)
@@ -65,7 +65,7 @@ module _ (o : List Object) (p : Progress) (told : IsTold o p) (going : IsAtEnd p
   -- one more try was broken
   breaks-counted : (receipts : List Receipt) → turns_left (breaks (record p { receipts = receipts })) < turns_left p
   breaks-counted receipts =
-      let further : turns_in p.phase < each = within-try o (job_of p) p.phase told.now told.so_far in
+      let further : turns_in p.phase < each = within-try o (current_job p) p.phase told.now told.so_far in
       falls all used ((p.broken + 1) * each + 0) (omega (arith, below, split)) (omega (arith, further))
 
   -- its job is done
@@ -102,7 +102,7 @@ module _ (old : Stored) (w : ℕ) (p : Progress) (told : IsTold (objects old) p)
   counted-in Idle at (inl (makes, is)) = going-on (Going _ 0) _ (omega (arith, at)) is
   counted-in Idle at (inr (inl (r, refuses, is))) = ending (Refused r) p.receipts is
   counted-in Idle at (inr (inr (same, is))) = ending (Refused NoMemory) p.receipts is
-  counted-in (Going t done) at turns = counted-going t done (slice_get (job_of p) done) at turns
+  counted-in (Going t done) at turns = counted-going t done (slice_get (current_job p) done) at turns
   counted-in (Breaking t done) at (makes, inl (others, is)) = breaking _ is
   counted-in (Breaking t done) at (makes, inr (last, is)) = ending GaveUp _ is
   counted-in (Refusing t done r) at (makes, is) = ending (Refused r) _ is

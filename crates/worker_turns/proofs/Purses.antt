@@ -7,9 +7,9 @@ use Rattle.std.proofs.lemmas.Slice.Eq.{bytes_eq-Decides}
 use Rattle.type_table.specs.Operation.{operation_at}
 use Rattle.type_table.specs.Table.{call_of, is_same_call, first_op}
 use Rattle.type_table.specs.declared.kind.Kind.TheVariants.{Escrow}
-use Rattle.number_text.specs.Examples.{purse}
-use Rattle.number_text.specs.Operations.{number_table}
-use Rattle.table_checker.specs.Declarations.{number_file}
+use Rattle.number_types.specs.Examples.{purse}
+use Rattle.number_types.specs.Operations.{number_table}
+use Rattle.declared_types.specs.Declarations.{number_file}
 use Rattle.object_trait.specs.Object.{Object, object_of}
 use Rattle.object_trait.specs.declared.event.EventKind.TheVariants.{Op}
 use Rattle.serial_order.specs.View.{is_of_call}

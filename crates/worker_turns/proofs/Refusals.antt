@@ -9,7 +9,7 @@ use Rattle.serial_order.specs.declared.refusal.Refusal.{Refusal}
 use Rattle.serial_order.specs.declared.refusal.Refusal.TheVariants.{NotOpen, NoObject, NoCall, TooManyOpen, HistoryFull, NoMemory}
 use Rattle.store_laws.specs.Stored.{Stored, objects, refusal_of}
 use Rattle.jobs_text.specs.Jobs.{Call}
-use Rattle.worker_turns.specs.Parts.{number_of, IsBeginRefusal, IsCallRefusal}
+use Rattle.worker_turns.specs.Parts.{number_at_object, IsBeginRefusal, IsCallRefusal}
 
 -- ---- a begin
 
@@ -49,7 +49,7 @@ pub call_refused : (s : Stored) (t : ℕ) (call : Call) (r : Refusal) → is_ope
     → (refusal_of s (command.Call t (call.0) (call.1)) ≡ Some r) ⊎ ((refusal_of s (command.Call t (call.0) (call.1)) ≡ None) × (r ≡ NoMemory))
     → IsCallRefusal (objects s) call r
 call_refused s t call r going (inl reason) =
-    elim (call_reason (is_open (summary s.history) t) (is_some (slice_get (objects s) (call.0))) (is_some (number_of (objects s) call)) _ r going reason) [
+    elim (call_reason (is_open (summary s.history) t) (is_some (slice_get (objects s) (call.0))) (is_some (number_at_object (objects s) call)) _ r going reason) [
       | inl its ↦ inl its
       | inr full ↦ inr (inl full)
     ]

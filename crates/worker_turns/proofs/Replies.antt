@@ -7,7 +7,7 @@ use Rattle.object_trait.specs.Object.{Object}
 use Rattle.object_trait.specs.declared.event.EventKind.{EventKind}
 use Rattle.jobs_text.specs.Jobs.{Call}
 use Rattle.worker_turns.specs.Parts.{IsReply, AreReplies}
-use Rattle.worker_turns.specs.Progress.{IsBegun}
+use Rattle.worker_turns.specs.Progress.{IsTryBegun}
 
 -- ---- elements of lists
 
@@ -28,12 +28,12 @@ replies-more objects t (c ∷ calls) [] call e each last = absurd each
 replies-more objects t (c ∷ calls) (f ∷ es) call e each last = (each.0, replies-more objects t calls es call e each.1 last)
 
 -- a transaction that begins had none
-pub none-begun : (objects : List Object) (calls : List Call) (t : ℕ) → IsBegun objects calls t 0 []
+pub none-begun : (objects : List Object) (calls : List Call) (t : ℕ) → IsTryBegun objects calls t 0 []
 none-begun objects calls t = record { within = omega arith; are_replies = tt }
 
 -- the next call of a try had a reply too
 pub begun-more : (objects : List Object) (calls : List Call) (t done : ℕ) (replies : List EventKind) (call : Call) (e : EventKind)
-    → IsBegun objects calls t done replies → slice_get calls done ≡ Some call → IsReply objects t call e → IsBegun objects calls t (done + 1) (replies ++ e ∷ [])
+    → IsTryBegun objects calls t done replies → slice_get calls done ≡ Some call → IsReply objects t call e → IsTryBegun objects calls t (done + 1) (replies ++ e ∷ [])
 begun-more objects calls t done replies call e begun next reply =
     record {
       within = omega (arith, slice_get_within calls done call next);
@@ -42,7 +42,7 @@ begun-more objects calls t done replies call e begun next reply =
 
 -- where no call is left, all of them had one
 pub begun-all : (objects : List Object) (calls : List Call) (t done : ℕ) (replies : List EventKind)
-    → IsBegun objects calls t done replies → slice_get calls done ≡ None → AreReplies objects t calls replies
+    → IsTryBegun objects calls t done replies → slice_get calls done ≡ None → AreReplies objects t calls replies
 begun-all objects calls t done replies begun none =
     let at_end : done ≡ length calls = omega (arith, begun.within, past-end calls done none) in
     subst (λ l. AreReplies objects t l replies) (take-length calls) (subst (λ n. AreReplies objects t (take n calls) replies) at_end begun.are_replies)

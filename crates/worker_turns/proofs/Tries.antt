@@ -5,12 +5,12 @@ use Rattle.std.proofs.lemmas.List.{append-nil}
 use Rattle.object_trait.specs.Object.{Object}
 use Rattle.object_trait.specs.declared.event.EventKind.{EventKind}
 use Rattle.jobs_text.specs.Jobs.{Call}
-use Rattle.worker_turns.specs.Parts.{AreBroken, IsBroken, IsPart, AreParts}
+use Rattle.worker_turns.specs.Parts.{AreBroken, IsBrokenTry, IsPart, AreParts}
 use Rattle.worker_turns.specs.declared.outcome.Outcome.{Outcome}
 
 -- one more broken try
 pub broken-more : (objects : List Object) (calls : List Call) (count : ℕ) (before last : List EventKind)
-    → AreBroken objects calls count before → IsBroken objects calls last → AreBroken objects calls (count + 1) (before ++ last)
+    → AreBroken objects calls count before → IsBrokenTry objects calls last → AreBroken objects calls (count + 1) (before ++ last)
 broken-more objects calls count before last broken one = rw (add-one count) (before, last, refl, broken, one)
 
 -- the part of one more job

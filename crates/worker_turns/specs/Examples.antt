@@ -1,8 +1,8 @@
 -- Small jobs and workers, worked by hand.
 use Rattle.std.specs.Prelude.{ℕ, List, [], ◌∷◌, take, codes}
 use Rattle.type_table.specs.declared.kind.Kind.TheVariants.{Escrow}
-use Rattle.number_text.specs.Examples.{purse}
-use Rattle.table_checker.specs.Declarations.{number_file}
+use Rattle.number_types.specs.Examples.{purse}
+use Rattle.declared_types.specs.Declarations.{number_file}
 use Rattle.object_trait.specs.Object.{Object, object_of}
 use Rattle.object_trait.specs.declared.event.EventKind.{EventKind}
 use Rattle.object_trait.specs.declared.event.EventKind.TheVariants.{Begin, Op, Busy, Commit, Abort}
@@ -20,8 +20,8 @@ abbrev pub counters : List Object
 counters = objects (stored [])
 
 -- a job that counts up at the first and down again
-abbrev pub up_and_down : List Call
-up_and_down = (0, codes "inc:1") ∷ (0, codes "dec:1") ∷ []
+abbrev pub up_and_down_calls : List Call
+up_and_down_calls = (0, codes "inc:1") ∷ (0, codes "dec:1") ∷ []
 
 -- one that counts up, and calls at an object that isn't there
 abbrev pub up_and_away : List Call
@@ -46,8 +46,8 @@ purses = object_of (record { kind = Escrow; file = number_file purse }) ∷ []
 -- ---- turns
 
 -- what worker 7 notes of its begin, its call, and its commit
-abbrev pub told : List Receipt
-told =
+abbrev pub told_by_seven : List Receipt
+told_by_seven =
     (record { position = 0; event = record { worker = 7; kind = Begin 0 } }) ∷ (record { position = 1; event = record { worker = 7; kind = Op 0 0 1 } })
     ∷ (record { position = 2; event = record { worker = 7; kind = Commit 0 } }) ∷ []
 
@@ -56,7 +56,7 @@ abbrev pub counting : Phase → ℕ → Progress
 counting phase n = record {
   jobs = ((1, codes "inc:1") ∷ []) ∷ [];
   tries = 2;
-  receipts = take n told;
+  receipts = take n told_by_seven;
   outcomes = [];
   broken = 0;
   phase = phase;

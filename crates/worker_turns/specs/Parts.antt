@@ -16,15 +16,15 @@ use Rattle.worker_turns.specs.declared.outcome.Outcome.TheVariants.{Committed, G
 -- ---- calls
 
 -- the number of a call at its object, where both are there
-abbrev pub number_of : List Object → Call → Option ℕ
-number_of objects call = call_at (slice_get objects (call.0)) (call.1)
+abbrev pub number_at_object : List Object → Call → Option ℕ
+number_at_object objects call = call_at (slice_get objects (call.0)) (call.1)
 
 -- t's call had a reply: an operation of that call
 pub record IsReply (objects : List Object) (t : ℕ) (call : Call) (e : EventKind) : Type 0 where
   pub o : Object
   pub there : slice_get objects (call.0) ≡ Some o
   pub c : ℕ
-  pub number : number_of objects call ≡ Some c
+  pub number : number_at_object objects call ≡ Some c
   pub k : ℕ
   pub of_call : is_of_call o c k ≡ true
   pub is : e ≡ Op k t (call.0)
@@ -32,7 +32,7 @@ pub record IsReply (objects : List Object) (t : ℕ) (call : Call) (e : EventKin
 -- t's call had none: it was answered `Busy` or `None`, by the place of its first operation
 pub record IsNoReply (objects : List Object) (t : ℕ) (call : Call) (e : EventKind) : Type 0 where
   pub c : ℕ
-  pub number : number_of objects call ≡ Some c
+  pub number : number_at_object objects call ≡ Some c
   pub is : ((u : ℕ) × (e ≡ Busy (place_of c) t (call.0) u)) ⊎ (e ≡ kind.None t (call.0) (place_of c))
 
 -- t's calls had a reply each, in order
@@ -45,13 +45,13 @@ AreReplies objects t (call ∷ calls) (e ∷ es) = IsReply objects t call e × A
 -- ---- tries
 
 -- a whole try of t: it began, each call had a reply, and it committed
-pub record IsWhole (objects : List Object) (calls : List Call) (t : ℕ) (es : List EventKind) : Type 0 where
+pub record IsWholeTry (objects : List Object) (calls : List Call) (t : ℕ) (es : List EventKind) : Type 0 where
   pub replies : List EventKind
   pub are_replies : AreReplies objects t calls replies
   pub is : es ≡ (Begin t ∷ replies) ++ Commit t ∷ []
 
 -- a broken try: one call had no reply, and it was aborted
-pub record IsBroken (objects : List Object) (calls : List Call) (es : List EventKind) : Type 0 where
+pub record IsBrokenTry (objects : List Object) (calls : List Call) (es : List EventKind) : Type 0 where
   pub t : ℕ
   pub done : ℕ
   pub call : Call
@@ -63,7 +63,7 @@ pub record IsBroken (objects : List Object) (calls : List Call) (es : List Event
   pub is : es ≡ (Begin t ∷ replies) ++ answer ∷ Abort t ∷ []
 
 -- a cut try, of which this is the next call: it was aborted before that
-pub record IsCut (objects : List Object) (calls : List Call) (call : Call) (es : List EventKind) : Type 0 where
+pub record IsCutTry (objects : List Object) (calls : List Call) (call : Call) (es : List EventKind) : Type 0 where
   pub t : ℕ
   pub done : ℕ
   pub next : slice_get calls done ≡ Some call
@@ -75,7 +75,7 @@ pub record IsCut (objects : List Object) (calls : List Call) (call : Call) (es :
 abbrev pub AreBroken : List Object → List Call → ℕ → List EventKind → Type 0
 AreBroken objects calls zero es = es ≡ []
 AreBroken objects calls (suc k) es =
-    (before : List EventKind) × (last : List EventKind) × (es ≡ before ++ last) × AreBroken objects calls k before × IsBroken objects calls last
+    (before : List EventKind) × (last : List EventKind) × (es ≡ before ++ last) × AreBroken objects calls k before × IsBrokenTry objects calls last
 
 -- ---- refusals
 
@@ -83,7 +83,7 @@ AreBroken objects calls (suc k) es =
 abbrev pub call_fault : List Object → Call → Option Refusal
 call_fault objects call =
     if not (is_some (slice_get objects (call.0))) then Some NoObject
-    else (if not (is_some (number_of objects call)) then Some NoCall else None)
+    else (if not (is_some (number_at_object objects call)) then Some NoCall else None)
 
 -- a begin was refused for this reason
 abbrev pub IsBeginRefusal : Refusal → Type 0
@@ -95,9 +95,9 @@ IsCallRefusal objects call r =
     (call_fault objects call ≡ Some r) ⊎ (((call_fault objects call ≡ None) × (r ≡ HistoryFull)) ⊎ (r ≡ NoMemory))
 
 -- what comes of the last try of a job that was refused: nothing, where its begin was, else a cut try, whose next call was
-abbrev pub IsRefused : List Object → List Call → Refusal → List EventKind → Type 0
-IsRefused objects calls r es =
-    ((es ≡ []) × IsBeginRefusal r) ⊎ ((call : Call) × IsCut objects calls call es × IsCallRefusal objects call r)
+abbrev pub IsRefusedTry : List Object → List Call → Refusal → List EventKind → Type 0
+IsRefusedTry objects calls r es =
+    ((es ≡ []) × IsBeginRefusal r) ⊎ ((call : Call) × IsCutTry objects calls call es × IsCallRefusal objects call r)
 
 -- ---- jobs
 
@@ -113,9 +113,9 @@ pub record BreaksBefore (objects : List Object) (tries : ℕ) (calls : List Call
 
 -- the part of a job with this outcome
 abbrev pub IsPart : List Object → ℕ → List Call → Outcome → List EventKind → Type 0
-IsPart objects tries calls (Committed t) es = BreaksBefore objects tries calls (IsWhole objects calls t) es
+IsPart objects tries calls (Committed t) es = BreaksBefore objects tries calls (IsWholeTry objects calls t) es
 IsPart objects tries calls GaveUp es = AreBroken objects calls tries es
-IsPart objects tries calls (Refused r) es = BreaksBefore objects tries calls (IsRefused objects calls r) es
+IsPart objects tries calls (Refused r) es = BreaksBefore objects tries calls (IsRefusedTry objects calls r) es
 IsPart objects tries calls NotRun es = es ≡ []
 
 -- the parts of a worker's jobs with these outcomes, in order: one outcome for each of its first jobs

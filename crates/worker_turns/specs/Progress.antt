@@ -21,30 +21,30 @@ pub record Progress : Type 0 where
   pub phase : Phase
 
 -- what happened by these receipts
-abbrev pub kinds : List Receipt → List EventKind
-kinds receipts = map (λ (r : Receipt). r.event.kind) receipts
+abbrev pub receipt_kinds : List Receipt → List EventKind
+receipt_kinds receipts = map (λ (r : Receipt). r.event.kind) receipts
 
 -- the calls of the job that is being done
-abbrev pub job_of : Progress → List Call
-job_of p = slice_index_or p.jobs (length p.outcomes) []
+abbrev pub current_job : Progress → List Call
+current_job p = slice_index_or p.jobs (length p.outcomes) []
 
 -- each job has its outcome
 abbrev pub IsAtEnd : Progress → Type 0
 IsAtEnd p = length p.outcomes ≡ length p.jobs
 
 -- nothing was done
-pub record IsFresh (p : Progress) : Type 0 where
+pub record IsUnstarted (p : Progress) : Type 0 where
   pub receipts : p.receipts ≡ []
   pub outcomes : p.outcomes ≡ []
   pub broken : p.broken ≡ 0
   pub phase : p.phase ≡ Idle
 
 -- the transaction that is open in this phase
-abbrev pub open_of : Phase → Option ℕ
-open_of Idle = None
-open_of (Going t done) = Some t
-open_of (Breaking t done) = Some t
-open_of (Refusing t done refusal) = Some t
+abbrev pub open_in_phase : Phase → Option ℕ
+open_in_phase Idle = None
+open_in_phase (Going t done) = Some t
+open_in_phase (Breaking t done) = Some t
+open_in_phase (Refusing t done refusal) = Some t
 
 -- where it is in this phase after this many broken tries of its job: those before a try that is still to begin
 abbrev pub broken_in : Phase → ℕ → ℕ
@@ -60,20 +60,20 @@ broken_before p = broken_in p.phase p.broken
 -- ---- the try that is being made
 
 -- the transaction began, and this many calls had a reply each
-pub record IsBegun (objects : List Object) (calls : List Call) (t done : ℕ) (replies : List EventKind) : Type 0 where
+pub record IsTryBegun (objects : List Object) (calls : List Call) (t done : ℕ) (replies : List EventKind) : Type 0 where
   pub within : done ≤ length calls
   pub are_replies : AreReplies objects t (take done calls) replies
 
 -- its events so far
 abbrev pub IsSoFar : List Object → List Call → Phase → List EventKind → Type 0
 IsSoFar objects calls Idle es = es ≡ []
-IsSoFar objects calls (Going t done) es = (replies : List EventKind) × IsBegun objects calls t done replies × (es ≡ Begin t ∷ replies)
+IsSoFar objects calls (Going t done) es = (replies : List EventKind) × IsTryBegun objects calls t done replies × (es ≡ Begin t ∷ replies)
 IsSoFar objects calls (Breaking t done) es =
-    (replies : List EventKind) × IsBegun objects calls t done replies
+    (replies : List EventKind) × IsTryBegun objects calls t done replies
     × (call : Call) × (slice_get calls done ≡ Some call) × (answer : EventKind) × IsNoReply objects t call answer
     × (es ≡ (Begin t ∷ replies) ++ answer ∷ [])
 IsSoFar objects calls (Refusing t done refusal) es =
-    (replies : List EventKind) × IsBegun objects calls t done replies
+    (replies : List EventKind) × IsTryBegun objects calls t done replies
     × (call : Call) × (slice_get calls done ≡ Some call) × IsCallRefusal objects call refusal
     × (es ≡ Begin t ∷ replies)
 
@@ -86,8 +86,8 @@ pub record IsTold (objects : List Object) (p : Progress) : Type 0 where
   pub ended : List EventKind
   pub are_parts : AreParts objects p.tries p.jobs p.outcomes ended
   pub behind : List EventKind
-  pub are_broken : AreBroken objects (job_of p) p.broken behind
+  pub are_broken : AreBroken objects (current_job p) p.broken behind
   pub now : List EventKind
-  pub so_far : IsSoFar objects (job_of p) p.phase now
-  pub are : kinds p.receipts ≡ (ended ++ behind) ++ now
+  pub so_far : IsSoFar objects (current_job p) p.phase now
+  pub are : receipt_kinds p.receipts ≡ (ended ++ behind) ++ now
   pub idle : IsAtEnd p → (p.phase ≡ Idle) × (p.broken ≡ 0)

@@ -5,15 +5,15 @@ use Rattle.worker_turns.specs.declared.phase.Phase.TheVariants.{Idle, Going, Bre
 
 -- where its transaction is open, there is room for the receipt of its end; where the store refused a call, also for that of the call, so
 -- that it isn't a call for whose receipt there was no memory
-abbrev pub HasPlace : Phase → ℕ → ℕ → Type 0
-HasPlace Idle used room = Unit {0}
-HasPlace (Going t done) used room = used < room
-HasPlace (Breaking t done) used room = used < room
-HasPlace (Refusing t done refusal) used room = used + 1 < room
+abbrev pub HasReceiptRoom : Phase → ℕ → ℕ → Type 0
+HasReceiptRoom Idle used room = Unit {0}
+HasReceiptRoom (Going t done) used room = used < room
+HasReceiptRoom (Breaking t done) used room = used < room
+HasReceiptRoom (Refusing t done refusal) used room = used + 1 < room
 
 -- there is room for the outcomes of all jobs too, and fewer tries are broken than there may be
 pub record HasRoom (jobs used room ended places broken tries : ℕ) (phase : Phase) : Type 0 where
   pub within : ended ≤ jobs
   pub outcomes : jobs ≤ places
-  pub receipts : HasPlace phase used room
+  pub receipts : HasReceiptRoom phase used room
   pub left : broken < tries

@@ -17,7 +17,7 @@ use Rattle.worker_turns.specs.declared.outcome.Receipt.{Receipt}
 use Rattle.worker_turns.specs.declared.phase.Phase.{Phase}
 use Rattle.worker_turns.specs.declared.phase.Phase.TheVariants.{Idle, Going, Breaking, Refusing}
 use Rattle.worker_turns.specs.Parts.{IsReply, IsNoReply}
-use Rattle.worker_turns.specs.Progress.{Progress, job_of, open_of, IsAtEnd, IsTold}
+use Rattle.worker_turns.specs.Progress.{Progress, current_job, open_in_phase, IsAtEnd, IsTold}
 
 -- ---- what a worker notes
 
@@ -49,8 +49,8 @@ HasOpen H (Some t) = is_open (summary H) t ≡ true
 -- ---- turns by phase
 
 -- the store makes the event of worker w, and the worker gets its receipt and goes on so
-abbrev pub Makes : Stored → ℕ → EventKind → Stored → Type 0
-Makes old w happened new = new ≡ noted old w happened
+abbrev pub StoreNotes : Stored → ℕ → EventKind → Stored → Type 0
+StoreNotes old w happened new = new ≡ noted old w happened
 
 -- the store refuses the command for this reason, or as memory was refused where there is no other, and isn't changed
 abbrev pub RefusesFor : Stored → Command → Refusal → Stored → Type 0
@@ -59,32 +59,32 @@ RefusesFor old asked r new = (new ≡ old) × ((refusal_of old asked ≡ Some r)
 -- a transaction begins, or the job is refused; or there is no memory for receipts, and nothing is asked of the store
 abbrev pub Begins : Stored → ℕ → Progress → Stored → Progress → Type 0
 Begins old w p new q =
-    (Makes old w (Begin (begins old.history)) new × (q ≡ goes_to (Going (begins old.history) 0) (gets old.history w (Begin (begins old.history)) p)))
+    (StoreNotes old w (Begin (begins old.history)) new × (q ≡ goes_to (Going (begins old.history) 0) (gets old.history w (Begin (begins old.history)) p)))
     ⊎ (((r : Refusal) × RefusesFor old command.Begin r new × (q ≡ ends (Refused r) p))
     ⊎ ((new ≡ old) × (q ≡ ends (Refused NoMemory) p)))
 
 -- the next call has a reply, or none, or is refused; or there is no memory for its receipt, and the transaction is aborted in its place
 abbrev pub Calls : ℕ → ℕ → Call → Stored → ℕ → Progress → Stored → Progress → Type 0
 Calls t done call old w p new q =
-    ((e : EventKind) × IsReply (objects old) t call e × Makes old w e new × (q ≡ goes_to (Going t (done + 1)) (gets old.history w e p)))
-    ⊎ (((e : EventKind) × IsNoReply (objects old) t call e × Makes old w e new × (q ≡ goes_to (Breaking t done) (gets old.history w e p)))
+    ((e : EventKind) × IsReply (objects old) t call e × StoreNotes old w e new × (q ≡ goes_to (Going t (done + 1)) (gets old.history w e p)))
+    ⊎ (((e : EventKind) × IsNoReply (objects old) t call e × StoreNotes old w e new × (q ≡ goes_to (Breaking t done) (gets old.history w e p)))
     ⊎ (((r : Refusal) × RefusesFor old (command.Call t (call.0) (call.1)) r new × (q ≡ goes_to (Refusing t done r) p))
-    ⊎ (Makes old w (Abort t) new × (q ≡ ends (Refused NoMemory) (gets old.history w (Abort t) p)))))
+    ⊎ (StoreNotes old w (Abort t) new × (q ≡ ends (Refused NoMemory) (gets old.history w (Abort t) p)))))
 
 -- the transaction commits
 abbrev pub Commits : ℕ → Stored → ℕ → Progress → Stored → Progress → Type 0
-Commits t old w p new q = Makes old w (Commit t) new × (q ≡ ends (Committed t) (gets old.history w (Commit t) p))
+Commits t old w p new q = StoreNotes old w (Commit t) new × (q ≡ ends (Committed t) (gets old.history w (Commit t) p))
 
 -- the transaction of a broken try aborts; the job is given up where it was the last
 abbrev pub GivesBack : ℕ → Stored → ℕ → Progress → Stored → Progress → Type 0
 GivesBack t old w p new q =
-    Makes old w (Abort t) new
+    StoreNotes old w (Abort t) new
     × (((p.broken + 1 < p.tries) × (q ≡ breaks (gets old.history w (Abort t) p)))
     ⊎ ((p.tries ≤ p.broken + 1) × (q ≡ ends GaveUp (gets old.history w (Abort t) p))))
 
 -- the transaction of a refused call aborts, and so the job is refused
-abbrev pub Refuses : ℕ → Refusal → Stored → ℕ → Progress → Stored → Progress → Type 0
-Refuses t r old w p new q = Makes old w (Abort t) new × (q ≡ ends (Refused r) (gets old.history w (Abort t) p))
+abbrev pub RefusesJob : ℕ → Refusal → Stored → ℕ → Progress → Stored → Progress → Type 0
+RefusesJob t r old w p new q = StoreNotes old w (Abort t) new × (q ≡ ends (Refused r) (gets old.history w (Abort t) p))
 
 -- the next call, or the commit where there is none
 abbrev pub CallsOrCommits : ℕ → ℕ → Option Call → Stored → ℕ → Progress → Stored → Progress → Type 0
@@ -94,9 +94,9 @@ CallsOrCommits t done (Some call) old w p new q = Calls t done call old w p new 
 -- a turn in each phase
 abbrev pub TurnsIn : Phase → Stored → ℕ → Progress → Stored → Progress → Type 0
 TurnsIn Idle old w p new q = Begins old w p new q
-TurnsIn (Going t done) old w p new q = CallsOrCommits t done (slice_get (job_of p) done) old w p new q
+TurnsIn (Going t done) old w p new q = CallsOrCommits t done (slice_get (current_job p) done) old w p new q
 TurnsIn (Breaking t done) old w p new q = GivesBack t old w p new q
-TurnsIn (Refusing t done r) old w p new q = Refuses t r old w p new q
+TurnsIn (Refusing t done r) old w p new q = RefusesJob t r old w p new q
 
 -- a turn of worker w
 abbrev pub Turns : Stored → ℕ → Progress → Stored → Progress → Type 0
@@ -122,7 +122,7 @@ turns_for tries (job ∷ jobs) = tries * turns_of job + turns_for tries jobs
 
 -- the most turns that a worker has left
 abbrev pub turns_left : Progress → ℕ
-turns_left p = turns_for p.tries (drop (length p.outcomes) p.jobs) - (p.broken * turns_of (job_of p) + turns_in p.phase)
+turns_left p = turns_for p.tries (drop (length p.outcomes) p.jobs) - (p.broken * turns_of (current_job p) + turns_in p.phase)
 
 -- ---- laws
 
@@ -130,7 +130,7 @@ turns_left p = turns_for p.tries (drop (length p.outcomes) p.jobs) - (p.broken *
 abbrev pub TurnsAreTold : Type 0
 TurnsAreTold =
     (old : Stored) (w : ℕ) (p : Progress) (new : Stored) (q : Progress) → IsTold (objects old) p → (IsAtEnd p → ⊥)
-    → HasOpen old.history (open_of p.phase) → Turns old w p new q → IsTold (objects new) q
+    → HasOpen old.history (open_in_phase p.phase) → Turns old w p new q → IsTold (objects new) q
 
 -- and it takes at least one from the turns that the worker has left
 abbrev pub TurnsAreCounted : Type 0

@@ -4,7 +4,6 @@
 mod laws;
 mod outcome;
 mod phase;
-mod turn;
 mod worker;
 
 pub use laws::{turns_are_counted, turns_are_told};

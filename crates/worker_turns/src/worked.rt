@@ -6,30 +6,30 @@ ghost use Rattle.type_table.specs.Operation.{operation_at};
 ghost use Rattle.store_laws.specs.Stored.{objects};
 ghost use Rattle.store_laws.specs.Examples.{stored, one_up};
 ghost use Rattle.store.specs.Calls.{noted};
-ghost use Rattle.worker_turns.specs.Parts.{IsReply, IsNoReply, IsPart, IsBroken, IsBeginRefusal, IsCallRefusal, call_fault, AreParts};
+ghost use Rattle.worker_turns.specs.Parts.{IsReply, IsNoReply, IsPart, IsBrokenTry, IsBeginRefusal, IsCallRefusal, call_fault, AreParts};
 ghost use Rattle.worker_turns.specs.Progress.{IsTold};
 ghost use Rattle.worker_turns.specs.Turns.{Turns, gets, ends, breaks, turns_left};
-ghost use Rattle.worker_turns.specs.Examples.{counters, up_and_down, up_and_away, in_the_way, both_made, first_made, purses, counting, away};
+ghost use Rattle.worker_turns.specs.Examples.{counters, up_and_down_calls, up_and_away, in_the_way, both_made, first_made, purses, counting, away};
 
 use crate::outcome::Outcome;
 use crate::phase::Phase;
-use number_text::worked::names_at_the_purse;
+use number_types::worked::names_at_the_purse;
 use object_trait::EventKind;
 use serial_order::Refusal;
 
 /// The first try of a job is broken, and the second commits. It needs two tries; with one it is given
 /// up after the first.
 pub fn a_job_is_tried_again()
-    ensures committed { IsPart counters 2 up_and_down (Outcome.Committed 3) (in_the_way ++ both_made) }
-    ensures by_another { IsPart counters 2 up_and_down (Outcome.Committed 2) (in_the_way ++ both_made) → ⊥ }
-    ensures given_up { IsPart counters 1 up_and_down Outcome.GaveUp in_the_way }
-    ensures no_more_tries { IsPart counters 1 up_and_down (Outcome.Committed 3) (in_the_way ++ both_made) → ⊥ }
+    ensures committed { IsPart counters 2 up_and_down_calls (Outcome.Committed 3) (in_the_way ++ both_made) }
+    ensures by_another { IsPart counters 2 up_and_down_calls (Outcome.Committed 2) (in_the_way ++ both_made) → ⊥ }
+    ensures given_up { IsPart counters 1 up_and_down_calls Outcome.GaveUp in_the_way }
+    ensures no_more_tries { IsPart counters 1 up_and_down_calls (Outcome.Committed 3) (in_the_way ++ both_made) → ⊥ }
 {}
 
 /// A broken try ends with its abort.
 pub fn a_broken_try_is_not_left_open()
-    ensures aborted { IsBroken counters up_and_down in_the_way }
-    ensures left_open { IsBroken counters up_and_down (take 3 in_the_way) → ⊥ }
+    ensures aborted { IsBrokenTry counters up_and_down_calls in_the_way }
+    ensures left_open { IsBrokenTry counters up_and_down_calls (take 3 in_the_way) → ⊥ }
 {}
 
 /// A job is refused for the fault of its next call, or as memory was refused; where its begin is
@@ -45,9 +45,9 @@ pub fn a_job_is_refused()
 
 /// The parts of a worker's jobs come one after another, one for each outcome.
 pub fn parts_are_in_order()
-    ensures told { AreParts counters 2 (up_and_down ∷ up_and_away ∷ up_and_down ∷ []) (Outcome.Committed 3 ∷ Outcome.Refused Refusal.NoObject ∷ [])
+    ensures told { AreParts counters 2 (up_and_down_calls ∷ up_and_away ∷ up_and_down_calls ∷ []) (Outcome.Committed 3 ∷ Outcome.Refused Refusal.NoObject ∷ [])
         ((in_the_way ++ both_made) ++ first_made) }
-    ensures not_run { AreParts counters 2 (up_and_down ∷ up_and_away ∷ []) (Outcome.NotRun ∷ Outcome.NotRun ∷ []) [] }
+    ensures not_run { AreParts counters 2 (up_and_down_calls ∷ up_and_away ∷ []) (Outcome.NotRun ∷ Outcome.NotRun ∷ []) [] }
     ensures no_job { AreParts counters 2 [] (Outcome.NotRun ∷ []) [] → ⊥ }
 {}
 

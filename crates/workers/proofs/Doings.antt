@@ -9,7 +9,7 @@ use Rattle.std.proofs.lemmas.Option.{none-some, same_Some}
 use Rattle.worker_turns.specs.Progress.{Progress}
 use Rattle.worker_turns.specs.Turns.{turns_left}
 use Rattle.workers.specs.SharedState.{SharedState, TakesTurn, HasEnded}
-use Rattle.workers.specs.Doing.{TakesTurnIfAny, AreGoing, LeavesOthers, left_at, left_in}
+use Rattle.workers.specs.SharedCalls.{TakesTurnIfAny, AreGoing, LeavesOthers, left_at, left_in}
 use Rattle.workers.proofs.Lists.{found-others}
 
 -- ---- the others

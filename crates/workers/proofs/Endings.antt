@@ -10,19 +10,19 @@ use Rattle.store_laws.specs.Stored.{objects}
 use Rattle.jobs_text.specs.Jobs.{Call}
 use Rattle.worker_turns.specs.declared.outcome.Report.{Report}
 use Rattle.worker_turns.specs.Parts.{AreParts, AreBroken}
-use Rattle.worker_turns.specs.Progress.{Progress, IsTold, IsAtEnd, IsSoFar, kinds, job_of}
+use Rattle.worker_turns.specs.Progress.{Progress, IsTold, IsAtEnd, IsSoFar, receipt_kinds, current_job}
 use Rattle.workers.specs.Events.{IsReplayed}
 use Rattle.workers.specs.SharedState.{Start, SharedState, HasOwner, IsWorker, IsKeptSince, HasEnded}
 use Rattle.workers.specs.Worked.{IsReport, IsOfNone, IsReportOf, AreReportsOf, HasWorked, EndingIsWorked}
 use Rattle.workers.proofs.Starts.{idle-none}
 
 -- at the end the receipts are the parts of the jobs
-ended-parts : (types : List Object) (p : Progress) → IsTold types p → IsAtEnd p → AreParts types p.tries p.jobs p.outcomes (kinds p.receipts)
+ended-parts : (types : List Object) (p : Progress) → IsTold types p → IsAtEnd p → AreParts types p.tries p.jobs p.outcomes (receipt_kinds p.receipts)
 ended-parts types p told end =
     let idle = told.idle end in
-    let none_behind : told.behind ≡ [] = subst (λ k. AreBroken types (job_of p) k told.behind) idle.1 told.are_broken in
-    let none_now : told.now ≡ [] = subst (λ f. IsSoFar types (job_of p) f told.now) idle.0 told.so_far in
-    let all : kinds p.receipts ≡ told.ended =
+    let none_behind : told.behind ≡ [] = subst (λ k. AreBroken types (current_job p) k told.behind) idle.1 told.are_broken in
+    let none_now : told.now ≡ [] = subst (λ f. IsSoFar types (current_job p) f told.now) idle.0 told.so_far in
+    let all : receipt_kinds p.receipts ≡ told.ended =
     told.are ∙ ap (λ l. (told.ended ++ told.behind) ++ l) none_now ∙ append-nil (told.ended ++ told.behind)
     ∙ ap (λ l. told.ended ++ l) none_behind ∙ append-nil told.ended
     in
@@ -31,14 +31,14 @@ ended-parts types p told end =
 -- so is its report
 report-ended : (o : Start) (H : List Event) (w : ℕ) (p : Progress) (r : Report) → IsWorker o H w p → IsAtEnd p → IsReportOf p r → IsReport o H w p.jobs r
 report-ended o H w p r its end told =
-    let happened : kinds r.receipts.items ≡ kinds p.receipts = ap kinds told.receipts in
+    let happened : receipt_kinds r.receipts.items ≡ receipt_kinds p.receipts = ap receipt_kinds told.receipts in
     record {
       receipts = told.receipts ∙ sym its.receipts;
       as_many = ap length told.outcomes ∙ end;
       parts =
           subst (AreParts (objects o.store) o.tries p.jobs r.outcomes.items) (sym happened)
-          (subst (λ os. AreParts (objects o.store) o.tries p.jobs os (kinds p.receipts)) (sym told.outcomes)
-          (subst (λ n. AreParts (objects o.store) n p.jobs p.outcomes (kinds p.receipts)) its.tries (ended-parts (objects o.store) p its.told end)));
+          (subst (λ os. AreParts (objects o.store) o.tries p.jobs os (receipt_kinds p.receipts)) (sym told.outcomes)
+          (subst (λ n. AreParts (objects o.store) n p.jobs p.outcomes (receipt_kinds p.receipts)) its.tries (ended-parts (objects o.store) p its.told end)));
       replayed = λ t inside. subst (IsReplayed H t) (sym happened) (its.replayed t (rw told.outcomes at inside));
       ran = λ inside. its.ran (rw told.outcomes at inside);
       causes = λ reason inside. its.causes reason (rw told.outcomes at inside);

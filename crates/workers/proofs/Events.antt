@@ -12,8 +12,8 @@ use Rattle.object_trait.specs.declared.event.EventKind.TheVariants.{Commit}
 use Rattle.serial_order.specs.History.{begins, commits, is_begin, committed_by}
 use Rattle.serial_order.specs.Machine.{MayFollow, RunsOn, IsRun}
 use Rattle.worker_turns.specs.declared.outcome.Receipt.{Receipt}
-use Rattle.worker_turns.specs.Progress.{kinds}
-use Rattle.workers.specs.Events.{by, done_for, done_by}
+use Rattle.worker_turns.specs.Progress.{receipt_kinds}
+use Rattle.workers.specs.Events.{receipts_of, done_for, done_by}
 use Rattle.workers.specs.SharedState.{Start, past}
 
 -- ---- runs
@@ -53,19 +53,19 @@ done_by-more t es happened =
     flat_map-append (done_for t) es (happened ∷ []) ∙ ap (λ rest. done_by t es ++ rest) (append-nil (done_for t happened))
 
 -- what happened by one receipt more
-pub kinds-more : (receipts : List Receipt) (r : Receipt) → kinds (receipts ++ r ∷ []) ≡ kinds receipts ++ r.event.kind ∷ []
+pub kinds-more : (receipts : List Receipt) (r : Receipt) → receipt_kinds (receipts ++ r ∷ []) ≡ receipt_kinds receipts ++ r.event.kind ∷ []
 kinds-more receipts r = map-append (λ (s : Receipt). s.event.kind) receipts (r ∷ [])
 
 -- ---- the events of a worker
 
 -- among these and more
-by-append : (w place : ℕ) (es fs : List Event) → by w place (es ++ fs) ≡ by w place es ++ by w (place + length es) fs
-by-append w place [] fs = ap (λ n. by w n fs) (omega arith)
-by-append w place (e ∷ es) fs =
-    let rest : by w (suc place) (es ++ fs) ≡ by w (suc place) es ++ by w (place + suc (length es)) fs =
-    by-append w (suc place) es fs ∙ ap (λ n. by w (suc place) es ++ by w n fs) (omega arith)
+by-append : (w position : ℕ) (es fs : List Event) → receipts_of w position (es ++ fs) ≡ receipts_of w position es ++ receipts_of w (position + length es) fs
+by-append w position [] fs = ap (λ n. receipts_of w n fs) (omega arith)
+by-append w position (e ∷ es) fs =
+    let rest : receipts_of w (suc position) (es ++ fs) ≡ receipts_of w (suc position) es ++ receipts_of w (position + suc (length es)) fs =
+    by-append w (suc position) es fs ∙ ap (λ n. receipts_of w (suc position) es ++ receipts_of w n fs) (omega arith)
     in
-    with_rest (e.worker == w) (record { position = place; event = e }) (by w (suc place) (es ++ fs)) (by w (suc place) es) (by w (place + suc (length es)) fs) rest
+    with_rest (e.worker == w) (record { position = position; event = e }) (receipts_of w (suc position) (es ++ fs)) (receipts_of w (suc position) es) (receipts_of w (position + suc (length es)) fs) rest
   where
     with_rest : (b : Bool) (r : Receipt) (all front back : List Receipt) → all ≡ front ++ back → cond b (r ∷ all) all ≡ cond b (r ∷ front) front ++ back
     with_rest true r all front back same = ap (λ l. r ∷ l) same
@@ -97,19 +97,19 @@ module _ (o : Start) (H : List Event) (goes_on : o.store.history ++ past o H ≡
   pub begins-since : begins o.store.history ≤ begins H
   begins-since = rw goes_on at (begins-more o.store.history (past o H))
 
-  -- the worker of the event has it after its others, at its place
+  -- the worker of the event has it after its others, at its position
   pub by-own : (w : ℕ) (e : Event) → (e.worker == w) ≡ true
-      → by w (length o.store.history) (past o (H ++ e ∷ [])) ≡ by w (length o.store.history) (past o H) ++ (record { position = length H; event = e }) ∷ []
+      → receipts_of w (length o.store.history) (past o (H ++ e ∷ [])) ≡ receipts_of w (length o.store.history) (past o H) ++ (record { position = length H; event = e }) ∷ []
   by-own w e own =
       let n = length o.store.history in
-      ap (by w n) (past-more e) ∙ by-append w n (past o H) (e ∷ [])
-      ∙ ap (λ k. by w n (past o H) ++ by w k (e ∷ [])) start-short
-      ∙ ap (λ b. by w n (past o H) ++ cond b ((record { position = length H; event = e }) ∷ []) []) own
+      ap (receipts_of w n) (past-more e) ∙ by-append w n (past o H) (e ∷ [])
+      ∙ ap (λ k. receipts_of w n (past o H) ++ receipts_of w k (e ∷ [])) start-short
+      ∙ ap (λ b. receipts_of w n (past o H) ++ cond b ((record { position = length H; event = e }) ∷ []) []) own
 
   -- others have those that they had
-  pub by-others : (w : ℕ) (e : Event) → (e.worker == w) ≡ false → by w (length o.store.history) (past o (H ++ e ∷ [])) ≡ by w (length o.store.history) (past o H)
+  pub by-others : (w : ℕ) (e : Event) → (e.worker == w) ≡ false → receipts_of w (length o.store.history) (past o (H ++ e ∷ [])) ≡ receipts_of w (length o.store.history) (past o H)
   by-others w e other =
       let n = length o.store.history in
-      ap (by w n) (past-more e) ∙ by-append w n (past o H) (e ∷ [])
-      ∙ ap (λ b. by w n (past o H) ++ cond b ((record { position = n + length (past o H); event = e }) ∷ []) []) other
-      ∙ append-nil (by w n (past o H))
+      ap (receipts_of w n) (past-more e) ∙ by-append w n (past o H) (e ∷ [])
+      ∙ ap (λ b. receipts_of w n (past o H) ++ cond b ((record { position = n + length (past o H); event = e }) ∷ []) []) other
+      ∙ append-nil (receipts_of w n (past o H))

@@ -14,7 +14,7 @@ use Rattle.serial_order.specs.Held.{OwnAfter}
 use Rattle.store_laws.specs.Stored.{Stored, objects}
 use Rattle.store.specs.Calls.{noted}
 use Rattle.worker_turns.specs.declared.phase.Phase.TheVariants.{Idle}
-use Rattle.worker_turns.specs.Progress.{Progress, IsTold, IsFresh, IsAtEnd, open_of}
+use Rattle.worker_turns.specs.Progress.{Progress, IsTold, IsUnstarted, IsAtEnd, open_in_phase}
 use Rattle.worker_turns.specs.Turns.{Turns, HasOpen, TurnsAreTold}
 use Rattle.workers.specs.SharedState.{Start, SharedState, past, is_going, IsWorker, IsKeptSince, TakesTurn, TurnsAreKept}
 use Rattle.workers.proofs.Events.{past-more, goes_on-more}
@@ -51,13 +51,13 @@ module _ (o : Start) (s : SharedState) (kept : IsKeptSince o s) (w : ℕ) (let_i
       ]
 
   -- those that weren't let in did nothing
-  waiting-after : (v : ℕ) (r : Progress) → s.let_in ≤ v → slice_get (set s.workers w q) v ≡ Some r → IsFresh r
-  waiting-after v r late now = who (λ k z. s.let_in ≤ k → IsFresh z) (λ early. absurd (omega (arith, early, let_in))) (λ k z other old early. kept.waiting k z early old) v r now late
+  waiting-after : (v : ℕ) (r : Progress) → s.let_in ≤ v → slice_get (set s.workers w q) v ≡ Some r → IsUnstarted r
+  waiting-after v r late now = who (λ k z. s.let_in ≤ k → IsUnstarted z) (λ early. absurd (omega (arith, early, let_in))) (λ k z other old early. kept.waiting k z early old) v r now late
 
   -- fewer are going than there are workers, where this one isn't
   few-going : p.phase ≡ Idle → open_count (summary s.store.history) < open_count (summary o.store.history) + length o.jobs
   few-going idle =
-      let fewer = count-fewer is_going s.workers w p there (ap (λ f. is_some (open_of f)) idle) in
+      let fewer = count-fewer is_going s.workers w p there (ap (λ f. is_some (open_in_phase f)) idle) in
       let as_many : length s.workers ≡ length o.jobs = sym (length-map s.workers (λ (r : Progress). r.jobs)) ∙ ap length kept.jobs in
       let now = kept.open_now in
       omega (arith, fewer, as_many, now)
@@ -81,13 +81,13 @@ module _ (o : Start) (s : SharedState) (kept : IsKeptSince o s) (w : ℕ) (let_i
         waiting = waiting-after;
         inside = rw (past-more o H kept.goes_on e) (All-push (λ (f : Event). f.worker < s.let_in) (past o H) e kept.inside let_in);
         owners = λ t new open_now.
-            elim (open-whose (summary H) happened (open_of p.phase) (open_of q.phase) told_it.leads t (sym (last.opened t) ∙ open_now)) [
+            elim (open-whose (summary H) happened (open_in_phase p.phase) (open_in_phase q.phase) told_it.leads t (sym (last.opened t) ∙ open_now)) [
               | inl own ↦ owner-own s.workers w p q there t own
               | inr old ↦ owner-other s.workers w p q there t (kept.owners t new old.0) old.1
             ];
         open_now =
             going-after s.workers w p q there (open_count (summary H)) (open_count (summary (H ++ e ∷ []))) (open_count (summary o.store.history)) kept.open_now
-            (going-counts happened (open_of p.phase) (open_of q.phase) told_it.leads _ _ last.counts);
+            (going-counts happened (open_in_phase p.phase) (open_in_phase q.phase) told_it.leads _ _ last.counts);
         few_let_in = rw (length-set s.workers w q) kept.few_let_in;
         few = rw (length-set s.workers w q) kept.few;
       }
@@ -119,7 +119,7 @@ told-after tells o s kept w p there going new q turn =
     let its = kept.workers w p there in
     let same : objects s.store ≡ objects o.store = ap objects kept.store in
     tells s.store w p new q (subst (λ types. IsTold types p) (sym same) its.told) going
-    (has-open s.store.history (open_of p.phase) (λ t now. (its.owns t now).still_open)) turn
+    (has-open s.store.history (open_in_phase p.phase) (λ t now. (its.owns t now).still_open)) turn
 
 module _ (now : SummaryAfter) (in_run : TransactionsInRun) (opens : OpensAfter) (own : OwnAfter) (began : BeginnersAfter) (tells : TurnsAreTold) where
   -- with the store's event or without

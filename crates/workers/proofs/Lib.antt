@@ -9,7 +9,7 @@ pub mod Own
 pub mod Told
 pub mod Kept
 pub mod Endings
-pub mod Taking
+pub mod WorkerTurns
 pub mod Doings
 pub mod Reported
 pub mod Unstarted

@@ -7,7 +7,7 @@ use Rattle.object_trait.specs.declared.event.EventKind.TheVariants as kind
 use Rattle.object_trait.specs.declared.event.EventKind.TheVariants.{Begin, Op, Busy, Commit, Abort, Rollback}
 use Rattle.serial_order.specs.History.{Summary, is_open}
 use Rattle.serial_order.specs.After.{is_open_after, CountsTo}
-use Rattle.worker_turns.specs.Progress.{Progress, open_of}
+use Rattle.worker_turns.specs.Progress.{Progress, open_in_phase}
 use Rattle.workers.specs.SharedState.{is_going, HasOwner}
 use Rattle.workers.proofs.Lists.{found-set, found-others, count-set}
 use Rattle.workers.proofs.Turned.{Leads}
@@ -58,26 +58,26 @@ going-counts (Rollback t k) before now leads m n counts = absurd leads
 
 module _ (ps : List Progress) (w : ℕ) (p q : Progress) (there : slice_get ps w ≡ Some p) where
   -- its transaction is its own
-  pub owner-own : (t : ℕ) → open_of q.phase ≡ Some t → HasOwner t (set ps w q)
+  pub owner-own : (t : ℕ) → open_in_phase q.phase ≡ Some t → HasOwner t (set ps w q)
   owner-own t now = record { w = w; p = q; there = found-set ps w p q there; owns = now }
 
   -- one that wasn't its own is another's still
-  pub owner-other : (t : ℕ) → HasOwner t ps → (open_of p.phase ≡ Some t → ⊥) → HasOwner t (set ps w q)
+  pub owner-other : (t : ℕ) → HasOwner t ps → (open_in_phase p.phase ≡ Some t → ⊥) → HasOwner t (set ps w q)
   owner-other t owner apart =
       elim (cases_eq owner.w w) [
         | inl same ↦
             let its : owner.p ≡ p = same_Some owner.p p (sym owner.there ∙ ap (slice_get ps) same ∙ there) in
-            absurd (apart (ap (λ (r : Progress). open_of r.phase) (sym its) ∙ owner.owns))
+            absurd (apart (ap (λ (r : Progress). open_in_phase r.phase) (sym its) ∙ owner.owns))
         | inr other ↦ record { w = owner.w; p = owner.p; there = found-others ps w q owner.w other ∙ owner.there; owns = owner.owns }
       ]
 
   -- where the worker has open what it had, each has its owner still
-  pub owner-same : open_of q.phase ≡ open_of p.phase → (t : ℕ) → HasOwner t ps → HasOwner t (set ps w q)
+  pub owner-same : open_in_phase q.phase ≡ open_in_phase p.phase → (t : ℕ) → HasOwner t ps → HasOwner t (set ps w q)
   owner-same leads t owner =
       elim (cases_eq owner.w w) [
         | inl same ↦
             let its : owner.p ≡ p = same_Some owner.p p (sym owner.there ∙ ap (slice_get ps) same ∙ there) in
-            owner-own t (leads ∙ ap (λ (r : Progress). open_of r.phase) (sym its) ∙ owner.owns)
+            owner-own t (leads ∙ ap (λ (r : Progress). open_in_phase r.phase) (sym its) ∙ owner.owns)
         | inr other ↦ record { w = owner.w; p = owner.p; there = found-others ps w q owner.w other ∙ owner.there; owns = owner.owns }
       ]
 

@@ -11,7 +11,7 @@ use Rattle.workers.specs.declared.fault.WorkFault.TheVariants.{BadWorkers, BadTr
 use Rattle.workers.specs.declared.team.Team.{Team}
 use Rattle.workers.specs.SharedState.{Start}
 use Rattle.workers.specs.Worked.{DidNothing, Works, are_workers, are_tries}
-use Rattle.workers.specs.Doing.{IsNoTeam, IsTeam, IsAtStart}
+use Rattle.workers.specs.SharedCalls.{IsNoTeam, IsTeam, IsAtStart}
 
 -- there are at most 16 workers
 workers-few : (n : ℕ) → are_workers n ≡ true → n ≤ 16

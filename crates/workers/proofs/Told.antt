@@ -7,7 +7,7 @@ use Rattle.object_trait.specs.declared.event.EventKind.TheVariants.{Commit}
 use Rattle.serial_order.specs.Operations.{of}
 use Rattle.serial_order.specs.History.{surviving}
 use Rattle.store_laws.specs.Stored.{objects}
-use Rattle.worker_turns.specs.Progress.{Progress, IsTold, kinds, open_of}
+use Rattle.worker_turns.specs.Progress.{Progress, IsTold, receipt_kinds, open_in_phase}
 use Rattle.worker_turns.specs.Turns.{receipt}
 use Rattle.workers.specs.Events.{done_by, IsReplayed}
 use Rattle.workers.specs.SharedState.{Start, past, IsWorker}
@@ -29,22 +29,22 @@ module _ (o : Start) (H : List Event) (goes_on : o.store.history ++ past o H ≡
   pub own-worker : (w : ℕ) (happened : EventKind) → Follows H (event w happened) → (p q : Progress) → IsWorker o H w p → IsNoted o H w happened p q
       → IsTold (objects o.store) q → IsWorker o (H ++ event w happened ∷ []) w q
   own-worker w happened last p q its noted told =
-      let es = kinds p.receipts in
-      let more : kinds q.receipts ≡ es ++ happened ∷ [] = ap kinds noted.receipts ∙ kinds-more p.receipts (receipt H w happened) in
+      let es = receipt_kinds p.receipts in
+      let more : receipt_kinds q.receipts ≡ es ++ happened ∷ [] = ap receipt_kinds noted.receipts ∙ kinds-more p.receipts (receipt H w happened) in
       record {
         tries = noted.tries ∙ its.tries;
         receipts =
             by-own o H goes_on w (event w happened) (eq-eqb w w refl) ∙ ap (λ l. l ++ receipt H w happened ∷ []) its.receipts ∙ sym noted.receipts;
         told = told;
-        owns = leads-own o H w happened last goes_on (open_of p.phase) (open_of q.phase) noted.leads its.owns;
+        owns = leads-own o H w happened last goes_on (open_in_phase p.phase) (open_in_phase q.phase) noted.leads its.owns;
         own_operations = λ t now.
-            leads-operations H w happened last es (open_of p.phase) (open_of q.phase) noted.leads its.own_operations its.none_ahead t now
+            leads-operations H w happened last es (open_in_phase p.phase) (open_in_phase q.phase) noted.leads its.own_operations its.none_ahead t now
             ∙ sym (ap (done_by t) more);
         replayed = λ t inside.
             subst (IsReplayed (H ++ event w happened ∷ []) t) (sym more)
             (elim (noted.committed t inside) [
               | inl before ↦ replayed-more H (event w happened) last t es (its.replayed t before)
-              | inr now ↦ commits-now H w happened last es (open_of p.phase) (open_of q.phase) noted.leads its.own_operations t now
+              | inr now ↦ commits-now H w happened last es (open_in_phase p.phase) (open_in_phase q.phase) noted.leads its.own_operations t now
             ]);
         none_ahead = λ t ahead. ap (done_by t) more ∙ ahead-more H (event w happened) last es its.none_ahead t ahead;
         ran = λ inside. its.ran (noted.ran inside);
@@ -54,7 +54,7 @@ module _ (o : Start) (H : List Event) (goes_on : o.store.history ++ past o H ≡
 
   -- after another worker's event, which isn't of its transaction
   pub other-worker : (w : ℕ) (happened : EventKind) → Follows H (event w happened) → (v : ℕ) (r : Progress) → (w ≡ v → ⊥)
-      → ((t : ℕ) → open_of r.phase ≡ Some t → IsApart t happened) → IsWorker o H v r → IsWorker o (H ++ event w happened ∷ []) v r
+      → ((t : ℕ) → open_in_phase r.phase ≡ Some t → IsApart t happened) → IsWorker o H v r → IsWorker o (H ++ event w happened ∷ []) v r
   other-worker w happened last v r other apart its =
       let e = event w happened in
       record {
@@ -63,7 +63,7 @@ module _ (o : Start) (H : List Event) (goes_on : o.store.history ++ past o H ≡
         told = its.told;
         owns = λ t now. let own = its.owns t now in stays-own o H e last v t own (open-stays H e last t (apart t now) own.still_open);
         own_operations = λ t now. own-stays H e last t (apart t now) ∙ its.own_operations t now;
-        replayed = λ t inside. replayed-stays H e last t (kinds r.receipts) (its.replayed t inside);
+        replayed = λ t inside. replayed-stays H e last t (receipt_kinds r.receipts) (its.replayed t inside);
         none_ahead = λ t ahead. let more = begins-more H (e ∷ []) in its.none_ahead t (omega (arith, more, ahead));
         ran = its.ran;
         causes = λ reason inside. cause-stays o H e last reason (its.causes reason inside);
@@ -72,14 +72,14 @@ module _ (o : Start) (H : List Event) (goes_on : o.store.history ++ past o H ≡
 
   -- what one worker's event is of isn't another's
   pub others-apart : (w : ℕ) (happened : EventKind) (p q : Progress) → IsWorker o H w p → IsNoted o H w happened p q → (v : ℕ) (r : Progress) → IsWorker o H v r
-      → (w ≡ v → ⊥) → (t : ℕ) → open_of r.phase ≡ Some t → IsApart t happened
+      → (w ≡ v → ⊥) → (t : ℕ) → open_in_phase r.phase ≡ Some t → IsApart t happened
   others-apart w happened p q its noted v r known other t now =
-      leads-apart happened (open_of p.phase) (open_of q.phase) noted.leads t (λ same. other (own-apart o H w v t (its.owns t same) (known.owns t now)))
+      leads-apart happened (open_in_phase p.phase) (open_in_phase q.phase) noted.leads t (λ same. other (own-apart o H w v t (its.owns t same) (known.owns t now)))
 
   -- after a turn of its own with no event
   pub quiet-worker : (w : ℕ) (p q : Progress) → IsWorker o H w p → IsQuiet o H p q → IsTold (objects o.store) q → IsWorker o H w q
   quiet-worker w p q its quiet told =
-      let same : kinds q.receipts ≡ kinds p.receipts = ap kinds quiet.receipts in
+      let same : receipt_kinds q.receipts ≡ receipt_kinds p.receipts = ap receipt_kinds quiet.receipts in
       record {
         tries = quiet.tries ∙ its.tries;
         receipts = its.receipts ∙ sym quiet.receipts;

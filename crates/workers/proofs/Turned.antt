@@ -20,8 +20,8 @@ use Rattle.worker_turns.specs.declared.outcome.Outcome.{Outcome}
 use Rattle.worker_turns.specs.declared.outcome.Outcome.TheVariants.{Committed, GaveUp, Refused, NotRun}
 use Rattle.worker_turns.specs.declared.phase.Phase.{Phase}
 use Rattle.worker_turns.specs.declared.phase.Phase.TheVariants.{Idle, Going, Breaking, Refusing}
-use Rattle.worker_turns.specs.Progress.{Progress, job_of, open_of}
-use Rattle.worker_turns.specs.Turns.{receipt, goes_to, gets, ends, breaks, Begins, Calls, GivesBack, Refuses, CallsOrCommits, TurnsIn, Turns}
+use Rattle.worker_turns.specs.Progress.{Progress, current_job, open_in_phase}
+use Rattle.worker_turns.specs.Turns.{receipt, goes_to, gets, ends, breaks, Begins, Calls, GivesBack, RefusesJob, CallsOrCommits, TurnsIn, Turns}
 use Rattle.workers.specs.SharedState.{Start, HasCause, IsWorker}
 use Rattle.workers.proofs.Causes.{begin-cause, call-cause}
 
@@ -42,7 +42,7 @@ pub record IsNoted (o : Start) (H : List Event) (w : ℕ) (happened : EventKind)
   pub jobs : q.jobs ≡ p.jobs
   pub tries : q.tries ≡ p.tries
   pub receipts : q.receipts ≡ p.receipts ++ receipt H w happened ∷ []
-  pub leads : Leads happened (open_of p.phase) (open_of q.phase)
+  pub leads : Leads happened (open_in_phase p.phase) (open_in_phase q.phase)
   pub committed : (t : ℕ) → Contains q.outcomes (Committed t) → Contains p.outcomes (Committed t) ⊎ (happened ≡ Commit t)
   pub ran : Contains q.outcomes NotRun → Contains p.outcomes NotRun
   pub causes : (r : Refusal) → Contains q.outcomes (Refused r) → HasCause o H r
@@ -53,7 +53,7 @@ pub record IsQuiet (o : Start) (H : List Event) (p q : Progress) : Type 0 where
   pub jobs : q.jobs ≡ p.jobs
   pub tries : q.tries ≡ p.tries
   pub receipts : q.receipts ≡ p.receipts
-  pub leads : open_of q.phase ≡ open_of p.phase
+  pub leads : open_in_phase q.phase ≡ open_in_phase p.phase
   pub committed : (t : ℕ) → Contains q.outcomes (Committed t) → Contains p.outcomes (Committed t)
   pub ran : Contains q.outcomes NotRun → Contains p.outcomes NotRun
   pub causes : (r : Refusal) → Contains q.outcomes (Refused r) → HasCause o H r
@@ -108,7 +108,7 @@ refusing_refusing u more reason t done r same = cc
 
 module _ (o : Start) (old : Stored) (w : ℕ) (p : Progress) (its : IsWorker o old.history w p) where
   -- its try goes on by the event
-  goes-noted : (happened : EventKind) (phase : Phase) → Leads happened (open_of p.phase) (open_of phase)
+  goes-noted : (happened : EventKind) (phase : Phase) → Leads happened (open_in_phase p.phase) (open_in_phase phase)
       → ((t done : ℕ) (r : Refusal) → phase ≡ Refusing t done r → ⊥) → IsNoted o old.history w happened p (goes_to phase (gets old.history w happened p))
   goes-noted happened phase leads never = record {
     jobs = refl;
@@ -122,7 +122,7 @@ module _ (o : Start) (old : Stored) (w : ℕ) (p : Progress) (its : IsWorker o o
   }
 
   -- its try is broken by the event
-  breaks-noted : (happened : EventKind) → Leads happened (open_of p.phase) None → IsNoted o old.history w happened p (breaks (gets old.history w happened p))
+  breaks-noted : (happened : EventKind) → Leads happened (open_in_phase p.phase) None → IsNoted o old.history w happened p (breaks (gets old.history w happened p))
   breaks-noted happened leads = record {
     jobs = refl;
     tries = refl;
@@ -148,7 +148,7 @@ module _ (o : Start) (old : Stored) (w : ℕ) (p : Progress) (its : IsWorker o o
   ran-more outcome other inside = elim (Contains-push_cases p.outcomes outcome NotRun inside) [ inl before ↦ before | inr now ↦ absurd (other now) ]
 
   -- its job ends with the event
-  ends-noted : (happened : EventKind) (outcome : Outcome) → Leads happened (open_of p.phase) None
+  ends-noted : (happened : EventKind) (outcome : Outcome) → Leads happened (open_in_phase p.phase) None
       → (outcome ≡ NotRun → ⊥) → ((t : ℕ) → outcome ≡ Committed t → happened ≡ Commit t) → ((r : Refusal) → outcome ≡ Refused r → HasCause o old.history r)
       → IsNoted o old.history w happened p (ends outcome (gets old.history w happened p))
   ends-noted happened outcome leads other commits cause = record {
@@ -168,7 +168,7 @@ module _ (o : Start) (old : Stored) (w : ℕ) (p : Progress) (its : IsWorker o o
     jobs = refl;
     tries = refl;
     receipts = refl;
-    leads = sym (ap open_of idle);
+    leads = sym (ap open_in_phase idle);
     committed = λ t inside.
         elim (Contains-push_cases p.outcomes (Refused reason) (Committed t) inside) [ inl before ↦ before | inr now ↦ absurd (refused_committed t reason now) ];
     ran = ran-more (Refused reason) (refused_not_run reason);
@@ -177,7 +177,7 @@ module _ (o : Start) (old : Stored) (w : ℕ) (p : Progress) (its : IsWorker o o
   }
 
   -- its call is refused
-  goes-quiet : (t done : ℕ) (reason : Refusal) → open_of p.phase ≡ Some t → HasCause o old.history reason → IsQuiet o old.history p (goes_to (Refusing t done reason) p)
+  goes-quiet : (t done : ℕ) (reason : Refusal) → open_in_phase p.phase ≡ Some t → HasCause o old.history reason → IsQuiet o old.history p (goes_to (Refusing t done reason) p)
   goes-quiet t done reason going cause = record {
     jobs = refl;
     tries = refl;
@@ -210,24 +210,24 @@ module _ (o : Start) (old : Stored) (w : ℕ) (p : Progress) (its : IsWorker o o
   begins-turned : p.phase ≡ Idle → open_count (summary old.history) < open_count (summary o.store.history) + length o.jobs → Begins old w p new q → IsTurned o old w p new q
   begins-turned idle few (inl (is, same)) =
       let t = begins old.history in
-      made (Begin t) _ is same (goes-noted o old w p its (Begin t) (Going t 0) (ap open_of idle, refl) (λ u done r e. going_refusing t 0 u done r e))
+      made (Begin t) _ is same (goes-noted o old w p its (Begin t) (Going t 0) (ap open_in_phase idle, refl) (λ u done r e. going_refusing t 0 u done r e))
   begins-turned idle few (inr (inl (r, (is, reason), same))) =
       let cause : HasCause o old.history r = cause-of command.Begin r (λ why refused. begin-cause o old.history (objects old) why few (rw max at refused)) reason in
       kept _ is same (ends-quiet o old w p its r idle cause)
   begins-turned idle few (inr (inr (is, same))) = kept _ is same (ends-quiet o old w p its NoMemory idle tt)
 
   -- in a try
-  calls-turned : (t done : ℕ) (call : Call) → open_of p.phase ≡ Some t → Calls t done call old w p new q → IsTurned o old w p new q
+  calls-turned : (t done : ℕ) (call : Call) → open_in_phase p.phase ≡ Some t → Calls t done call old w p new q → IsTurned o old w p new q
   calls-turned t done call going (inl (e, reply, is, same)) =
       made e _ is same
-      (goes-noted o old w p its e (Going t (done + 1)) (subst (λ k. Leads k (open_of p.phase) (Some t)) (sym reply.is) (going, refl))
+      (goes-noted o old w p its e (Going t (done + 1)) (subst (λ k. Leads k (open_in_phase p.phase) (Some t)) (sym reply.is) (going, refl))
       (λ u more r z. going_refusing t (done + 1) u more r z))
   calls-turned t done call going (inr (inl (e, none, is, same))) =
       made e _ is same (goes-noted o old w p its e (Breaking t done) (leads none.is) (λ u more r z. breaking_refusing t done u more r z))
     where
-      leads : ((u : ℕ) × (e ≡ Busy (place_of none.c) t (call.0) u)) ⊎ (e ≡ kind.None t (call.0) (place_of none.c)) → Leads e (open_of p.phase) (Some t)
-      leads (inl busy) = subst (λ k. Leads k (open_of p.phase) (Some t)) (sym (busy.1)) (going, refl)
-      leads (inr nothing) = subst (λ k. Leads k (open_of p.phase) (Some t)) (sym nothing) (going, refl)
+      leads : ((u : ℕ) × (e ≡ Busy (place_of none.c) t (call.0) u)) ⊎ (e ≡ kind.None t (call.0) (place_of none.c)) → Leads e (open_in_phase p.phase) (Some t)
+      leads (inl busy) = subst (λ k. Leads k (open_in_phase p.phase) (Some t)) (sym (busy.1)) (going, refl)
+      leads (inr nothing) = subst (λ k. Leads k (open_in_phase p.phase) (Some t)) (sym nothing) (going, refl)
   calls-turned t done call going (inr (inr (inl (r, (is, reason), same)))) =
       let cause : HasCause o old.history r =
       cause-of (command.Call t (call.0) (call.1)) r (λ why refused. call-cause o old.history (objects old) t (call.0) (call.1) why (rw max at refused)) reason
@@ -238,21 +238,21 @@ module _ (o : Start) (old : Stored) (w : ℕ) (p : Progress) (its : IsWorker o o
       (ends-noted o old w p its (Abort t) (Refused NoMemory) (going, refl) (refused_not_run NoMemory) (λ u z. absurd (refused_committed u NoMemory z))
       (λ r z. subst (HasCause o old.history) (same_reason NoMemory r z) tt))
 
-  calls_or_commits-turned : (t done : ℕ) (next : Option Call) → open_of p.phase ≡ Some t → CallsOrCommits t done next old w p new q → IsTurned o old w p new q
+  calls_or_commits-turned : (t done : ℕ) (next : Option Call) → open_in_phase p.phase ≡ Some t → CallsOrCommits t done next old w p new q → IsTurned o old w p new q
   calls_or_commits-turned t done None going (is, same) =
       made (Commit t) _ is same
       (ends-noted o old w p its (Commit t) (Committed t) (going, refl) (committed_not_run t) (λ u z. ap Commit (same_number t u z)) (λ r z. absurd (committed_refused t r z)))
   calls_or_commits-turned t done (Some call) going turn = calls-turned t done call going turn
 
   -- after a call with no reply
-  gives_back-turned : (t : ℕ) → open_of p.phase ≡ Some t → GivesBack t old w p new q → IsTurned o old w p new q
+  gives_back-turned : (t : ℕ) → open_in_phase p.phase ≡ Some t → GivesBack t old w p new q → IsTurned o old w p new q
   gives_back-turned t going (is, inl (fewer, same)) = made (Abort t) _ is same (breaks-noted o old w p its (Abort t) (going, refl))
   gives_back-turned t going (is, inr (last, same)) =
       made (Abort t) _ is same
       (ends-noted o old w p its (Abort t) GaveUp (going, refl) gave_up_not_run (λ u z. absurd (gave_up_committed u z)) (λ r z. absurd (gave_up_refused r z)))
 
   -- after a refused call
-  refuses-turned : (t : ℕ) (reason : Refusal) → open_of p.phase ≡ Some t → HasCause o old.history reason → Refuses t reason old w p new q → IsTurned o old w p new q
+  refuses-turned : (t : ℕ) (reason : Refusal) → open_in_phase p.phase ≡ Some t → HasCause o old.history reason → RefusesJob t reason old w p new q → IsTurned o old w p new q
   refuses-turned t reason going cause (is, same) =
       made (Abort t) _ is same
       (ends-noted o old w p its (Abort t) (Refused reason) (going, refl) (refused_not_run reason) (λ u z. absurd (refused_committed u reason z))
@@ -262,9 +262,9 @@ module _ (o : Start) (old : Stored) (w : ℕ) (p : Progress) (its : IsWorker o o
   in-phase : (phase : Phase) → p.phase ≡ phase → (p.phase ≡ Idle → open_count (summary old.history) < open_count (summary o.store.history) + length o.jobs)
       → TurnsIn phase old w p new q → IsTurned o old w p new q
   in-phase Idle is few turn = begins-turned is (few is) turn
-  in-phase (Going t done) is few turn = calls_or_commits-turned t done (slice_get (job_of p) done) (ap open_of is) turn
-  in-phase (Breaking t done) is few turn = gives_back-turned t (ap open_of is) turn
-  in-phase (Refusing t done r) is few turn = refuses-turned t r (ap open_of is) (its.refusing t done r is) turn
+  in-phase (Going t done) is few turn = calls_or_commits-turned t done (slice_get (current_job p) done) (ap open_in_phase is) turn
+  in-phase (Breaking t done) is few turn = gives_back-turned t (ap open_in_phase is) turn
+  in-phase (Refusing t done r) is few turn = refuses-turned t r (ap open_in_phase is) (its.refusing t done r is) turn
 
   -- where fewer are going than there are workers, if this one isn't
   pub turned : (p.phase ≡ Idle → open_count (summary old.history) < open_count (summary o.store.history) + length o.jobs) → Turns old w p new q → IsTurned o old w p new q

@@ -9,10 +9,10 @@ use Rattle.serial_order.specs.History.{commits, surviving}
 use Rattle.serial_order.specs.declared.entry.Entry.{Entry}
 use Rattle.worker_turns.specs.declared.outcome.Receipt.{Receipt}
 
--- the events of worker w among these, the first of which has this place in the history, each with its place
-abbrev pub by : ℕ → ℕ → List Event → List Receipt
-by w place [] = []
-by w place (e ∷ es) = if e.worker == w then (record { position = place; event = e }) ∷ by w (suc place) es else by w (suc place) es
+-- the events of worker w among these, the first of which has this position in the history, each with its position
+abbrev pub receipts_of : ℕ → ℕ → List Event → List Receipt
+receipts_of w position [] = []
+receipts_of w position (e ∷ es) = if e.worker == w then (record { position = position; event = e }) ∷ receipts_of w (suc position) es else receipts_of w (suc position) es
 
 -- the operation that t executed by this
 abbrev pub done_for : ℕ → EventKind → List Entry

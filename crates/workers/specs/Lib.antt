@@ -1,5 +1,5 @@
 pub mod Events
 pub mod SharedState
 pub mod Worked
-pub mod Doing
+pub mod SharedCalls
 pub mod Examples

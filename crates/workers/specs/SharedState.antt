@@ -13,9 +13,9 @@ use Rattle.store_laws.specs.Stored.{Stored, objects}
 use Rattle.jobs_text.specs.Jobs.{Call}
 use Rattle.worker_turns.specs.declared.outcome.Outcome.TheVariants.{Committed, Refused, NotRun}
 use Rattle.worker_turns.specs.declared.phase.Phase.TheVariants.{Refusing}
-use Rattle.worker_turns.specs.Progress.{Progress, IsTold, IsFresh, IsAtEnd, kinds, open_of}
+use Rattle.worker_turns.specs.Progress.{Progress, IsTold, IsUnstarted, IsAtEnd, receipt_kinds, open_in_phase}
 use Rattle.worker_turns.specs.Turns.{Turns}
-use Rattle.workers.specs.Events.{by, done_by, IsReplayed}
+use Rattle.workers.specs.Events.{receipts_of, done_by, IsReplayed}
 
 -- ---- what is there
 
@@ -37,7 +37,7 @@ past o H = drop (length o.store.history) H
 
 -- a transaction of its own is open
 abbrev pub is_going : Progress → Bool
-is_going p = is_some (open_of p.phase)
+is_going p = is_some (open_in_phase p.phase)
 
 -- ---- what is known of a worker
 
@@ -57,16 +57,16 @@ HasCause o H _ = Unit {0}
 pub record IsWorker (o : Start) (H : List Event) (w : ℕ) (p : Progress) : Type 0 where
   pub tries : p.tries ≡ o.tries
   -- its receipts are its events since the start
-  pub receipts : by w (length o.store.history) (past o H) ≡ p.receipts
+  pub receipts : receipts_of w (length o.store.history) (past o H) ≡ p.receipts
   -- and the parts of its jobs
   pub told : IsTold (objects o.store) p
   -- the transaction of its try is its own
-  pub owns : (t : ℕ) → open_of p.phase ≡ Some t → IsOwn o H w t
-  pub own_operations : (t : ℕ) → open_of p.phase ≡ Some t → of t (surviving H) ≡ done_by t (kinds p.receipts)
+  pub owns : (t : ℕ) → open_in_phase p.phase ≡ Some t → IsOwn o H w t
+  pub own_operations : (t : ℕ) → open_in_phase p.phase ≡ Some t → of t (surviving H) ≡ done_by t (receipt_kinds p.receipts)
   -- what it noted of transactions that committed is what the serial order replays
-  pub replayed : (t : ℕ) → Contains p.outcomes (Committed t) → IsReplayed H t (kinds p.receipts)
+  pub replayed : (t : ℕ) → Contains p.outcomes (Committed t) → IsReplayed H t (receipt_kinds p.receipts)
   -- and nothing of those that haven't begun
-  pub none_ahead : (t : ℕ) → begins H ≤ t → done_by t (kinds p.receipts) ≡ []
+  pub none_ahead : (t : ℕ) → begins H ≤ t → done_by t (receipt_kinds p.receipts) ≡ []
   -- none of its jobs counts as not run
   pub ran : Contains p.outcomes NotRun → ⊥
   -- refusals have a cause
@@ -80,7 +80,7 @@ pub record HasOwner (t : ℕ) (ps : List Progress) : Type 0 where
   pub w : ℕ
   pub p : Progress
   pub there : slice_get ps w ≡ Some p
-  pub owns : open_of p.phase ≡ Some t
+  pub owns : open_in_phase p.phase ≡ Some t
 
 pub record IsKeptSince (o : Start) (s : SharedState) : Type 0 where
   -- of the store nothing but the history changed, and that went on
@@ -89,7 +89,7 @@ pub record IsKeptSince (o : Start) (s : SharedState) : Type 0 where
   pub jobs : map (λ (p : Progress). p.jobs) s.workers ≡ o.jobs
   pub workers : (w : ℕ) (p : Progress) → slice_get s.workers w ≡ Some p → IsWorker o s.store.history w p
   -- those that weren't let in did nothing
-  pub waiting : (w : ℕ) (p : Progress) → s.let_in ≤ w → slice_get s.workers w ≡ Some p → IsFresh p
+  pub waiting : (w : ℕ) (p : Progress) → s.let_in ≤ w → slice_get s.workers w ≡ Some p → IsUnstarted p
   pub inside : All (λ (e : Event). e.worker < s.let_in) (past o s.store.history)
   -- the transactions that began since the start and are open are those of the workers
   pub owners : (t : ℕ) → begins o.store.history ≤ t → is_open (summary s.store.history) t ≡ true → HasOwner t s.workers
@@ -119,7 +119,7 @@ HasEnded s w = (p : Progress) → w < s.let_in → slice_get s.workers w ≡ Som
 abbrev pub StartIsKept : Type 0
 StartIsKept =
     (o : Start) (s : SharedState) → s.store ≡ o.store → map (λ (p : Progress). p.jobs) s.workers ≡ o.jobs
-    → ((w : ℕ) (p : Progress) → slice_get s.workers w ≡ Some p → IsFresh p × (p.tries ≡ o.tries)) → 0 < o.tries
+    → ((w : ℕ) (p : Progress) → slice_get s.workers w ≡ Some p → IsUnstarted p × (p.tries ≡ o.tries)) → 0 < o.tries
     → s.let_in ≤ length s.workers → length s.workers ≤ most_workers → IsRun (objects o.store) o.store.history → IsKeptSince o s
 
 -- one more is let in

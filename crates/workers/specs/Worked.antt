@@ -9,10 +9,10 @@ use Rattle.jobs_text.specs.Jobs.{Call}
 use Rattle.worker_turns.specs.declared.outcome.Outcome.TheVariants.{Committed, Refused, NotRun}
 use Rattle.worker_turns.specs.declared.outcome.Report.{Report}
 use Rattle.worker_turns.specs.Parts.{AreParts}
-use Rattle.worker_turns.specs.Progress.{Progress, kinds}
+use Rattle.worker_turns.specs.Progress.{Progress, receipt_kinds}
 use Rattle.workers.specs.declared.fault.WorkFault.{WorkFault}
 use Rattle.workers.specs.declared.fault.WorkFault.TheVariants.{BadWorkers, BadTries, NoMemory}
-use Rattle.workers.specs.Events.{by, IsReplayed}
+use Rattle.workers.specs.Events.{receipts_of, IsReplayed}
 use Rattle.workers.specs.SharedState.{Start, SharedState, past, HasCause, IsKeptSince, HasEnded}
 
 -- ---- one report
@@ -20,11 +20,11 @@ use Rattle.workers.specs.SharedState.{Start, SharedState, past, HasCause, IsKept
 -- what worker w noted, whose jobs were all run: its events since the start, at their places and in their order, which are the parts
 -- of its jobs by their outcomes; and what the history owes each outcome
 pub record IsReport (o : Start) (H : List Event) (w : ℕ) (jobs : List (List Call)) (r : Report) : Type 0 where
-  pub receipts : r.receipts.items ≡ by w (length o.store.history) (past o H)
+  pub receipts : r.receipts.items ≡ receipts_of w (length o.store.history) (past o H)
   pub as_many : length r.outcomes.items ≡ length jobs
-  pub parts : AreParts (objects o.store) o.tries jobs r.outcomes.items (kinds r.receipts.items)
+  pub parts : AreParts (objects o.store) o.tries jobs r.outcomes.items (receipt_kinds r.receipts.items)
   pub ran : Contains r.outcomes.items NotRun → ⊥
-  pub replayed : (t : ℕ) → Contains r.outcomes.items (Committed t) → IsReplayed H t (kinds r.receipts.items)
+  pub replayed : (t : ℕ) → Contains r.outcomes.items (Committed t) → IsReplayed H t (receipt_kinds r.receipts.items)
   pub causes : (reason : Refusal) → Contains r.outcomes.items (Refused reason) → HasCause o H reason
 
 -- what there is of a worker that wasn't started

@@ -3,7 +3,7 @@
 ghost use Rattle.std.specs.Prelude.{◌≡◌, ◌<◌, ◌≤◌, ◌%◌, ◌⊎◌, map, length, vec_len, Some};
 ghost use Rattle.rand_pcg.specs.Pcg.{pcg32};
 ghost use Rattle.jobs_text.specs.Jobs.{calls_in};
-ghost use Rattle.workers.specs.Doing.{AreGoing, HaveEnded};
+ghost use Rattle.workers.specs.SharedCalls.{AreGoing, HaveEnded};
 ghost use Rattle.workers.specs.Worked.{DidNothing, Works};
 ghost use Rattle.workers.specs.declared.fault.WorkFault.{WorkFault as WorkFaultValue};
 
@@ -88,9 +88,9 @@ fn draw_turns<R: Recovery, S: HasStart>(shared: &mut Shared<R, S>, mut going: Ve
 {
     let mut words = Lcg64Xsh32::new(seed, 0);
     while !going.is_empty() {
-        let place = pick(&mut words, going.len() as u32) as usize;
-        if shared.step(going[place]) {
-            going.remove(place);
+        let position = pick(&mut words, going.len() as u32) as usize;
+        if shared.step(going[position]) {
+            going.remove(position);
         }
     }
 }

@@ -5,11 +5,11 @@ mod drawn;
 mod fault;
 mod gate;
 mod laws;
+mod pauses;
 mod returned;
 mod run;
 mod shared;
 mod team;
-mod waiting;
 
 pub use drawn::{pick, stress};
 pub use fault::WorkFault;

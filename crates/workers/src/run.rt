@@ -2,15 +2,15 @@
 
 ghost use Rattle.std.specs.Prelude.{◌≡◌, map, length, true, None, [], ◌≤◌, vec_capacity};
 ghost use Rattle.jobs_text.specs.Jobs.{calls_in};
-ghost use Rattle.workers.specs.Doing.{HaveEnded};
+ghost use Rattle.workers.specs.SharedCalls.{HaveEnded};
 ghost use Rattle.workers.specs.Worked.{DidNothing, Works, are_workers, are_tries};
 
 use crate::fault::WorkFault;
 use crate::gate::Gate;
+use crate::pauses::{take, wait_for_a_try};
 use crate::returned::Worked;
 use crate::shared::{HasStart, Shared};
 use crate::team::{Team, team_of};
-use crate::waiting::{take, wait_for_a_try};
 use jobs_text::Job;
 use object_trait::Recovery;
 use std::marker::Brand;

@@ -3,7 +3,7 @@
 ghost use Rattle.std.specs.Prelude.{◌≡◌, ◌≤◌, [], length, true, false, map, vec_len, vec_capacity};
 ghost use Rattle.serial_order.specs.Machine.{IsRun};
 ghost use Rattle.store_laws.specs.Stored.{objects};
-ghost use Rattle.workers.specs.Doing.{IsAtStart, LetsIn, TakesTurnIfAny, IsGoing, HaveEnded, AreGoing, LeavesOthers, broken_at};
+ghost use Rattle.workers.specs.SharedCalls.{IsAtStart, LetsIn, TakesTurnIfAny, IsGoing, HaveEnded, AreGoing, LeavesOthers, broken_at};
 ghost use Rattle.workers.specs.SharedState.{Start, SharedState, HasEnded};
 ghost use Rattle.workers.specs.Worked.{HasWorked};
 

@@ -2,7 +2,7 @@
 
 ghost use Rattle.std.specs.Prelude.{◌≡◌, ◌≤◌, [], true, false, length, map, IfOk, IfErr, vec_len, vec_capacity};
 ghost use Rattle.jobs_text.specs.Jobs.{calls_in};
-ghost use Rattle.workers.specs.Doing.{IsTeam, IsNoTeam};
+ghost use Rattle.workers.specs.SharedCalls.{IsTeam, IsNoTeam};
 ghost use Rattle.workers.specs.Worked.{are_workers, are_tries};
 
 use crate::fault::WorkFault;

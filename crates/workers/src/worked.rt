@@ -4,9 +4,9 @@
 ghost use Rattle.std.specs.Prelude.{◌≡◌, List, [], ◌∷◌, true, false, take, Some, None, codes};
 ghost use Rattle.store_laws.specs.Stored.{Stored};
 ghost use Rattle.store_laws.specs.Examples.{one_up, stored};
-ghost use Rattle.worker_turns.specs.Progress.{kinds};
+ghost use Rattle.worker_turns.specs.Progress.{receipt_kinds};
 ghost use Rattle.worker_turns.specs.declared.outcome.Report.{Report as ReportValue};
-ghost use Rattle.workers.specs.Events.{by, done_by, IsReplayed};
+ghost use Rattle.workers.specs.Events.{receipts_of, done_by, IsReplayed};
 ghost use Rattle.workers.specs.SharedState.{past, HasCause};
 ghost use Rattle.workers.specs.Worked.{IsReport, Works, are_workers, are_tries};
 ghost use Rattle.workers.specs.Examples.{start, since, after_both, of_first, of_second};
@@ -19,19 +19,19 @@ use worker_turns::Outcome;
 pub fn events_of_two_workers()
     ensures since_then { past start after_both ≡ since }
     ensures before { past start one_up ≡ [] }
-    ensures first { by 0 3 since ≡ of_first }
-    ensures second { by 1 3 since ≡ of_second }
-    ensures nobody { by 7 3 since ≡ [] }
-    ensures elsewhere { by 0 0 since ≡ of_first → ⊥ }
+    ensures first { receipts_of 0 3 since ≡ of_first }
+    ensures second { receipts_of 1 3 since ≡ of_second }
+    ensures nobody { receipts_of 7 3 since ≡ [] }
+    ensures elsewhere { receipts_of 0 0 since ≡ of_first → ⊥ }
 {}
 
 /// What a transaction did by a worker's events is what is replayed for it, where it committed.
 pub fn operations_of_two_workers()
-    ensures of_its_own { done_by 1 (kinds of_first) ≡ record { by = 1; at = 0; op = 0 } ∷ [] }
-    ensures of_another { done_by 2 (kinds of_first) ≡ [] }
-    ensures replayed { IsReplayed after_both 1 (kinds of_first) }
+    ensures of_its_own { done_by 1 (receipt_kinds of_first) ≡ record { by = 1; at = 0; op = 0 } ∷ [] }
+    ensures of_another { done_by 2 (receipt_kinds of_first) ≡ [] }
+    ensures replayed { IsReplayed after_both 1 (receipt_kinds of_first) }
     ensures left_out { IsReplayed after_both 1 [] → ⊥ }
-    ensures not_committed { IsReplayed after_both 2 (kinds of_second) → ⊥ }
+    ensures not_committed { IsReplayed after_both 2 (receipt_kinds of_second) → ⊥ }
 {}
 
 /// A worker that was started has an outcome for each job, which says that it was run.

@@ -1,6 +1,5 @@
 //! What the words of an audit ask for.
 
-use super::words::are_refused;
 use command_words::{Task, read_words};
 use std::alloc::Global;
 
@@ -117,41 +116,4 @@ fn reads_in_which_order(rt: HostRuntime) {
     for (words, parts) in &ORDERED {
         assert!(rt; asks_ordered(rt.alloc(), words, *parts));
     }
-}
-
-/// Words that ask for no audit, and an option that is none of another command.
-static REFUSED: [&[&str]; 20] = [
-    &["audit", "--then", "b.history", "a.history"],
-    &["audit", "a.history", "a.type", "--then"],
-    &["audit", "a.history", "--then", "--", "b.history", "a.type"],
-    &["audit", "--next", "b.history", "a.history", "a.type"],
-    &["audit", "a.history", "a.type", "--workers", "2"],
-    &["run", "--then", "b.script", "a.script", "a.type"],
-    &["work", "--workers=2", "--then=b", "a.jobs", "a.type"],
-    &["--then", "b.history", "audit", "a.history", "a.type"],
-    &["audit", "--order"],
-    &["audit", "--order", "1,0"],
-    &["audit", "--order", "1,0", "a.history"],
-    &["audit", "--order", "", "a.history", "a.type"],
-    &["audit", "--order", "1,", "a.history", "a.type"],
-    &["audit", "--order", "1,,0", "a.history", "a.type"],
-    &["audit", "--order", "1 0", "a.history", "a.type"],
-    &["audit", "--order", "4294967296", "a.history", "a.type"],
-    &["audit", "--order", "-1", "a.history", "a.type"],
-    &[
-        "audit",
-        "--order",
-        "1,0",
-        "a.history",
-        "--then",
-        "b.history",
-        "a.type",
-    ],
-    &["audit", "--order", "1,0", "--database", "a.db"],
-    &["audit", "a.history", "a.type", "--order", "1,0"],
-];
-
-#[test]
-fn refuses_other_words_of_an_audit(rt: HostRuntime) {
-    are_refused(&rt, &REFUSED);
 }

@@ -1,6 +1,6 @@
 //! Archives of no folder, which keep no histories.
 
-use archive_files::Archives;
+use serve_command::Archives;
 use serving::NoArchive;
 use std::alloc::AllocError;
 

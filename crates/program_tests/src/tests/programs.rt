@@ -1,30 +1,12 @@
-//! The whole program, from its words to what it writes.
+//! The whole program over files, databases and outputs in memory, from its words to what it writes.
 
 ghost use Rattle.std.specs.Prelude.{◌≡◌, None};
 ghost use Rattle.outputs.specs.Out.{sink_fault};
 
-mod amounts;
-mod audits;
-mod checks;
-mod database_processes;
-mod deferred;
-mod escrow;
-mod explanations;
-mod faults;
-mod first_faults;
-mod in_place;
-mod jobs;
-mod many;
 mod memory;
-mod numbers;
 mod one_database;
-mod orders;
-mod processes;
-mod rollbacks;
-mod seeds;
+mod samples;
 mod stopped;
-mod texts;
-mod type_processes;
 
 use crate::tests::memory_databases::MemoryDatabases;
 use crate::tests::no_archives::NoArchives;
@@ -59,7 +41,7 @@ const NO_MEMORY: &str = "colock: no memory\n";
 
 /// The status of the program, and what it wrote.
 #[derive(Drop)]
-pub struct Played {
+struct Played {
     status: Status,
     out: Vec<u8>,
     err: Vec<u8>,
@@ -74,41 +56,19 @@ fn behind_time<'a>(said: &'a [u8], found: &[u8]) -> Option<&'a [u8]> {
 
 impl Played {
     /// Whether it is this.
-    pub fn is(&self, status: Status, out: &[u8], err: &str) -> bool {
+    fn is(&self, status: Status, out: &[u8], err: &str) -> bool {
         self.status == status && self.out.as_slice() == out && self.err.as_slice() == err.as_bytes()
     }
 
     /// The same, where first a line is said that begins so and ends with how many milliseconds it took.
-    pub fn is_found(&self, status: Status, out: &[u8], found: &str, err: &str) -> bool {
+    fn is_found(&self, status: Status, out: &[u8], found: &str, err: &str) -> bool {
         let said = behind_time(self.err.as_slice(), found.as_bytes());
         self.status == status && self.out.as_slice() == out && said == Some(err.as_bytes())
-    }
-
-    /// What standard output took, where there is this status and no fault is said.
-    pub fn answer(self, status: Status) -> Option<Vec<u8>> {
-        if self.status == status && self.err.is_empty() {
-            Some(self.out)
-        } else {
-            None
-        }
     }
 
     /// Whether it is what a case says.
     fn is_of(&self, case: &Case<'_>) -> bool {
         self.is(case.status, case.out.as_bytes(), case.err)
-    }
-
-    /// Whether it is what may come where memory was refused: it is said, after whole lines; or a
-    /// command of a script, or a job, was refused for it.
-    fn is_refused_memory(&self) -> bool {
-        let whole = self.out.last().is_none_or(|byte| *byte == b'\n');
-        let said = self.status == Status::Failed && self.err.as_slice() == NO_MEMORY.as_bytes();
-        said && whole || self.refuses_a_part()
-    }
-
-    fn refuses_a_part(&self) -> bool {
-        let text = str::from_utf8(&self.out).unwrap_or("");
-        self.status == Status::Yes && self.err.is_empty() && text.contains(" refused 6 NoMemory\n")
     }
 }
 
@@ -183,28 +143,8 @@ fn play_given<R: AllocGlobal + Clock + Threads + Wait + Sync, S: Source, D: Data
     Played { status, out, err }
 }
 
-/// What it does with these words over these files and no database, with these two outputs.
-fn play_over<R: AllocGlobal + Clock + Threads + Wait + Sync, S: Source + Drop>(
-    rt: &R,
-    words: &[&str],
-    source: S,
-    out: Held,
-    err: Held,
-) -> Played
-    requires out_takes { sink_fault out ≡ None }
-    requires err_takes { sink_fault err ≡ None }
-{
-    let mut given = Given {
-        source,
-        databases: MemoryDatabases::new(rt.alloc()),
-        archives: NoArchives,
-        input: b"".as_slice(),
-    };
-    play_given(rt, words, &mut given, out, err)
-}
-
-/// What it does with a case's words over its files, with these two outputs.
-fn play_on<R: AllocGlobal + Clock + Threads + Wait + Sync>(
+/// What it does with a case's words over its files and no database, with these two outputs.
+fn play_on<R: Abort + AllocGlobal + Clock + Threads + Wait + Sync>(
     rt: &R,
     case: &Case<'_>,
     out: Held,
@@ -217,71 +157,18 @@ fn play_on<R: AllocGlobal + Clock + Threads + Wait + Sync>(
         alloc: rt.alloc(),
         files: case.files,
     };
-    play_over(rt, case.words, source, out, err)
+    let mut given = Given {
+        source,
+        databases: MemoryDatabases::new(rt.alloc()),
+        archives: NoArchives,
+        input: b"".as_slice(),
+    };
+    play_given(rt, case.words, &mut given, out, err)
 }
 
-/// What it does with words over files, with outputs that take all.
-pub fn outcome_of<R: Abort + AllocGlobal + Clock + Threads + Wait + Sync, S: Source + Drop>(
-    rt: &R,
-    words: &[&str],
-    source: S,
-) -> Played {
+/// The same with outputs that take all.
+fn play<R: Abort + AllocGlobal + Clock + Threads + Wait + Sync>(rt: &R, case: &Case<'_>) -> Played {
     let out = held_output(rt, usize::MAX, AtEnd::Fails);
     let err = held_output(rt, usize::MAX, AtEnd::Fails);
-    play_over(rt, words, source, out, err)
-}
-
-/// The same of a case.
-fn play<R: Abort + AllocGlobal + Clock + Threads + Wait + Sync>(rt: &R, case: &Case<'_>) -> Played {
-    let source = CaseFiles {
-        alloc: rt.alloc(),
-        files: case.files,
-    };
-    outcome_of(rt, case.words, source)
-}
-
-/// That the program does what a case says. Where one allocation is refused, that is said, and the next
-/// try has it.
-fn plays<R: Abort + AllocGlobal + Clock + Threads + Wait + Sync>(rt: &R, case: &Case<'_>) {
-    let first = play(rt, case);
-    assert!(rt; first.is_of(case) || first.is_refused_memory() && play(rt, case).is_of(case));
-}
-
-fn all_play<R: Abort + AllocGlobal + Clock + Threads + Wait + Sync>(rt: &R, cases: &[Case<'_>]) {
-    for case in cases {
-        plays(rt, case);
-    }
-}
-
-/// The cases of runs and audits.
-fn all_cases() -> [&'static [Case<'static>]; 8] {
-    [
-        &in_place::CASES,
-        &deferred::CASES,
-        &escrow::CASES,
-        &rollbacks::CASES,
-        &faults::CASES,
-        &first_faults::CASES,
-        &audits::CASES,
-        &orders::CASES,
-    ]
-}
-
-#[test]
-fn runs_and_audits(rt: HostRuntime) {
-    for cases in all_cases() {
-        all_play(&rt, cases);
-    }
-}
-
-#[test]
-fn explains(rt: HostRuntime) {
-    all_play(&rt, &explanations::CASES);
-}
-
-#[test]
-fn processes_over_memory(rt: HostRuntime) {
-    all_play(&rt, &type_processes::CASES);
-    all_play(&rt, &processes::CASES);
-    all_play(&rt, &database_processes::CASES);
+    play_on(rt, case, out, err)
 }

@@ -2,7 +2,7 @@
 
 ghost use Rattle.std.specs.Prelude.{None};
 
-use super::texts_read::{HIGH_HISTORY, HISTORY};
+use super::texts::{HIGH_HISTORY, HISTORY};
 use history_text::{
     HistoryFile, Out, OutFault, read_history, write_event, write_history, write_object,
 };

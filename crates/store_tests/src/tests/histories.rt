@@ -8,7 +8,6 @@ use serial_order::{
     run_is_history, sorts_into_commit_order, struck_view_is_legal, summary_after, survives_as_read,
     transactions_in_run, views_are_legal,
 };
-use std::process::Abort;
 use std::test::Fail;
 use test_support::printed::{are_debugged, are_printed};
 use type_table::Operation;
@@ -64,16 +63,11 @@ fn refusals_are_printed(rt: HostRuntime) -> Result<(), Fail> {
     are_debugged(rt.alloc(), &REFUSALS)
 }
 
-/// That of these refusals the one with this word alone is this one.
-fn is_alone(rt: &impl Abort, rows: &[(Refusal, &str)], alone: Refusal, its: &str) {
-    for (refusal, word) in rows {
-        assert!(rt; (*refusal == alone) == (*word == its));
-    }
-}
-
 #[test]
 fn refusals_are_compared(rt: HostRuntime) {
-    is_alone(&rt, &REFUSALS, Refusal::NoCall, "NoCall");
+    for (refusal, word) in &REFUSALS {
+        assert!(rt; (*refusal == Refusal::NoCall) == (*word == "NoCall"));
+    }
 }
 
 #[test]

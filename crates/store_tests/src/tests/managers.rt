@@ -5,11 +5,11 @@ mod scenes;
 
 use self::driven::apply_next;
 use self::scenes::{DEFERRED, IN_PLACE, plays};
+use crate::tests::checked_types::checked_of;
 use escrow_manager::EscrowManager;
 use intentions_manager::IntentionsManager;
 use object_calls::call_unreplied;
-use object_trait::{Recovery, Renew};
-use reference_store::checked_types::checked_of;
+use object_trait::Recovery;
 use std::alloc::AllocError;
 use std::process::Abort;
 use std::test::Fail;
@@ -42,55 +42,29 @@ fn in_escrow(rt: &(impl Abort + AllocGlobal), text: &str) -> EscrowManager {
         .expect(rt, "wrong kind")
 }
 
-/// That an object is as it is made of the counter.
-fn is_made<R: Renew>(rt: &impl Abort, object: &R, kind: Kind) {
-    let checked = object.checked();
-    assert!(rt; object.is_fresh());
-    assert!(rt; (checked.kind(), checked.greatest()) == (kind, 2));
-    assert!(rt; (object.state(), object.open_count()) == (0, 0));
-}
-
-#[test]
-fn an_object_in_place_is_made(rt: HostRuntime) {
-    let object = in_place(&rt, COUNTER);
-    is_made(&rt, &object, Kind::Undo);
-    assert!(rt; object.log_len() == 0);
-}
-
-#[test]
-fn a_deferred_object_is_made(rt: HostRuntime) {
-    let object = deferred(&rt, COUNTER);
-    is_made(&rt, &object, Kind::Intentions);
-}
-
 #[test]
 fn the_wrong_kind_comes_back_in_place(rt: HostRuntime) -> Result<(), Fail> {
     let checked = checked_of(rt.alloc(), COUNTER, Kind::Intentions).expect(&rt, "no type");
-    match UndoManager::new(rt.alloc(), checked) {
-        Ok(_) => panic!(rt; "taken"),
-        Err((back, why)) => {
-            assert!(rt; back.kind() == Kind::Intentions);
-            are_printed(rt.alloc(), &[(why, "WrongKind")])
-        }
-    }
+    let told = UndoManager::new(rt.alloc(), checked).err();
+    let (back, why) = told.expect(&rt, "taken");
+    assert!(rt; back.kind() == Kind::Intentions);
+    are_printed(rt.alloc(), &[(why, "WrongKind")])
 }
 
 #[test]
 fn the_wrong_kind_comes_back_deferred(rt: HostRuntime) -> Result<(), Fail> {
     let checked = checked_of(rt.alloc(), COUNTER, Kind::Undo).expect(&rt, "no type");
-    match IntentionsManager::new(rt.alloc(), checked) {
-        Ok(_) => panic!(rt; "taken"),
-        Err((back, why)) => {
-            assert!(rt; back.kind() == Kind::Undo);
-            are_printed(rt.alloc(), &[(why, "WrongKind")])
-        }
-    }
+    let told = IntentionsManager::new(rt.alloc(), checked).err();
+    let (back, why) = told.expect(&rt, "taken");
+    assert!(rt; back.kind() == Kind::Undo);
+    are_printed(rt.alloc(), &[(why, "WrongKind")])
 }
 
 #[test]
 fn scenes_are_played_in_place(rt: HostRuntime) {
     for scene in &IN_PLACE {
         let mut object = in_place(&rt, scene.text);
+        assert!(rt; object.log_len() == 0);
         plays(&rt, &mut object, scene);
         assert!(rt; object.log_len() == 0);
     }

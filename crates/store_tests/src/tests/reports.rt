@@ -1,14 +1,10 @@
 //! What workers report of the jobs that they did at a store, side by side and by drawn turns.
 
-mod alone;
-mod drawn;
 mod limits;
-mod many;
 mod meeting;
-mod memory;
 
-use crate::tests::stores::scripts::{Happened, are_events};
-use history_audit::{Audit, AuditFault, audit};
+use declared_types::DeclaredType;
+use history_audit::audit;
 use jobs_text::{Job, JobsFile, read_jobs};
 use object_trait::{Event, EventKind, Recovery, Renew};
 use objects::Object;
@@ -17,11 +13,10 @@ use std::process::Abort;
 use std::sync::Wait;
 use std::thread::Threads;
 use store::Store;
-use table_checker::DeclaredType;
 use workers::{NoGate, Outcome, Receipt, Report, WorkFault, Worked, run_workers, stress};
 
 /// Whose turn it is: that of whoever has the lock, or a worker's that is drawn by words from a seed.
-#[derive(Clone, Copy, Debug)]
+#[derive(Clone, Copy)]
 pub enum Turns {
     SideBySide,
     Drawn(u64),
@@ -62,17 +57,14 @@ pub fn do_jobs<R: AllocGlobal + Threads + Wait + Sync>(
     }
 }
 
-/// The jobs of a text, in this many lists. Where one allocation is refused, the next try has it.
+/// The jobs of a text, in this many lists.
 pub fn jobs_of(rt: &(impl Abort + AllocGlobal), text: &str, lists: u8) -> Vec<Vec<Job>> {
-    let file = match read_jobs(rt.alloc(), text.as_bytes(), lists) {
-        Ok(file) => file,
-        Err(_) => read_jobs(rt.alloc(), text.as_bytes(), lists).expect(rt, "no jobs"),
-    };
+    let file = read_jobs(rt.alloc(), text.as_bytes(), lists);
     let JobsFile {
         max: _,
         objects: _,
         jobs,
-    } = file;
+    } = file.expect(rt, "no jobs");
     jobs
 }
 
@@ -128,19 +120,6 @@ fn types_of(alloc: Global, objects: &[Object]) -> Result<Vec<&DeclaredType>, All
         .collect(alloc)
 }
 
-/// The audit of what was done. Where one allocation is refused, the next try has it.
-fn audit_of(rt: &(impl Abort + AllocGlobal), done: &Done) -> Audit {
-    let types = match types_of(rt.alloc(), &done.objects) {
-        Ok(types) => types,
-        Err(_) => types_of(rt.alloc(), &done.objects).expect(rt, "no memory"),
-    };
-    let audited = match audit(rt.alloc(), &done.history, &types) {
-        Err(AuditFault::NoMemory) => audit(rt.alloc(), &done.history, &types),
-        audited => audited,
-    };
-    audited.expect(rt, "no audit")
-}
-
 /// That each object is at the state in its place.
 pub fn are_at<R: Recovery>(rt: &impl Abort, objects: &[R], states: &[u32]) {
     assert!(rt; states.len() == objects.len());
@@ -150,18 +129,10 @@ pub fn are_at<R: Recovery>(rt: &impl Abort, objects: &[R], states: &[u32]) {
 }
 
 /// That the audit says yes, and that each object keeps its serial state.
-pub fn is_serial(rt: &(impl Abort + AllocGlobal), done: &Done) -> Audit {
-    let audit = audit_of(rt, done);
+pub fn is_serial(rt: &(impl Abort + AllocGlobal), done: &Done) {
+    let types = types_of(rt.alloc(), &done.objects).expect(rt, "no memory");
+    let audit = audit(rt.alloc(), &done.history, &types).expect(rt, "no audit");
     are_at(rt, &done.objects, &audit.finals);
-    audit
-}
-
-/// That the history has these events and no job met a fault, as the reports say, and serially.
-pub fn is_told(rt: &(impl Abort + AllocGlobal), done: &Done, wanted: &[Happened]) {
-    assert!(rt; done.fault == None);
-    are_events(rt, &done.history, wanted);
-    are_reported(rt, &done.history, 0, &done.reports);
-    let _ = is_serial(rt, done);
 }
 
 /// That there is a report of each of these lists of outcomes, with them.

@@ -6,29 +6,24 @@ mod calls;
 mod closed;
 mod followed;
 mod forgotten;
-pub mod full;
-mod large;
 mod laws;
 mod made;
 mod numbers;
-mod random;
 mod refused;
 mod renewals;
 mod replayed;
 mod run_scripts;
-mod run_scripts_memory;
 mod runs;
 pub mod scripts;
 mod shared;
 
+use crate::tests::checked_types::{Sort, checked_of};
 use object_trait::{Event, Renew};
 use objects::Object;
-use reference_store::checked_types::{Sort, checked_of};
-use std::alloc::{AllocError, Global};
 use std::process::Abort;
 use std::sync::Arc;
 use store::{RenewRefusal, Store};
-use table_checker::{CheckedType, DeclaredType};
+use table_checker::CheckedType;
 
 /// New objects of these sorts. Where one allocation is refused, the next try has it.
 pub fn objects_of(rt: &(impl Abort + AllocGlobal), sorts: &[Sort]) -> Vec<Object> {
@@ -52,28 +47,6 @@ pub fn types_of(rt: &(impl Abort + AllocGlobal), sorts: &[Sort]) -> Vec<Arc<Chec
         types.push(checked).ok().expect(rt, "no room");
     }
     types
-}
-
-/// A new object of each of these types.
-pub fn objects_over(rt: &(impl Abort + AllocGlobal), types: &[Arc<CheckedType>]) -> Vec<Object> {
-    let mut objects = Vec::new(rt.alloc());
-    for checked in types {
-        let copy = Arc::try_clone(checked).expect(rt, "too many");
-        let object = Object::new(rt.alloc(), copy);
-        objects.push(object).ok().expect(rt, "no room");
-    }
-    objects
-}
-
-/// How these types were declared.
-pub fn declared_of(
-    alloc: Global,
-    types: &[Arc<CheckedType>],
-) -> Result<Vec<&DeclaredType>, AllocError> {
-    types
-        .iter()
-        .map(|checked| checked.declared())
-        .collect(alloc)
 }
 
 /// A store that begins anew, and the events of its epoch; else the store, and why not.

@@ -211,16 +211,11 @@ static FAULTS: [(&[u8], usize, FaultKind); 18] = [
     (b"size 3\nop 1 1\nop 1 1\n", 3, FaultKind::TwiceOp),
 ];
 
-/// The first fault of a text.
-fn fault_of(alloc: Global, text: &[u8]) -> Option<TextFault> {
-    read_items(alloc, &Example, text).err()
-}
-
 /// That each text has its fault.
 fn have_faults(rt: &(impl Abort + AllocGlobal), rows: &[(&[u8], usize, FaultKind)]) {
     for (text, line, kind) in rows {
         let (line, kind) = (*line, *kind);
-        assert!(rt; fault_of(rt.alloc(), text) == Some(TextFault { line, kind }));
+        assert!(rt; read_items(rt.alloc(), &Example, text).err() == Some(TextFault { line, kind }));
     }
 }
 
@@ -231,26 +226,13 @@ fn names_the_first_fault(rt: HostRuntime) {
 
 static WORDS: [&[u8]; 4] = [b"object", b"undo", b"intentions", b"a:1"];
 
-/// Whether words are kinds, as they are to be.
-fn kinds_are_read() -> bool {
-    (kind_at(&WORDS, 1) == Ok(Kind::Undo))
-        & (kind_at(&WORDS, 2) == Ok(Kind::Intentions))
-        & (kind_at(&WORDS, 3) == Err(FaultKind::UnknownWord))
-}
-
-fn names_are_read() -> bool {
-    (name_at(&WORDS, 3).ok() == Name::new("a:1")) & name_at(&WORDS, 4).is_err()
-}
-
-fn numbers_are_read() -> bool {
-    (number_of(b"9999999") == Some(9_999_999))
-        & (number_of(b"0") == Some(0))
-        & (number_of(b"00") == None)
-}
-
 #[test]
 fn reads_words(rt: HostRuntime) {
-    assert!(rt; kinds_are_read() & names_are_read() & numbers_are_read());
+    assert!(rt; kind_at(&WORDS, 1) == Ok(Kind::Undo) && kind_at(&WORDS, 2) == Ok(Kind::Intentions));
+    assert!(rt; kind_at(&WORDS, 3) == Err(FaultKind::UnknownWord));
+    assert!(rt; name_at(&WORDS, 3).ok() == Name::new("a:1") && name_at(&WORDS, 4).is_err());
+    assert!(rt; number_of(b"9999999") == Some(9_999_999) && number_of(b"0") == Some(0));
+    assert!(rt; number_of(b"00") == None);
 }
 
 /// The kinds of faults, their numbers, and their texts.
@@ -268,17 +250,12 @@ static KINDS: [(FaultKind, u8, &str); 11] = [
     (FaultKind::NoMemory, 11, "line 12: NoMemory"),
 ];
 
-/// That a fault of this kind at line 12 is printed so.
-fn is_printed(rt: &(impl Abort + AllocGlobal), kind: FaultKind, wanted: &str) {
-    let text = TextFault { line: 12, kind }.to_string(rt.alloc());
-    assert!(rt; text.expect(rt, "no memory").as_str() == wanted);
-}
-
 /// That each kind has its number, and is printed so.
 fn are_numbered_and_printed(rt: &(impl Abort + AllocGlobal), rows: &[(FaultKind, u8, &str)]) {
     for (kind, number, wanted) in rows {
-        assert!(rt; *kind as u8 == *number);
-        is_printed(rt, *kind, wanted);
+        let (line, kind) = (12, *kind);
+        let text = TextFault { line, kind }.to_string(rt.alloc());
+        assert!(rt; kind as u8 == *number && text.expect(rt, "no memory").as_str() == *wanted);
     }
 }
 

@@ -1,17 +1,10 @@
-//! Relations over states, and which of them are simulations.
+//! Relations over states.
 
 ghost use Rattle.std.specs.Prelude.{◌≡◌, ◌<◌, ◌≤◌, length};
 
-use crate::tests::type_files::largest_table;
-use crate::tests::types::{Parts, good_table};
-use equi_cert::{CertFault, Relation, check_simulation};
+use crate::tests::types::Parts;
+use equi_cert::Relation;
 use std::process::Abort;
-use std::test::Fail;
-use test_support::printed::are_printed;
-use type_table::TypeTable;
-
-/// Pairs of states, and why the relation of them and the equal ones is no simulation.
-type Case = (&'static [(u16, u16)], Option<CertFault>);
 
 /// The type of which state 3 looks like state 4, and not the other way round.
 pub static ONE_WAY: Parts = (
@@ -36,49 +29,6 @@ pub static ONE_WAY: Parts = (
         Some(4),
     ],
 );
-
-/// The type of which states 3 and 4 allow the same.
-static TWIN: Parts = (
-    5,
-    0,
-    &[("p", "ok"), ("q", "ok"), ("r", "ok")],
-    &[
-        Some(1),
-        Some(2),
-        None,
-        None,
-        Some(3),
-        None,
-        Some(4),
-        None,
-        None,
-        None,
-        None,
-        Some(3),
-        None,
-        None,
-        Some(4),
-    ],
-);
-
-static ONE_WAY_CASES: [Case; 7] = [
-    (&[], None),
-    (&[(3, 4)], None),
-    (&[(4, 3)], Some(CertFault { s: 4, t: 3, k: 2 })),
-    (&[(0, 3)], Some(CertFault { s: 0, t: 3, k: 0 })),
-    (&[(4, 3), (0, 3)], Some(CertFault { s: 0, t: 3, k: 0 })),
-    (&[(1, 0)], Some(CertFault { s: 1, t: 0, k: 0 })),
-    (&[(1, 0), (3, 2)], None),
-];
-
-static TWIN_CASES: [Case; 3] = [
-    (&[(3, 4), (4, 3)], None),
-    (
-        &[(3, 4), (4, 3), (1, 2)],
-        Some(CertFault { s: 1, t: 2, k: 1 }),
-    ),
-    (&[(4, 0), (4, 1)], Some(CertFault { s: 4, t: 0, k: 2 })),
-];
 
 /// The relation of these pairs and the equal ones.
 fn relation_of(rt: &(impl Abort + AllocGlobal), states: u16, pairs: &[(u16, u16)]) -> Relation
@@ -157,74 +107,4 @@ fn copies_keep_their_pairs(rt: HostRuntime) {
     assert!(rt; copy.states() == 3);
     has_pairs(&rt, &copy, &COPIED);
     has_pairs(&rt, &relation, &ADDED);
-}
-
-/// What is wrong with the relation of these pairs and the equal ones.
-fn fault_of(
-    rt: &(impl Abort + AllocGlobal),
-    table: &TypeTable,
-    pairs: &[(u16, u16)],
-) -> Option<CertFault> {
-    let relation = relation_of(rt, table.states(), pairs);
-    check_simulation(table, &relation).err()
-}
-
-/// That these are the faults of relations over a table.
-fn have_faults(rt: &(impl Abort + AllocGlobal), table: &TypeTable, cases: &[Case]) {
-    for (pairs, fault) in cases {
-        assert!(rt; fault_of(rt, table, pairs) == *fault);
-    }
-}
-
-#[test]
-fn simulations_are_told_from_other_relations(rt: HostRuntime) {
-    let table = good_table(&rt, "oneway", &ONE_WAY);
-    have_faults(&rt, &table, &ONE_WAY_CASES);
-}
-
-#[test]
-fn states_that_allow_the_same_are_related_both_ways(rt: HostRuntime) {
-    let table = good_table(&rt, "twin", &TWIN);
-    have_faults(&rt, &table, &TWIN_CASES);
-}
-
-/// Each of the first of 1,024 states with the next one, in a circle.
-fn neighbours(rt: &(impl Abort + AllocGlobal), count: u16) -> Vec<(u16, u16)> {
-    let mut pairs = Vec::new(rt.alloc());
-    for s in 0..count {
-        pairs
-            .push((s, (s % 1024 + 1) % 1024))
-            .expect(rt, "no memory");
-    }
-    pairs
-}
-
-/// How many states of the largest type are related with the next one, and the fault of that.
-static NEIGHBOURS: [(u16, Option<CertFault>); 2] = [
-    (1024, None),
-    (
-        1023,
-        Some(CertFault {
-            s: 960,
-            t: 961,
-            k: 63,
-        }),
-    ),
-];
-
-#[test]
-fn largest_types_are_checked(rt: HostRuntime) {
-    let table = largest_table(&rt);
-    for (count, fault) in &NEIGHBOURS {
-        let pairs = neighbours(&rt, *count);
-        assert!(rt; fault_of(&rt, &table, &pairs) == *fault);
-    }
-}
-
-#[test]
-fn faults_are_printed(rt: HostRuntime) -> Result<(), Fail> {
-    are_printed(
-        rt.alloc(),
-        &[(CertFault { s: 4, t: 3, k: 2 }, "NotSimulation 4 3 2")],
-    )
 }

@@ -1,6 +1,5 @@
 //! Names, operations, tables, and sets of states and of conflicts.
 
-use std::collections::HashSet;
 use std::process::Abort;
 use std::test::Fail;
 use test_support::printed::are_printed;
@@ -21,14 +20,6 @@ pub static COUNTER: Parts = (
     0,
     &[("inc:1", "ok"), ("dec:1", "ok")],
     &[Some(1), None, Some(2), Some(0), None, Some(1)],
-);
-
-/// A queue of one state, of which two operations have one call.
-static QUEUE: Parts = (
-    1,
-    0,
-    &[("enq", "ok"), ("deq", "a"), ("deq", "b")],
-    &[Some(0), Some(0), None],
 );
 
 fn name_of(rt: &impl Abort, text: &str) -> Name {
@@ -62,42 +53,6 @@ fn table_of(
     TypeTable::new(name_of(rt, name), states, initial, ops, steps)
 }
 
-/// Whether a table has this name and these parts.
-pub fn has_parts(table: &TypeTable, name: &str, parts: &Parts) -> bool {
-    let (states, initial, ops, steps) = *parts;
-    (table.name().as_bytes() == name.as_bytes())
-        & (table.states() == states)
-        & (table.initial() == initial)
-        & has_ops(table, ops)
-        & has_steps(table, steps)
-}
-
-/// Whether these are the operations of a table.
-fn has_ops(table: &TypeTable, ops: &[(&str, &str)]) -> bool {
-    let mut is_same = usize::from(table.op_count()) == ops.len();
-    is_same &= table.ops().len() == ops.len();
-    for (op, (call, reply)) in table.ops().iter().zip(ops) {
-        is_same &= is_named(&op.call, call) & is_named(&op.reply, reply);
-    }
-    is_same
-}
-
-fn is_named(name: &Name, text: &str) -> bool {
-    name.as_bytes() == text.as_bytes()
-}
-
-/// Whether these are its steps, state by state.
-fn has_steps(table: &TypeTable, steps: &[Option<u16>]) -> bool {
-    let mut is_same = true;
-    let mut steps = steps.iter();
-    for s in 0..table.states() {
-        for k in 0..table.op_count() {
-            is_same &= steps.next() == Some(&table.next(s, k));
-        }
-    }
-    is_same
-}
-
 /// Texts, and which of them are names.
 static NAMES: [(&str, bool); 13] = [
     ("a", true),
@@ -125,51 +80,16 @@ fn makes_name(text: &str, is_name: bool) -> bool {
     }
 }
 
-/// That each of these texts makes a name, or none.
-fn make_names(rt: &impl Abort, rows: &[(&str, bool)]) {
-    for (text, is_name) in rows {
-        assert!(rt; makes_name(text, *is_name));
-    }
-}
-
 #[test]
 fn names_are_of_few_bytes(rt: HostRuntime) {
-    make_names(&rt, &NAMES);
-}
-
-/// Operations, and whether they are in the set of the first.
-static IN_SET: [(&str, &str, bool); 3] = [
-    ("deq", "a", true),
-    ("deq", "b", false),
-    ("enq", "a", false),
-];
-
-/// That each of these operations is in a set, or not.
-fn are_in(rt: &impl Abort, ops: &HashSet<Op>, rows: &[(&str, &str, bool)]) {
-    for (call, reply, is_there) in rows {
-        let op = op_of(rt, call, reply);
-        assert!(rt; ops.contains(&op) == *is_there);
+    for (text, is_name) in &NAMES {
+        assert!(rt; makes_name(text, *is_name));
     }
-}
-
-#[test]
-fn operations_are_found_by_their_bytes(rt: HostRuntime) {
-    let mut ops = HashSet::new(rt.alloc());
-    ops.insert(op_of(&rt, "deq", "a")).expect(&rt, "no memory");
-    are_in(&rt, &ops, &IN_SET);
 }
 
 /// The table of these parts.
 pub fn good_table(rt: &(impl Abort + AllocGlobal), name: &str, parts: &Parts) -> TypeTable {
     table_of(rt, name, parts).expect(rt, "no table")
-}
-
-#[test]
-fn counter_and_its_copy_have_their_parts(rt: HostRuntime) {
-    let table = good_table(&rt, "counter", &COUNTER);
-    assert!(rt; has_parts(&table, "counter", &COUNTER));
-    let copy = table.copy(rt.alloc()).expect(&rt, "no memory");
-    assert!(rt; has_parts(&copy, "counter", &COUNTER));
 }
 
 /// A state, operations that are run from it in turn, and where they lead.
@@ -193,34 +113,6 @@ fn runs_lead(rt: &impl Abort, table: &TypeTable, rows: &[(u16, &[u8], Option<u16
 fn counter_runs(rt: HostRuntime) {
     let table = good_table(&rt, "counter", &COUNTER);
     runs_lead(&rt, &table, &RUNS);
-}
-
-/// Names of calls, and their first operations in the queue.
-static FIRSTS: [(&str, Option<u8>); 3] = [("enq", Some(0)), ("deq", Some(1)), ("ok", None)];
-
-/// That each of these calls has this first operation.
-fn have_first(rt: &impl Abort, table: &TypeTable, rows: &[(&str, Option<u8>)]) {
-    for (name, first) in rows {
-        assert!(rt; table.first_op(name.as_bytes()) == *first);
-    }
-}
-
-/// Operations of the queue, and whether they are of one call.
-static CALLS: [(u8, u8, bool); 4] = [(1, 2, true), (2, 1, true), (0, 0, true), (0, 1, false)];
-
-/// That each two of these operations are of one call, or not.
-fn are_of_one_call(rt: &impl Abort, table: &TypeTable, rows: &[(u8, u8, bool)]) {
-    for (k, c, is_same) in rows {
-        let are_there = *k < table.op_count() && *c < table.op_count();
-        assert!(rt; are_there && table.same_call(*k, *c) == *is_same);
-    }
-}
-
-#[test]
-fn calls_have_a_first_operation(rt: HostRuntime) {
-    let queue = good_table(&rt, "queue", &QUEUE);
-    have_first(&rt, &queue, &FIRSTS);
-    are_of_one_call(&rt, &queue, &CALLS);
 }
 
 /// Parts of a table, and what is wrong with them. Of two faults the earlier one is named.
@@ -294,41 +186,28 @@ static PAIRS: [(u8, u8, bool); 6] = [
     (63, 62, false),
 ];
 
-/// Whether two operations, if they are ones, conflict.
-fn conflicts_at(table: &ConflictTable, p: u8, q: u8) -> bool {
-    p < table.ops() && q < table.ops() && table.conflicts(p, q)
-}
-
-/// Whether two operations, if they are ones, conflict by the row of the first.
-fn is_in_row(table: &ConflictTable, p: u8, q: u8) -> bool {
-    p < table.ops() && q < 64 && table.row(p) >> q & 1 == 1
-}
-
-/// That each two of these operations conflict, or not, where there are 64.
-fn conflict_as_told(rt: &impl Abort, table: &ConflictTable, rows: &[(u8, u8, bool)]) {
-    assert!(rt; table.ops() == 64);
-    for (p, q, is_there) in rows {
-        assert!(rt;
-            (conflicts_at(table, *p, *q) == *is_there) & (is_in_row(table, *p, *q) == *is_there)
-        );
-    }
-}
-
-/// That no two of them conflict.
-fn never_conflict(rt: &impl Abort, table: &ConflictTable, rows: &[(u8, u8, bool)]) {
-    for (p, q, _) in rows {
-        assert!(rt; !conflicts_at(table, *p, *q));
-    }
+/// Whether two operations conflict, or don't, by themselves and by the row of the first.
+fn are_told(table: &ConflictTable, p: u8, q: u8, is_there: bool) -> bool {
+    p < table.ops()
+        && q < table.ops()
+        && q < 64
+        && table.conflicts(p, q) == is_there
+        && (table.row(p) >> q & 1 == 1) == is_there
 }
 
 #[test]
 fn conflicts_have_a_direction(rt: HostRuntime) {
     let mut table = ConflictTable::new(64);
-    never_conflict(&rt, &table, &PAIRS);
+    for (p, q, _) in &PAIRS {
+        assert!(rt; are_told(&table, *p, *q, false));
+    }
     table.set(0, 0);
     table.set(63, 63);
     table.set(63, 0);
-    conflict_as_told(&rt, &table.copy(), &PAIRS);
+    let copy = table.copy();
+    for (p, q, is_there) in &PAIRS {
+        assert!(rt; are_told(&copy, *p, *q, *is_there));
+    }
 }
 
 static KINDS: [(Kind, &str); 3] = [

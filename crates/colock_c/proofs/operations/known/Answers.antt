@@ -1,6 +1,6 @@
 use Rattle.std.proofs.Common.{◌≤◌, length, subst, sym, ◌∙◌}
-use Rattle.table_checker.specs.Declarations.{table_of}
-use Rattle.table_checker.specs.declared.declared_type.Declaration.{Declaration}
+use Rattle.declared_types.specs.Declarations.{table_of}
+use Rattle.declared_types.specs.declared.declared_type.Declaration.{Declaration}
 use Rattle.colock_c.specs.Operations.{operation_count}
 use Rattle.colock_c.proofs.Numbered.{few_of_number}
 use Rattle.colock_c.proofs.operations.known.Goals as goal

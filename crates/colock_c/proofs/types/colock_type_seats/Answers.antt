@@ -2,11 +2,11 @@ use Rattle.std.proofs.Common.{◌≡◌, ℕ}
 use Rattle.type_table.specs.declared.kind.Kind.{Kind}
 use Rattle.table_families.specs.Seats.{seats, AreSeats, SeatsFit}
 use Rattle.colock_c.specs.Families.{HasNone, IsOfFamily}
-use Rattle.colock_c.specs.Types.{IsMade}
+use Rattle.colock_c.specs.Types.{MakesType}
 use Rattle.colock_c.proofs.Typings.{for_kind}
 use Rattle.colock_c.proofs.types.colock_type_seats.Goals as goal
 
 pub returns-clause-made : goal.returns-clause-made
 returns-clause-made c = λ k empty is.
-    for_kind (λ (k : Kind) (n : ℕ). IsMade (IsOfFamily (AreSeats c.args.count) (SeatsFit c.args.count) (seats c.args.count)) (λ n words. HasNone (AreSeats c.args.count) (SeatsFit c.args.count) n × (words ≡ c.args.fault.now)) k c.args.fault.now n c.hold_seats.new.fault c.hold_seats.new.slot.handle.held)
+    for_kind (λ (k : Kind) (n : ℕ). MakesType (IsOfFamily (AreSeats c.args.count) (SeatsFit c.args.count) (seats c.args.count)) (λ n words. HasNone (AreSeats c.args.count) (SeatsFit c.args.count) n × (words ≡ c.args.fault.now)) k c.args.fault.now n c.hold_seats.new.fault c.hold_seats.new.slot.handle.held)
     _ c.in-Some.kind k _ c.number-2.result c.in-Some.ensures is c.number-2.ensures c.hold_seats.ensures

@@ -1,11 +1,11 @@
 -- The kinds so far have their events.
 use Rattle.std.proofs.Common.{◌≡◌, ◌≤◌, length, take, vec_capacity, vec_len}
-use Rattle.durable_store.specs.Durable.{events}
+use Rattle.durable_store.specs.Durable.{events_of_kinds}
 use Rattle.database_commands.proofs.history.events_of.Given as goal
 
 abbrev pub invariant-loop-kind : goal.invariant-loop-kind
 invariant-loop-kind l = record {
   room : length l.happened ≤ vec_capacity l.events;
   count : vec_len l.events ≡ l.kind-index;
-  are : l.events.items ≡ events (take l.kind-index l.happened);
+  are : l.events.items ≡ events_of_kinds (take l.kind-index l.happened);
 }

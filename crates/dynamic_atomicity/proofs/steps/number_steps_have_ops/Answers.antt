@@ -1,10 +1,10 @@
 use Rattle.std.proofs.Common.{◌≡◌, ℕ, Option, Some, None, IsSome, is_some, true, refl, sym, ap, ◌∙◌, subst}
 use Rattle.std.proofs.lemmas.Bool.{false≢true}
 use Rattle.type_table.specs.Table.{has_op}
-use Rattle.number_text.specs.NumberFile.{Number, IsNumber}
-use Rattle.number_text.specs.Operations.{NumberHasTable, number_table, op_done}
-use Rattle.number_text.specs.declared.number_op.NumberOp.{NumberOp}
-use Rattle.number_text.proofs.Tables.{done_is, has_what_is_there, next_of_none}
+use Rattle.number_types.specs.Number.{Number, IsNumber}
+use Rattle.number_types.specs.Operations.{NumberHasTable, number_table, op_done}
+use Rattle.number_types.specs.declared.number_op.NumberOp.{NumberOp}
+use Rattle.number_types.proofs.Tables.{done_is, has_what_is_there, next_of_none}
 use Rattle.dynamic_atomicity.specs.Converse.{StepsHaveOps}
 use Rattle.dynamic_atomicity.proofs.steps.number_steps_have_ops.Goals as goal
 

@@ -3,7 +3,7 @@ use Rattle.std.proofs.lemmas.Bool.{cases_Bool, cases_lt, false≢true, ltb-true}
 use Rattle.std.proofs.lemmas.Option.{slice_get-get_or, slice_get_within, get_or_from_slice_get}
 use Rattle.type_table.specs.Table.{Table, next}
 use Rattle.type_table.specs.declared.op.Op.{Op}
-use Rattle.table_checker.proofs.TableOps.{op_found, name_length}
+use Rattle.declared_types.proofs.TableOps.{op_found, name_length}
 use Rattle.dynamic_atomicity.specs.Converse.{StepsHaveOps}
 use Rattle.dynamic_atomicity.proofs.steps.table_steps_have_ops.Goals as goal
 

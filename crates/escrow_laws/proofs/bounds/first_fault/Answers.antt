@@ -1,6 +1,5 @@
-use Rattle.std.proofs.Common.{arith}
+use Rattle.std.proofs.Common.{arith, below_more}
 use Rattle.escrow_laws.specs.Search.{IsFaultlessAt}
-use Rattle.std.proofs.Common.{below_more}
 use Rattle.escrow_laws.proofs.Searching.{first-of-all, all-faultless}
 use Rattle.escrow_laws.proofs.bounds.first_fault.Goals as goal
 

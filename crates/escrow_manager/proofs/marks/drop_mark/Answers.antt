@@ -1,6 +1,6 @@
 use Rattle.std.proofs.Common.{sym, ap, subst, ◌∙◌}
 use Rattle.std.specs.List.{remove}
-use Rattle.escrow_manager.specs.Marks.{owner, IsAt}
+use Rattle.escrow_manager.specs.Marks.{mark_owner, IsMarkAt}
 use Rattle.object_trait.proofs.Rows.{drop_there, drop_nowhere}
 use Rattle.escrow_manager.proofs.marks.drop_mark.Goals as goal
 
@@ -9,10 +9,10 @@ returns-then-is_at c =
     let t = c.args.t in
     let marks = c.args.marks.now.items in
     c.remove.ensures.items ∙ ap (remove marks) c.place_of-at.ensures
-    ∙ drop_there owner t marks c.requires (subst (λ n. IsAt t n marks) c.place_of-at.ensures (c.is_at.ensures.there c.if-is_at.true))
+    ∙ drop_there mark_owner t marks c.requires (subst (λ n. IsMarkAt t n marks) c.place_of-at.ensures (c.is_at.ensures.there c.if-is_at.true))
 
 pub returns-else-is_at : goal.returns-else-is_at
 returns-else-is_at c =
     let t = c.args.t in
     let marks = c.args.marks.now.items in
-    drop_nowhere owner t marks c.requires (λ here. c.is_at.ensures.elsewhere c.if-is_at.false (subst (λ n. IsAt t n marks) (sym c.place_of-at.ensures) here))
+    drop_nowhere mark_owner t marks c.requires (λ here. c.is_at.ensures.elsewhere c.if-is_at.false (subst (λ n. IsMarkAt t n marks) (sym c.place_of-at.ensures) here))

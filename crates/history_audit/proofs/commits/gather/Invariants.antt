@@ -1,6 +1,6 @@
 -- The events so far were judged, and these are the transactions that they commit.
 use Rattle.std.proofs.Common.{map, take}
-use Rattle.table_checker.specs.Declarations.{table_of}
+use Rattle.declared_types.specs.Declarations.{table_of}
 use Rattle.history_audit.specs.Commits.{AreCommits}
 use Rattle.history_audit.specs.Judged.{IsJudged}
 use Rattle.history_audit.proofs.commits.gather.Given as goal

@@ -1,5 +1,5 @@
 use Rattle.std.proofs.Common.{map}
-use Rattle.table_checker.specs.Declarations.{table_of}
+use Rattle.declared_types.specs.Declarations.{table_of}
 use Rattle.history_audit.proofs.Gathered.{each-there}
 use Rattle.history_audit.proofs.in_order.audit_in_order.Goals as goal
 

@@ -1,5 +1,5 @@
 use Rattle.std.proofs.Common.{◌≡◌, List, map, get_or, subst, ◌∙◌}
-use Rattle.table_checker.specs.Declarations.{table_of}
+use Rattle.declared_types.specs.Declarations.{table_of}
 use Rattle.history_audit.specs.declared.committed.Committed.{Committed}
 use Rattle.history_audit.proofs.Gathered.{placed-operations}
 use Rattle.history_audit.proofs.RunOn.{run-taken}

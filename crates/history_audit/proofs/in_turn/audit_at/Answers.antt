@@ -1,5 +1,5 @@
 use Rattle.std.proofs.Common.{map, ap, subst, ◌∙◌, IfOk}
-use Rattle.table_checker.specs.Declarations.{table_of}
+use Rattle.declared_types.specs.Declarations.{table_of}
 use Rattle.history_audit.specs.Audit.{Audits}
 use Rattle.history_audit.specs.Replay.{AreStates}
 use Rattle.history_audit.proofs.EpochTables.{tables-shown}

@@ -1,7 +1,7 @@
 use Rattle.std.proofs.Common.{map, length, option_map, refl, sym, ap, ◌∙◌}
 use Rattle.std.proofs.Math.Numerals.{add-one}
 use Rattle.std.proofs.lemmas.Option.{slice_get_read, slice_get-map}
-use Rattle.table_checker.specs.Declarations.{table_of}
+use Rattle.declared_types.specs.Declarations.{table_of}
 use Rattle.history_audit.specs.Epochs.{tables_at, tables_after}
 use Rattle.history_audit.proofs.EpochAudits.{audits-at, tables-more, faults-at}
 use Rattle.history_audit.proofs.in_turn.audit_each.Goals as goal

@@ -1,6 +1,6 @@
 -- The first histories have their audits, and the types begin where they end.
 use Rattle.std.proofs.Common.{◌≡◌, map, take}
-use Rattle.table_checker.specs.Declarations.{table_of}
+use Rattle.declared_types.specs.Declarations.{table_of}
 use Rattle.history_audit.specs.Epochs.{AreAudits, tables_after}
 use Rattle.history_audit.proofs.in_turn.audit_each.Given as goal
 

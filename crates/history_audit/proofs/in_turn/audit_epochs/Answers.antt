@@ -1,5 +1,5 @@
 use Rattle.std.proofs.Common.{map, sym, ap, subst, ◌∙◌}
-use Rattle.table_checker.specs.Declarations.{table_of}
+use Rattle.declared_types.specs.Declarations.{table_of}
 use Rattle.history_audit.specs.Epochs.{AuditsEpochs}
 use Rattle.history_audit.proofs.EpochTables.{tables-shown}
 use Rattle.history_audit.proofs.in_turn.audit_epochs.Goals as goal

@@ -4,9 +4,9 @@ use Rattle.std.proofs.Math.Numerals.{add-one}
 use Rattle.std.proofs.lemmas.List.{length-map, map-set}
 use Rattle.std.proofs.lemmas.Option.{slice_get-get_or, slice_get-map}
 use Rattle.type_table.specs.Table.{Table as TableValue, table_at}
-use Rattle.table_checker.specs.Declarations.{declared_at, table_of}
-use Rattle.table_checker.specs.declared.declared_type.Declaration.{Declaration}
-use Rattle.table_checker.specs.declared.declared_type.Declaration.TheVariants.{Table, Number as Numbers}
+use Rattle.declared_types.specs.Declarations.{declared_at, table_of}
+use Rattle.declared_types.specs.declared.declared_type.Declaration.{Declaration}
+use Rattle.declared_types.specs.declared.declared_type.Declaration.TheVariants.{Table, Number as Numbers}
 use Rattle.history_audit.specs.Epochs.{tables_at}
 use Rattle.history_audit.proofs.EpochTables.{none-begun, begun-as_many, not_yet-begun, one-begun}
 use Rattle.history_audit.proofs.in_turn.begin_at.Goals as goal

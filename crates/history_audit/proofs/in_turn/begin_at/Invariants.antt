@@ -1,6 +1,6 @@
 -- The first types begin at their states.
 use Rattle.std.proofs.Common.{◌≡◌, map, take}
-use Rattle.table_checker.specs.Declarations.{table_of}
+use Rattle.declared_types.specs.Declarations.{table_of}
 use Rattle.history_audit.specs.Epochs.{tables_at}
 use Rattle.history_audit.proofs.in_turn.begin_at.Given as goal
 

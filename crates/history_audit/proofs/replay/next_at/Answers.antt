@@ -1,7 +1,7 @@
 use Rattle.std.proofs.Common.{◌<◌, map, length, slice_get, refl, sym, subst, ◌∙◌}
 use Rattle.std.proofs.lemmas.Option.{IfSome_then, same_Some, slice_get_read}
 use Rattle.type_table.specs.Table.{Table}
-use Rattle.table_checker.specs.Declarations.{table_of}
+use Rattle.declared_types.specs.Declarations.{table_of}
 use Rattle.history_audit.proofs.Replayed.{operation-below, state-below, table-read, next-there}
 use Rattle.history_audit.proofs.replay.next_at.Goals as goal
 

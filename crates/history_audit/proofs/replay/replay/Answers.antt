@@ -1,7 +1,7 @@
 use Rattle.std.proofs.Common.{map, length, refl}
 use Rattle.std.proofs.lemmas.Option.{slice_get_read}
 use Rattle.history_audit.proofs.Replayed.{replayed-at, replayed-none, there-at}
-use Rattle.table_checker.specs.Declarations.{table_of}
+use Rattle.declared_types.specs.Declarations.{table_of}
 use Rattle.history_audit.proofs.replay.replay.Goals as goal
 
 pub loop-place-init : goal.loop-place-init

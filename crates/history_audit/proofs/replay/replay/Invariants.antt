@@ -1,7 +1,7 @@
 -- The first operations were run.
 use Rattle.std.proofs.Common.{map}
 use Rattle.history_audit.specs.Replay.{AreStates, AreReplayed}
-use Rattle.table_checker.specs.Declarations.{table_of}
+use Rattle.declared_types.specs.Declarations.{table_of}
 use Rattle.history_audit.proofs.replay.replay.Given as goal
 
 abbrev pub invariant-loop-place : goal.invariant-loop-place

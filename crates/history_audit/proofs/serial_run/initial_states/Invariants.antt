@@ -1,7 +1,7 @@
 -- The states of the first objects are the initial ones.
 use Rattle.std.proofs.Common.{◌≡◌, ◌<◌, map, take}
 use Rattle.std.specs.List.{AllByRecursion}
-use Rattle.table_checker.specs.Declarations.{table_of}
+use Rattle.declared_types.specs.Declarations.{table_of}
 use Rattle.history_audit.proofs.serial_run.initial_states.Given as goal
 
 abbrev pub invariant-loop-declared : goal.invariant-loop-declared

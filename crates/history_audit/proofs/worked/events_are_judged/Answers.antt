@@ -3,29 +3,29 @@ use Rattle.std.proofs.lemmas.Bool.{false≢true}
 use Rattle.std.proofs.lemmas.Option.{none-some}
 use Rattle.object_trait.specs.declared.event.EventKind.TheVariants.{Begin, Op, Commit}
 use Rattle.serial_order.specs.History.{summary}
-use Rattle.history_audit.specs.Rows.{AreRows}
+use Rattle.history_audit.specs.Rows.{AreRowsOf}
 use Rattle.history_audit.specs.Moves.{MovedRowsAgree}
-use Rattle.history_audit.specs.Examples.{two_counters, operation, two_ups, two_ups_rows, one_up_rows}
+use Rattle.history_audit.specs.Examples.{two_counters, operation, two_ups_events, two_ups_rows, one_up_rows}
 use Rattle.history_audit.proofs.Judged.{begin_judged, commit_taken, rollback_judged, op_closed, rollback_outside}
 use Rattle.history_audit.proofs.worked.events_are_judged.Goals as goal
 
 -- event by event
-agree : MovedRowsAgree → AreRows [] (summary []) → AreRows two_ups_rows (summary two_ups)
+agree : MovedRowsAgree → AreRowsOf [] (summary []) → AreRowsOf two_ups_rows (summary two_ups_events)
 agree law start =
-    let begun : AreRows (Some [] ∷ []) (summary (take 1 two_ups)) = law two_counters [] (record { worker = 0; kind = Begin 0 }) [] (Some [] ∷ []) start refl refl in
-    let one : AreRows (Some (operation 1 0 ∷ []) ∷ []) (summary (take 2 two_ups)) =
-    law two_counters (take 1 two_ups) (record { worker = 0; kind = Op 0 0 1 }) (Some [] ∷ []) (Some (operation 1 0 ∷ []) ∷ []) begun (refl, refl)
+    let begun : AreRowsOf (Some [] ∷ []) (summary (take 1 two_ups_events)) = law two_counters [] (record { worker = 0; kind = Begin 0 }) [] (Some [] ∷ []) start refl refl in
+    let one : AreRowsOf (Some (operation 1 0 ∷ []) ∷ []) (summary (take 2 two_ups_events)) =
+    law two_counters (take 1 two_ups_events) (record { worker = 0; kind = Op 0 0 1 }) (Some [] ∷ []) (Some (operation 1 0 ∷ []) ∷ []) begun (refl, refl)
     record { its = []; was = refl; becomes = refl }
     in
-    let both : AreRows (Some (operation 1 0 ∷ []) ∷ Some [] ∷ []) (summary (take 3 two_ups)) =
-    law two_counters (take 2 two_ups) (record { worker = 0; kind = Begin 1 }) (Some (operation 1 0 ∷ []) ∷ []) (Some (operation 1 0 ∷ []) ∷ Some [] ∷ []) one refl refl
+    let both : AreRowsOf (Some (operation 1 0 ∷ []) ∷ Some [] ∷ []) (summary (take 3 two_ups_events)) =
+    law two_counters (take 2 two_ups_events) (record { worker = 0; kind = Begin 1 }) (Some (operation 1 0 ∷ []) ∷ []) (Some (operation 1 0 ∷ []) ∷ Some [] ∷ []) one refl refl
     in
-    let two : AreRows (Some (operation 1 0 ∷ operation 0 0 ∷ []) ∷ Some [] ∷ []) (summary (take 4 two_ups)) =
-    law two_counters (take 3 two_ups) (record { worker = 0; kind = Op 0 0 0 }) (Some (operation 1 0 ∷ []) ∷ Some [] ∷ []) (Some (operation 1 0 ∷ operation 0 0 ∷ []) ∷ Some [] ∷ []) both
+    let two : AreRowsOf (Some (operation 1 0 ∷ operation 0 0 ∷ []) ∷ Some [] ∷ []) (summary (take 4 two_ups_events)) =
+    law two_counters (take 3 two_ups_events) (record { worker = 0; kind = Op 0 0 0 }) (Some (operation 1 0 ∷ []) ∷ Some [] ∷ []) (Some (operation 1 0 ∷ operation 0 0 ∷ []) ∷ Some [] ∷ []) both
     (refl, refl)
     record { its = operation 1 0 ∷ []; was = refl; becomes = refl }
     in
-    law two_counters (take 4 two_ups) (record { worker = 0; kind = Commit 1 }) (Some (operation 1 0 ∷ operation 0 0 ∷ []) ∷ Some [] ∷ []) two_ups_rows two refl
+    law two_counters (take 4 two_ups_events) (record { worker = 0; kind = Commit 1 }) (Some (operation 1 0 ∷ operation 0 0 ∷ []) ∷ Some [] ∷ []) two_ups_rows two refl
     record { its = []; was = refl; becomes = refl }
 
 pub returns-clause-agrees : goal.returns-clause-agrees
@@ -52,12 +52,12 @@ returns-clause-overdone c =
     rollback_outside two_counters two_ups_rows two_ups_rows 0 3 (operation 1 0 ∷ operation 0 0 ∷ []) refl (λ some few. omega (arith, few))
 
 pub returns-clause-not_handed_out : goal.returns-clause-not_handed_out
-returns-clause-not_handed_out c = λ judged. none-some _ (judged two_ups 0 (agree c.moved_rows_agree.ensures c.nothing_began.ensures)).2
+returns-clause-not_handed_out c = λ judged. none-some _ (judged two_ups_events 0 (agree c.moved_rows_agree.ensures c.nothing_began.ensures)).2
 
 pub returns-clause-still_open : goal.returns-clause-still_open
 returns-clause-still_open c =
     λ judged.
-    false≢true (sym ((judged two_ups 0 (agree c.moved_rows_agree.ensures c.nothing_began.ensures)).1.each 0 (Some (operation 1 0 ∷ operation 0 0 ∷ [])) refl).going)
+    false≢true (sym ((judged two_ups_events 0 (agree c.moved_rows_agree.ensures c.nothing_began.ensures)).1.each 0 (Some (operation 1 0 ∷ operation 0 0 ∷ [])) refl).going)
 
 pub returns-clause-refused : goal.returns-clause-refused
-returns-clause-refused c = λ judged. judged two_ups (agree c.moved_rows_agree.ensures c.nothing_began.ensures) refl
+returns-clause-refused c = λ judged. judged two_ups_events (agree c.moved_rows_agree.ensures c.nothing_began.ensures) refl

@@ -1,8 +1,8 @@
 use Rattle.std.proofs.Common.{refl, arith}
 use Rattle.object_trait.specs.declared.event.EventKind.TheVariants as kind
-use Rattle.number_text.specs.Examples.{purse}
-use Rattle.number_text.proofs.LinePlaces.{place_from}
-use Rattle.number_text.proofs.PurseExamples.{purse_is}
+use Rattle.number_types.specs.Examples.{purse}
+use Rattle.number_types.proofs.LinePlaces.{place_from}
+use Rattle.number_types.proofs.PurseExamples.{purse_is}
 use Rattle.history_audit.proofs.worked_amounts.places_that_are_bad.Goals as goal
 
 pub returns : goal.returns

@@ -2,5 +2,5 @@
 use Rattle.jobs_text.proofs.Adding.{AreSoFar}
 use Rattle.jobs_text.proofs.build.jobs_of.Given as goal
 
-abbrev pub invariant-loop-place : goal.invariant-loop-place
-invariant-loop-place l = AreSoFar l.workers l.lines l.place l.lists.items
+abbrev pub invariant-loop-position : goal.invariant-loop-position
+invariant-loop-position l = AreSoFar l.workers l.lines l.position l.lists.items

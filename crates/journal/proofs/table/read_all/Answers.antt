@@ -3,7 +3,7 @@ use Rattle.std.specs.Prelude.{IfOk}
 use Rattle.std.proofs.lemmas.Option.{same_Some}
 use Rattle.sqlite_trees.specs.Tree.{order_of}
 use Rattle.journal.proofs.RowLemmas.{from_nothing, whole-rows}
-use Rattle.journal.proofs.Reading.{placed}
+use Rattle.journal.proofs.CursorRows.{placed}
 use Rattle.journal.proofs.table.read_all.Goals as goal
 
 -- of two facts on what was read a third

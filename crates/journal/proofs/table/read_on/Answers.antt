@@ -1,8 +1,8 @@
 use Rattle.std.proofs.Common.{arith, ◌≡◌, ◌++◌, ◌∷◌, [], length-append, true}
 use Rattle.sqlite_trees.specs.View.{IsClean, Advances}
-use Rattle.journal.specs.Rows.{rows}
+use Rattle.journal.specs.Rows.{value_rows}
 use Rattle.journal.proofs.RowLemmas.{all-rows, first-rows}
-use Rattle.journal.proofs.Reading.{at_end, off, on, reads_row, reads_only}
+use Rattle.journal.proofs.CursorRows.{at_end, off, on, reads_row, reads_only}
 use Rattle.journal.proofs.table.read_on.Goals as goal
 use Rattle.journal.proofs.table.read_on.Goals.{then-len-count-via-then-len-count, then-len-count-via-else-len-count+in_ok-next+then-not-branch}
 
@@ -31,7 +31,7 @@ loop-position-preserved g c =
 pub returns-then-len-count-clause-told : goal.returns-then-len-count-clause-told
 returns-then-len-count-clause-told g c =
     let es = c.loop-position.entries.items in
-    let front = rows g.E.Entry.row_at c.args.from es in
+    let front = value_rows g.E.Entry.row_at c.args.from es in
     let inv = c.loop-position.invariant in
     elim c.then-len-count.branch [
       -- there are as many as were asked for

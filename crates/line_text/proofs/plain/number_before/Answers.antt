@@ -1,5 +1,5 @@
 use Rattle.std.proofs.Common.{◌≤◌, get_or, sym, arith}
-use Rattle.line_text.proofs.Numbers.{digit_range, digit_fits}
+use Rattle.decimals.proofs.Digits.{digit_range, digit_fits}
 use Rattle.line_text.proofs.plain.number_before.Goals as goal
 
 pub overflow_mul-number : goal.overflow_mul-number

@@ -1,7 +1,7 @@
 -- The bytes so far are digits, the number is theirs, and it has no more digits than were read.
 use Rattle.std.proofs.Common.{◌≡◌, ◌<◌, ◌^◌, take, true}
 use Rattle.std.specs.List.{list_all}
-use Rattle.line_text.specs.Text.{is_digit, number_value}
+use Rattle.decimals.specs.Decimals.{is_digit, number_value}
 use Rattle.line_text.proofs.plain.number_before.Given as goal
 
 abbrev pub invariant-loop-count : goal.invariant-loop-count

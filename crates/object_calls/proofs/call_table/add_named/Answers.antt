@@ -1,7 +1,7 @@
 use Rattle.std.proofs.Common.{All, [], ◌∷◌, ap, sym, subst, ◌∙◌, arith}
 use Rattle.std.proofs.lemmas.List.Elements.{All-append, All-cons}
 use Rattle.type_table.specs.Table.{first_op}
-use Rattle.number_text.specs.Operations.{number_table}
+use Rattle.number_types.specs.Operations.{number_table}
 use Rattle.object_calls.specs.Calls.{IsNamedCall}
 use Rattle.object_calls.specs.declared.call.NamedCall.{NamedCall}
 use Rattle.object_calls.proofs.call_table.add_named.Goals as goal

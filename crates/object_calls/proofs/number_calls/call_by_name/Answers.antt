@@ -1,7 +1,7 @@
 use Rattle.std.proofs.Common.{sym}
-use Rattle.number_text.proofs.FirstNamed.{first_again}
+use Rattle.number_types.proofs.FirstNamed.{first_again}
 use Rattle.object_calls.proofs.NumberCalls.{first_place, line_is_call}
-use Rattle.number_text.specs.Operations.{number_table}
+use Rattle.number_types.specs.Operations.{number_table}
 use Rattle.object_calls.proofs.number_calls.call_by_name.Goals as goal
 
 pub line_call-requires : goal.line_call-requires

@@ -1,6 +1,6 @@
 use Rattle.std.proofs.lemmas.Bool.{iff_false}
-use Rattle.number_text.specs.Operations.{number_table}
-use Rattle.number_text.proofs.FirstNamed.{first_again}
+use Rattle.number_types.specs.Operations.{number_table}
+use Rattle.number_types.proofs.FirstNamed.{first_again}
 use Rattle.object_calls.proofs.NumberCalls.{first_place, line_is_call}
 use Rattle.object_calls.proofs.number_calls.call_by_number.Goals as goal
 

@@ -1,10 +1,10 @@
 use Rattle.std.proofs.Common.{◌≡◌, ℕ, ◌<◌, ◌≤◌, length, take, get_or}
-use Rattle.object_calls.specs.Ends.{count_at}
+use Rattle.object_calls.specs.Ends.{times_in}
 use Rattle.object_calls.proofs.strike.counts_of.Given as goal
 
 abbrev pub invariant-loop-place : goal.invariant-loop-place
 invariant-loop-place l =
     record {
       long : 256 ≤ length l.counts;
-      counted : (x : ℕ) → x < 256 → get_or l.counts x 0 ≡ count_at x (take l.place-index l.places);
+      counted : (x : ℕ) → x < 256 → get_or l.counts x 0 ≡ times_in x (take l.place-index l.places);
     }

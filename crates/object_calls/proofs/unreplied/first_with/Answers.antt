@@ -1,8 +1,7 @@
-use Rattle.std.proofs.Common.{sym, ap, ◌∙◌}
+use Rattle.std.proofs.Common.{sym, ap, ◌∙◌, Some}
 use Rattle.type_table.specs.Operation.{operation_at}
 use Rattle.type_table.specs.Table.{first_op}
-use Rattle.std.proofs.Common.{Some}
-use Rattle.number_text.specs.Operations.{number_table}
+use Rattle.number_types.specs.Operations.{number_table}
 use Rattle.object_calls.proofs.WithoutReply.{name_there}
 use Rattle.object_calls.proofs.unreplied.first_with.Goals as goal
 

@@ -3,18 +3,18 @@ use Rattle.std.proofs.lemmas.Bool.Decides.{nat_tests}
 use Rattle.std.specs.Prelude.{nat_lt}
 use Rattle.type_table.specs.Table.{next}
 use Rattle.type_table.specs.Run.{Looks}
-use Rattle.object_trait.specs.Examples.{held, past, counter_at, two_alike}
+use Rattle.object_trait.specs.Examples.{held, done_entry, counter_at, two_alike}
 use Rattle.type_table.specs.declared.kind.Kind.TheVariants.{Undo}
 use Rattle.object_trait.proofs.worked.a_commit_without_entries_shows_the_same.Goals as goal
 
 -- the commit of a transaction without entries, by which the first entry moves into base
 pub returns-clause-in_place : goal.returns-clause-in_place
 unfolding next
-returns-clause-in_place c = record { checked = refl; commit = record { moved = past 1 0 ∷ []; front = refl; done = (refl, tt); reached = refl } }
+returns-clause-in_place c = record { checked = refl; commit = record { moved = done_entry 1 0 ∷ []; front = refl; done = (refl, tt); reached = refl } }
 
 pub returns-clause-the_same : goal.returns-clause-the_same
 returns-clause-the_same c =
-    (c.untouched_shows_the_same.ensures (counter_at Undo 0 (past 1 0 ∷ held 2 0 ∷ [])) (counter_at Undo 1 (held 2 0 ∷ [])) 3 refl).0 (returns-clause-in_place c)
+    (c.untouched_shows_the_same.ensures (counter_at Undo 0 (done_entry 1 0 ∷ held 2 0 ∷ [])) (counter_at Undo 1 (held 2 0 ∷ [])) 3 refl).0 (returns-clause-in_place c)
 
 -- no operation but the first is legal
 no_second : (s k : ℕ) → next two_alike.table s (suc k) ≡ None

@@ -1,7 +1,7 @@
 use Rattle.std.proofs.Common.{ap, map, ◌∙◌}
 use Rattle.std.proofs.lemmas.List.{map_push}
 use Rattle.std.proofs.lemmas.Option.{slice_get-get_or}
-use Rattle.object_types.specs.Types.{IsAccepted, IsFirstFault, value_of}
+use Rattle.object_types.specs.Types.{HasAcceptedType, IsFirstObjectFault, value_of}
 use Rattle.object_types.proofs.Objects.{first_fault, types_push}
 use Rattle.object_types.proofs.LookUps.{err_exit}
 use Rattle.object_types.proofs.accept.accept_types.Goals as goal
@@ -9,7 +9,7 @@ use Rattle.object_types.proofs.accept.accept_types.Goals as goal
 pub returns-in_err-accepted-clause-refused : goal.returns-in_err-accepted-clause-refused
 returns-in_err-accepted-clause-refused c =
     let there = slice_get-get_or c.args.objects.now c.loop-x.x _ c.loop-x-test.true in
-    err_exit (IsFirstFault IsAccepted c.args.declared.now c.args.objects.now) c.from_residual.result c.in_err-accepted.field-0.0 c.from_residual.ensures.1
+    err_exit (IsFirstObjectFault HasAcceptedType c.args.declared.now c.args.objects.now) c.from_residual.result c.in_err-accepted.field-0.0 c.from_residual.ensures.1
     (first_fault c.args.declared.now c.args.objects.now c.loop-x.x _ _ c.in_err-accepted.field-0.0 there c.loop-x.invariant c.in_err-accepted.ensures.refused)
 
 pub loop-x-preserved : goal.loop-x-preserved

@@ -1,13 +1,12 @@
-//! Each allocation refused in turn, by `rt try --test --fail-alloc N`: the program says that memory was
+//! Each allocation refused in turn, by `tools/each_allocation.py`: the program says that memory was
 //! refused, or a run goes on without the command that met it, or workers without the job that met it; and
 //! no answer is another one.
 
-use super::audits::{NEXT_ILLEGAL, OWN_OUTPUT};
-use super::deferred::BOTH_COMMIT;
-use super::in_place::{ONE_WAY_ORDER, TWO_DEQUEUES};
-use super::jobs::{ONE_WORKER, ONE_WORKER_DRAWN};
-use super::rollbacks::BOTH_KINDS;
-use super::{Case, NO_MEMORY, Played, checks, explanations, made_of, play};
+use super::samples::{
+    BOTH_COMMIT, BOTH_KINDS, CHECKED, LESS, MADE, NEXT_ILLEGAL, ONE_WAY_ORDER, ONE_WORKER,
+    ONE_WORKER_DRAWN, OWN_OUTPUT, TWO_DEQUEUES, WRITTEN,
+};
+use super::{Case, NO_MEMORY, Played, made_of, play};
 use command_files::Status;
 use reference_store::runs::{RunText, folded};
 use reference_store::work::{OneWorker, ROOMS, WorkText, written};
@@ -15,6 +14,9 @@ use std::process::Abort;
 use std::rt::Clock;
 use std::sync::Wait;
 use std::thread::Threads;
+
+/// A command of each kind that writes its answer at its end.
+static ANSWERS: [Case<'static>; 6] = [CHECKED, LESS, MADE, WRITTEN, OWN_OUTPUT, NEXT_ILLEGAL];
 
 /// Runs of canonical scripts, each of objects of one type.
 static RUNS: [Case<'static>; 4] = [ONE_WAY_ORDER, BOTH_COMMIT, TWO_DEQUEUES, BOTH_KINDS];
@@ -61,15 +63,10 @@ fn says_or_is_refused<R: Abort + AllocGlobal + Clock + Threads + Wait + Sync>(
 }
 
 #[test]
-fn checks_and_audits_are_refused_memory(rt: HostRuntime) {
-    for case in &checks::CASES {
+fn answers_are_refused_memory(rt: HostRuntime) {
+    for case in &ANSWERS {
         says_or_is_refused(&rt, case);
     }
-    for case in &explanations::CASES {
-        says_or_is_refused(&rt, case);
-    }
-    says_or_is_refused(&rt, &NEXT_ILLEGAL);
-    says_or_is_refused(&rt, &OWN_OUTPUT);
 }
 
 #[test]

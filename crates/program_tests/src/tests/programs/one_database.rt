@@ -21,28 +21,7 @@ use test_support::type_texts::COUNTER;
 /// Two counters: one in place, one deferred.
 const OBJECTS: &str = "object undo 0\nobject intentions 0\nend\n";
 
-/// A counter without one of its conflicts.
-const LESS: &str = "type counter
-states 3
-initial 0
-op inc:1 ok
-op dec:1 ok
-step 0 0 1
-step 1 0 2
-step 1 1 0
-step 2 1 1
-conflict undo 0 1
-conflict intentions 0 0
-conflict intentions 1 1
-end
-";
-
-static FILES: [File<'static>; 4] = [
-    ("two.objects", OBJECTS),
-    ("begun.objects", "object undo 0\nbegin 0 0\nend\n"),
-    ("ctr2.type", COUNTER),
-    ("less.type", LESS),
-];
+static FILES: [File<'static>; 2] = [("two.objects", OBJECTS), ("ctr2.type", COUNTER)];
 
 /// What a client asks: one transaction commits, another is open. The last line isn't whole.
 const ASKED: &str = "a begin
@@ -53,17 +32,6 @@ e begin
 f call 1.1 0 inc:1
 g stats
 h begin";
-
-/// What it is answered.
-const ANSWERED: &str = "colock 3 1
-a ok 1.0
-b reply ok
-c reply ok
-d ok
-e ok 1.1
-f reply ok
-g ok events 6 begun 2 open 1
-";
 
 /// The events of that.
 const SERVED: &str = "object undo 0
@@ -185,68 +153,6 @@ fn created<'a, R: Abort + AllocGlobal + Clock + Threads + Wait + Sync>(rt: &R) -
     let mut given = kept(rt, MemoryDatabases::new(rt.alloc()));
     all_come(rt, &mut given, &[yes(&CREATE, "")]);
     given
-}
-
-#[test]
-fn a_store_is_created_once(rt: HostRuntime) {
-    let no_file = fault(&HISTORY, "colock: a.db: no such file\n", Status::Failed);
-    let less = Step {
-        words: &["create", "a.db", "two.objects", "less.type"],
-        asked: "",
-        out: "# object 0 no NotCommuting 1 0 0\n",
-        found: "",
-        err: "",
-        status: Status::No,
-    };
-    let begun = fault(
-        &["create", "a.db", "begun.objects", "ctr2.type"],
-        "colock: begun.objects: has events\n",
-        Status::BadInput,
-    );
-    let again = fault(&CREATE, "colock: a.db: file exists\n", Status::Failed);
-    let audited = yes(&AUDIT, "# audit yes\n# serial 0 0\n# serial 1 0\n");
-    let mut given = kept(&rt, MemoryDatabases::new(rt.alloc()));
-    let steps = [
-        less,
-        no_file,
-        begun,
-        no_file,
-        yes(&CREATE, ""),
-        again,
-        yes(&HISTORY, OBJECTS),
-        audited,
-    ];
-    all_come(&rt, &mut given, &steps);
-}
-
-#[test]
-fn an_epoch_ends_with_its_client(rt: HostRuntime) {
-    let next = "a kept 0
-b begin
-c call 3.0 1 dec:1
-d commit 3.0
-e begin
-f end
-g begin
-";
-    let answered = "colock 3 3
-a ok 1
-b ok 3.0
-c reply ok
-d ok
-e ok 3.1
-f ok
-";
-    let mut given = created(&rt);
-    let steps = [
-        served(ASKED, ANSWERED, NOTHING),
-        yes(&HISTORY, OBJECTS),
-        yes(&AUDIT, "# audit yes\n# serial 0 1\n# serial 1 1\n"),
-        served(next, answered, NOTHING),
-        yes(&HISTORY, OBJECTS),
-        yes(&AUDIT, "# audit yes\n# serial 0 1\n# serial 1 0\n"),
-    ];
-    all_come(&rt, &mut given, &steps);
 }
 
 /// What comes of a service whose output takes no more than the greeting.

@@ -1,11 +1,9 @@
 //! Outputs that stop: the program ends with status 3 and says nothing, and the output has taken a beginning
 //! of the text. That standard error stops changes no status.
 
-use super::audits::OWN_OUTPUT;
-use super::checks::{CHECKED, MADE, WRITTEN};
-use super::explanations::LESS;
-use super::faults::{EIGHT_DIGITS, INITIAL_OUTSIDE};
-use super::rollbacks::BOTH_KINDS;
+use super::samples::{
+    BOTH_KINDS, CHECKED, EIGHT_DIGITS, INITIAL_OUTSIDE, LESS, MADE, OWN_OUTPUT, WRITTEN,
+};
 use super::{Case, held_output, play_on};
 use command_files::Status;
 use std::process::Abort;

@@ -3,8 +3,8 @@ use Rattle.std.specs.List.{list_all}
 use Rattle.std.proofs.lemmas.Grind.{common_steps}
 use Rattle.std.proofs.lemmas.Bool.{eqb-false}
 use Rattle.std.proofs.lemmas.List.{take_all}
-use Rattle.line_text.specs.Text.{is_digit, number_value}
-use Rattle.line_text.proofs.Numbers.{digit_range}
+use Rattle.decimals.specs.Decimals.{is_digit, number_value}
+use Rattle.decimals.proofs.Digits.{digit_range}
 use Rattle.request_text.specs.Numbers.{short_number}
 use Rattle.request_text.proofs.Digits.{digit_fits, number_of-digits}
 use Rattle.request_text.proofs.number.number_of.Goals as goal

@@ -1,4 +1,4 @@
-use Rattle.script_run.proofs.Reading.{script-mine}
+use Rattle.script_run.proofs.HistoryLines.{script-mine}
 use Rattle.script_run.proofs.laws.script_is_by_one.Goals as goal
 
 pub returns : goal.returns

@@ -1,4 +1,4 @@
-use Rattle.script_run.proofs.Reading.{script-read}
+use Rattle.script_run.proofs.HistoryLines.{script-read}
 use Rattle.script_run.proofs.laws.script_is_read.Goals as goal
 
 pub returns : goal.returns

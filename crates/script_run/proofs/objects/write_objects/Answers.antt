@@ -3,7 +3,7 @@ use Rattle.std.proofs.lemmas.List.{take_all}
 use Rattle.std.proofs.lemmas.Result.{err_from_is_err_and}
 use Rattle.store_laws.specs.Stored.{Stored}
 use Rattle.script_run.specs.Turns.{object_turns}
-use Rattle.script_run.specs.Running.{Writes}
+use Rattle.script_run.specs.Runs.{Writes}
 use Rattle.script_run.proofs.ObjectLines.{objects-more, objects-stopped}
 use Rattle.script_run.proofs.Turns.{no_turns}
 use Rattle.script_run.proofs.objects.write_objects.Goals as goal

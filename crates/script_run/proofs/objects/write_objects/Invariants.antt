@@ -2,7 +2,7 @@
 use Rattle.std.proofs.Common.{Ok, take}
 use Rattle.store_laws.specs.Stored.{Stored}
 use Rattle.script_run.specs.Turns.{object_turns}
-use Rattle.script_run.specs.Running.{Writes}
+use Rattle.script_run.specs.Runs.{Writes}
 use Rattle.script_run.proofs.objects.write_objects.Given as goal
 
 abbrev pub invariant-loop-object : goal.invariant-loop-object

@@ -1,6 +1,6 @@
 use Rattle.std.proofs.Common.{ap, sym}
 use Rattle.outputs.specs.Gathered.{taken_by}
-use Rattle.serve_command.proofs.Archiving.{archives-under}
+use Rattle.serve_command.proofs.ArchivedEpochs.{archives-under}
 use Rattle.serve_command.proofs.ServedLemmas.{comes-under, says-under}
 use Rattle.serve_command.proofs.serve.serve_database.Goals as goal
 

@@ -1,7 +1,7 @@
 use Rattle.std.proofs.Common.{◌∙◌, ◌-◌, ap, length, ℕ}
 use Rattle.store_laws.specs.Stored.{Stored}
 use Rattle.outputs.specs.Gathered.{taken_by}
-use Rattle.serve_command.proofs.Archiving.{archives-at}
+use Rattle.serve_command.proofs.ArchivedEpochs.{archives-at}
 use Rattle.serve_command.proofs.ServedLemmas.{comes-at, says-at}
 use Rattle.serve_command.proofs.serve.serve_in.Goals as goal
 

@@ -1,5 +1,5 @@
 use Rattle.std.proofs.Common.{inr}
-use Rattle.serve_command.proofs.Archiving.{keeps-at}
+use Rattle.serve_command.proofs.ArchivedEpochs.{keeps-at}
 use Rattle.serve_command.proofs.ServedLemmas.{of-fault}
 use Rattle.serving.proofs.Results.{of-ok}
 use Rattle.serve_command.proofs.serve.serve_store.Goals as goal

@@ -1,4 +1,4 @@
-use Rattle.serving.proofs.Committing.{commits-found}
+use Rattle.serving.proofs.CommitEvents.{commits-found}
 use Rattle.serving.proofs.laws.told_commits_are_found.Goals as goal
 
 pub returns : goal.returns

@@ -1,6 +1,6 @@
 use Rattle.std.proofs.Common.{sym, ap, ◌∙◌}
 use Rattle.type_table.specs.Table.{first_op}
-use Rattle.table_checker.specs.Declarations.{table_of}
+use Rattle.declared_types.specs.Declarations.{table_of}
 use Rattle.store.proofs.OpCalls.{call-name}
 use Rattle.store.proofs.call.call_of_operation.Goals as goal
 

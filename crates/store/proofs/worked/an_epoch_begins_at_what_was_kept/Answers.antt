@@ -10,7 +10,7 @@ use Rattle.serial_order.specs.Epochs.{types_at}
 use Rattle.serial_order.specs.Operations.{ops}
 use Rattle.serial_order.specs.Serial.{surviving_at}
 use Rattle.store_laws.specs.Stored.{Stored}
-use Rattle.store_laws.specs.Examples.{stored, undo_counter, deferred_counter}
+use Rattle.store_laws.specs.Examples.{stored, undo_counter_type, deferred_counter_type}
 use Rattle.store.specs.KeptState.{IsKeptState}
 use Rattle.store.specs.Examples.{up_in_place}
 use Rattle.store.proofs.worked.an_epoch_begins_at_what_was_kept.Goals as goal
@@ -34,7 +34,7 @@ first_initial [] = 0
 first_initial (c ∷ types) = c.file.table.initial
 
 -- what was kept of the first of two objects, where the new types are those that there were, which begin at 0
-kept-first : (kept : List ℕ) → length kept ≡ 2 → undo_counter ∷ deferred_counter ∷ [] ≡ types_at (undo_counter ∷ deferred_counter ∷ []) kept → slice_get kept 0 ≡ Some 0
+kept-first : (kept : List ℕ) → length kept ≡ 2 → undo_counter_type ∷ deferred_counter_type ∷ [] ≡ types_at (undo_counter_type ∷ deferred_counter_type ∷ []) kept → slice_get kept 0 ≡ Some 0
 unfolding first_initial
 kept-first [] is same = absurd (cc)
 kept-first (a ∷ kept) is same = ap (λ n. Some n) (sym (ap first_initial same))
@@ -44,7 +44,7 @@ pub returns-clause-at_another_state : goal.returns-clause-at_another_state
 unfolding next
 returns-clause-at_another_state c = λ renews.
     let kept : IsKeptState (stored up_in_place) 0 0 = renews.states 0 0 (kept-first renews.kept renews.as_many (ap (λ (n : Stored). n.types) renews.is)) in
-    let is : object_of undo_counter ≡ kept.o = same_Some (object_of undo_counter) kept.o kept.there in
+    let is : object_of undo_counter_type ≡ kept.o = same_Some (object_of undo_counter_type) kept.o kept.there in
     let ends : ◌≡◌ {A = Option ℕ} (Some 1) (Some 0) =
     subst (λ (o : Object). o.kind ≡ Undo → run o.table (Some o.table.initial) (ops (surviving_at 0 up_in_place)) ≡ Some 0) (sym is) kept.in_place refl in
     cc

@@ -1,6 +1,6 @@
 use Rattle.std.proofs.Common.{◌∙◌, List, length, inl, inr, sym, ap, subst, arith}
 use Rattle.std.proofs.lemmas.Bool.{eqb-true, eqb-false}
-use Rattle.table_checker.specs.declared.declared_type.Declaration.{Declaration}
+use Rattle.declared_types.specs.declared.declared_type.Declaration.{Declaration}
 use Rattle.history_text.specs.declared.history_file.HistoryFile.{HistoryFile}
 use Rattle.command_files.proofs.Comes.{comes}
 use Rattle.object_types.specs.Types.{IsUnplaced}

@@ -1,5 +1,5 @@
 use Rattle.std.proofs.Common.{inl, inr, subst, ◌⊎◌, List}
-use Rattle.table_checker.specs.declared.declared_type.Declaration.{Declaration}
+use Rattle.declared_types.specs.declared.declared_type.Declaration.{Declaration}
 use Rattle.command_files.proofs.Comes.{comes}
 use Rattle.object_types.specs.Types.{IsUnplaced}
 use Rattle.store_commands.specs.Ordered.{AuditsOrderedRead, IsOrderAmiss}

@@ -1,5 +1,5 @@
 use Rattle.std.proofs.Common.{ap, inr, map}
-use Rattle.table_checker.specs.Declarations.{table_of}
+use Rattle.declared_types.specs.Declarations.{table_of}
 use Rattle.command_files.proofs.Comes.{comes}
 use Rattle.store_commands.proofs.Exits.{exits_early}
 use Rattle.store_commands.proofs.OrderedAudits.{ordered_amiss, ordered_says}

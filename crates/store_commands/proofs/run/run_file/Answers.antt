@@ -4,7 +4,7 @@ use Rattle.store_text.specs.declared.line.ObjectLine.{ObjectLine}
 use Rattle.script_text.specs.declared.script.Script.{Script}
 use Rattle.command_files.specs.declared.status.Verdict.{Verdict}
 use Rattle.command_files.proofs.Comes.{comes_among}
-use Rattle.store_files.specs.ObjectTypes.{AreTypesAt, FindsTypes, IsRefusedAt}
+use Rattle.store_files.specs.ObjectTypes.{AreTypesAt, FindsTypes, IsRefusedObject}
 use Rattle.store_files.specs.Scripts.{DescribesScript, IsFaultyScript}
 use Rattle.object_types.specs.Types.{value_of}
 use Rattle.store_files.specs.declared.found_types.ObjectTypes.{ObjectTypes}
@@ -40,7 +40,7 @@ returns g c =
     let later = g.S.Source.holds c.read_file.new.source in
     let objects : Script → List ObjectLine = λ s. s.objects.items in
     let Finds : ObjectTypes → Type 0 = λ t. FindsTypes later words c.deref.result.now (Ok t) in
-    let Refused : List ObjectLine → Type 0 = λ os. IsRefusedAt later words os c.in-Refused.x c.in-Refused.refusal in
+    let Refused : List ObjectLine → Type 0 = λ os. IsRefusedObject later words os c.in-Refused.x c.in-Refused.refusal in
     let refused = subst Refused c.deref.ensures.value (subst Finds c.in-Refused.is c.in_ok-types.ensures) in
     let says = says_refused DescribesScript IsFaultyScript objects holds later c.in_ok-read.ensures.kept c.args.script.now words
     (WritesRunFile holds c.args.script.now words) (BeginsRunFile holds c.args.script.now words) (RunsFile holds c.args.script.now words)

@@ -1,6 +1,6 @@
 use Rattle.std.proofs.Common.{map, subst, Result}
 use Rattle.outputs.specs.declared.out.OutFault.{OutFault}
-use Rattle.script_run.specs.Running.{RunsScript}
+use Rattle.script_run.specs.Runs.{RunsScript}
 use Rattle.object_types.specs.Types.{value_of}
 use Rattle.store_commands.proofs.Runs.{run_audited, run_stopped}
 use Rattle.store_commands.proofs.run.run_from.Goals as goal

@@ -1,5 +1,5 @@
 use Rattle.std.proofs.Common.{◌∙◌, ap, map}
-use Rattle.table_checker.specs.Declarations.{table_of}
+use Rattle.declared_types.specs.Declarations.{table_of}
 use Rattle.command_files.proofs.Comes.{comes}
 use Rattle.store_commands.proofs.SeveralAudits.{all_say_yes}
 use Rattle.store_commands.proofs.several.audit_each.Goals as goal

@@ -2,7 +2,7 @@ use Rattle.std.proofs.Common.{◌≡◌, ◌∙◌, Result, Ok, false, inr, rule
 use Rattle.history_audit.specs.declared.outcome.Audit.{Audit}
 use Rattle.history_audit.specs.declared.outcome.AuditFault.{AuditFault}
 use Rattle.work_text.specs.Text.{PutsWork}
-use Rattle.store_commands.specs.Passing.{IsPassed}
+use Rattle.store_commands.specs.StoreAudit.{IsPassed}
 use Rattle.store_commands.proofs.Works.{whole_text}
 use Rattle.store_commands.proofs.work.tell_work.Goals as goal
 

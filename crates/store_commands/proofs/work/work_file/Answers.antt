@@ -5,7 +5,7 @@ use Rattle.jobs_text.specs.declared.jobs_file.JobsFile.{JobsFile}
 use Rattle.command_files.specs.declared.status.Verdict.{Verdict}
 use Rattle.command_files.proofs.Comes.{comes_among}
 use Rattle.store_files.specs.Jobs.{DescribesJobs, IsFaultyJobs}
-use Rattle.store_files.specs.ObjectTypes.{AreTypesAt, FindsTypes, IsRefusedAt}
+use Rattle.store_files.specs.ObjectTypes.{AreTypesAt, FindsTypes, IsRefusedObject}
 use Rattle.object_types.specs.Types.{value_of}
 use Rattle.store_files.specs.declared.found_types.ObjectTypes.{ObjectTypes}
 use Rattle.store_commands.specs.Works.{BeginsWorkFile, WorksFile, WritesWorkFile}
@@ -43,7 +43,7 @@ returns g c =
     let later = g.S.Source.holds c.read_file.new.source in
     let objects : JobsFile → List ObjectLine = λ f. f.objects.items in
     let Finds : ObjectTypes → Type 0 = λ t. FindsTypes later words c.deref.result.now (Ok t) in
-    let Refused : List ObjectLine → Type 0 = λ os. IsRefusedAt later words os c.in-Refused.x c.in-Refused.refusal in
+    let Refused : List ObjectLine → Type 0 = λ os. IsRefusedObject later words os c.in-Refused.x c.in-Refused.refusal in
     let refused = subst Refused c.deref.ensures.value (subst Finds c.in-Refused.is c.in_ok-types.ensures) in
     let says = says_refused (DescribesJobs workers) (IsFaultyJobs workers) objects holds later c.in_ok-read.ensures.kept c.args.jobs.now words
     (WritesWorkFile holds workers tries c.args.jobs.now words) (BeginsWorkFile holds workers tries c.args.jobs.now words) (WorksFile holds workers tries c.args.jobs.now words)

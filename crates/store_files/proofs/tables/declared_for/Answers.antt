@@ -1,7 +1,7 @@
 use Rattle.std.proofs.Common.{ap, map, refl, ◌∙◌}
 use Rattle.std.proofs.lemmas.List.{map_push}
 use Rattle.std.proofs.lemmas.Option.{slice_get-get_or}
-use Rattle.table_checker.specs.Declarations.{table_of}
+use Rattle.declared_types.specs.Declarations.{table_of}
 use Rattle.object_types.proofs.LookUps.{found, not_found}
 use Rattle.store_files.proofs.Objects.{first_without, tables_push}
 use Rattle.store_files.proofs.tables.declared_for.Goals as goal

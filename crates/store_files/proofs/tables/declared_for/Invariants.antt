@@ -1,6 +1,6 @@
 -- The objects so far have their tables.
 use Rattle.std.proofs.Common.{map, take}
-use Rattle.table_checker.specs.Declarations.{table_of}
+use Rattle.declared_types.specs.Declarations.{table_of}
 use Rattle.store_files.specs.Types.{AreTablesOf}
 use Rattle.store_files.proofs.tables.declared_for.Given as goal
 

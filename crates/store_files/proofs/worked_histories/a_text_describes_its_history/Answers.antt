@@ -1,7 +1,7 @@
 use Rattle.std.proofs.Common.{◌≡◌, List, [], map, sym, ap, ◌∙◌}
 use Rattle.store_text.specs.Said.{entries_of}
 use Rattle.store_text.specs.declared.line.Line.{Line}
-use Rattle.history_text.specs.Events.{event_of}
+use Rattle.history_text.specs.Events.{event_in_line}
 use Rattle.history_text.specs.Examples.{history_lines, some_events}
 use Rattle.history_text.specs.declared.event_line.EventLine.{EventLine}
 use Rattle.store_files.proofs.worked_histories.a_text_describes_its_history.Goals as goal
@@ -20,6 +20,6 @@ pub returns-clause-other : goal.returns-clause-other
 returns-clause-other c = λ h has other.
     let both = sym c.texts_say_their_lines.ensures.history ∙ other.accepted in
     let same : history_lines ≡ other.lines = cc in
-    let told : some_events ≡ [] = sym c.lines_say_their_history.ensures.events ∙ ap (λ (lines : List (Line EventLine)). map event_of (entries_of lines)) same
+    let told : some_events ≡ [] = sym c.lines_say_their_history.ensures.events ∙ ap (λ (lines : List (Line EventLine)). map event_in_line (entries_of lines)) same
     ∙ sym other.described.events ∙ has.events_are in
     cc

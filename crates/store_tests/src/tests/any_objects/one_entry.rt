@@ -7,13 +7,14 @@ ghost use Rattle.type_table.specs.ConflictTable.{conflicts};
 ghost use Rattle.type_table.specs.Operation.{place_of};
 ghost use Rattle.type_table.specs.Run.{run};
 ghost use Rattle.type_table.specs.declared.kind.Kind.TheVariants.{Undo};
-ghost use Rattle.object_trait.specs.Meaning.{ops_of, is_open_of};
+ghost use Rattle.object_trait.specs.Meaning.{log_ops, is_open_of};
 ghost use Rattle.object_trait.specs.Steps.{marked};
 ghost use Rattle.object_trait.specs.Examples.{of_one_entry};
 
+use declared_types::DeclaredType;
 use object_trait::{LogEntry, Recovery};
 use std::alloc::AllocError;
-use table_checker::{CheckedType, DeclaredType};
+use table_checker::CheckedType;
 use type_table::{ConflictTable, Operation, TableKind};
 
 /// Its checked type, the entry, and the state after it.
@@ -23,7 +24,7 @@ pub struct OneEntry {
     entry: Option<LogEntry>,
     state: u16,
     ghost in_place: { checked.kind ≡ Undo },
-    ghost reached: { run checked.file.table (Some checked.file.table.initial) (ops_of (option_to_list entry)) ≡ Some state },
+    ghost reached: { run checked.file.table (Some checked.file.table.initial) (log_ops (option_to_list entry)) ≡ Some state },
     ghost inside: { state < checked.file.table.states },
 }
 

@@ -8,18 +8,19 @@ ghost use Rattle.type_table.specs.ConflictTable.{conflicts};
 ghost use Rattle.type_table.specs.Table.{IsTable, next};
 ghost use Rattle.type_table.specs.Run.{run, IsLegal};
 ghost use Rattle.type_table.specs.declared.kind.Kind.TheVariants.{Undo};
-ghost use Rattle.object_trait.specs.Meaning.{is_open_of, open_of, ops_of};
+ghost use Rattle.object_trait.specs.Meaning.{is_open_of, open_of, log_ops};
 ghost use Rattle.object_trait.specs.Steps.{marked, open_transactions};
 ghost use Rattle.object_trait.specs.Strike.{keep_first};
 
 use super::one_entry::{marked, stops};
+use declared_types::DeclaredType;
 use object_trait::{
     LogEntry, Recovery, checked_is_covered, fresh_is_sound, sound_after_apply, sound_after_commit,
     sound_after_strike,
 };
 use std::alloc::{AllocError, Global};
 use std::marker::Model;
-use table_checker::{CheckedType, DeclaredType};
+use table_checker::CheckedType;
 use type_table::{ConflictTable, Operation, TableKind, TypeTable, steps_within};
 
 /// Its checked type, and all that was done at it.
@@ -31,13 +32,13 @@ pub struct Replayed {
 
 impl Model for Replayed {
     ghost use Rattle.object_trait.specs.Meaning.{Meaning};
-    ghost use Rattle.store_tests.specs.Replayed.{IsReplayed, from_the_start};
+    ghost use Rattle.store_tests.specs.Replayed.{IsSoundLog, from_the_start};
 
     ghost Value = { Meaning };
 
     ghost view = { λ a. from_the_start a.checked a.log.items };
 
-    ghost invariant = { λ a. IsReplayed a.checked a.log.items };
+    ghost invariant = { λ a. IsSoundLog a.checked a.log.items };
 }
 
 impl Replayed {
@@ -57,7 +58,7 @@ impl Replayed {
     /// The state after all that was done.
     fn reached(&self) -> u16
         ensures in_place { self.now.checked.kind ≡ Undo }
-        ensures reached { run self.now.checked.file.table (Some self.now.base) (ops_of self.now.log) ≡ Some result }
+        ensures reached { run self.now.checked.file.table (Some self.now.base) (log_ops self.now.log) ≡ Some result }
         ensures inside { result < self.now.checked.file.table.states }
     {
         let table = self.checked.table();
@@ -83,8 +84,8 @@ fn next_state(table: &TypeTable, s: u16, k: Operation) -> u16
 fn state_after(table: &TypeTable, s: u16, log: &[LogEntry]) -> u16
     requires table { IsTable table.now }
     requires inside { s < table.now.states }
-    requires legal { IsLegal table.now (Some s) (ops_of log.now) }
-    ensures reached { run table.now (Some s) (ops_of log.now) ≡ Some result }
+    requires legal { IsLegal table.now (Some s) (log_ops log.now) }
+    ensures reached { run table.now (Some s) (log_ops log.now) ≡ Some result }
     ensures inside { result < table.now.states }
 {
     match log {

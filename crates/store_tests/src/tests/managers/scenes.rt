@@ -189,6 +189,7 @@ fn end_all<R: Recovery>(rt: &impl Abort, object: &mut R, ends: &[Ended]) {
 /// That an object, as it was made, answers as in this scene.
 pub fn plays<R: Recovery>(rt: &(impl Abort + AllocGlobal), object: &mut R, scene: &Scene) {
     assert!(rt; object.is_fresh());
+    assert!(rt; (object.state(), object.open_count()) == (object.declared().initial(), 0));
     let mut log = Vec::new(rt.alloc());
     apply_all(rt, object, &mut log, scene.applied);
     let (t, m, state) = scene.struck;

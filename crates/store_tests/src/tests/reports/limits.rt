@@ -2,15 +2,17 @@
 //! open.
 
 use super::{Done, Turns, are_outcomes, are_reported, do_jobs, jobs_of};
-use crate::tests::stores::full::begin_many;
+use crate::tests::asked::{Ask, Told};
 use crate::tests::stores::objects_of;
-use crate::tests::stores::scripts::{Happened, Happening, Row, answers, are_events, store_of};
-use object_trait::Event;
-use reference_store::asked::{Ask, Told};
+use crate::tests::stores::scripts::{
+    Happened, Happening, Row, answers, are_events, outcome, store_of,
+};
+use object_trait::{Event, Recovery};
 use serial_order::Refusal;
 use std::process::Abort;
 use std::sync::Wait;
 use std::thread::Threads;
+use store::Store;
 use test_support::type_texts::{COUNTER, COUNTER_OF_FOUR};
 use type_table::Kind;
 use workers::{Outcome, WorkFault};
@@ -130,6 +132,13 @@ job 1
 do 0 dec:1
 end
 ";
+
+/// Begins this many.
+fn begin_many<R: Recovery>(rt: &impl Abort, store: &mut Store<R>, count: u32) {
+    for t in 0..count {
+        assert!(rt; outcome(store, 7, Ask::Begin) == Told::Begun(t));
+    }
+}
 
 /// What comes of jobs at a store at which this many transactions of worker 7 are open.
 fn done_beside<R: Abort + AllocGlobal + Threads + Wait + Sync>(

@@ -1,6 +1,6 @@
 //! Two workers whose jobs overlap: neither commits before the other has made its call too.
 
-use super::{Done, are_reported, is_serial, jobs_of};
+use super::{Done, are_at, are_reported, is_serial, jobs_of};
 use crate::tests::stores::objects_of;
 use crate::tests::stores::scripts::store_of;
 use object_trait::{Event, EventKind};
@@ -138,8 +138,8 @@ fn is_met(rt: &(impl Abort + AllocGlobal), done: &Done) {
     do_overlap(rt, &done.history);
     both_committed(rt, &done.reports);
     are_reported(rt, &done.history, 0, &done.reports);
-    let audit = is_serial(rt, done);
-    assert!(rt; audit.finals.as_slice() == [2].as_slice());
+    is_serial(rt, done);
+    are_at(rt, &done.objects, &[2]);
 }
 
 #[test]

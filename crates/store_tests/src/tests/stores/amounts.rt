@@ -3,10 +3,10 @@
 
 use super::followed::strays;
 use super::objects_of;
-use super::scripts::{Happening, Row, Script, answers, are_played, event_of, is_closed, store_of};
+use super::scripts::{Happening, Row, Script, answers, event_of, is_closed, store_of};
+use crate::tests::asked::{Ask, Told};
+use crate::tests::checked_types::Sort;
 use object_trait::Recovery;
-use reference_store::asked::{Ask, Told};
-use reference_store::checked_types::Sort;
 use serial_order::Refusal;
 use std::process::Abort;
 use store::{Answer, Store, follow};
@@ -234,12 +234,7 @@ const REFUSED: Script = Script {
     ],
 };
 
-static PLAYED: [Script; 3] = [MIXED, BY_NUMBER, REFUSED];
-
-#[test]
-fn amounts_in_runs_are_played(rt: HostRuntime) {
-    are_played(&rt, &PLAYED);
-}
+pub static PLAYED: [Script; 3] = [MIXED, BY_NUMBER, REFUSED];
 
 /// That a store makes the events of a script again, one after another.
 fn is_followed(rt: &(impl Abort + AllocGlobal), script: &Script) {

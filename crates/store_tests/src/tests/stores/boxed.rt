@@ -3,10 +3,10 @@
 
 use super::scripts::{Happened, Happening, Row, answers, is_closed, store_of};
 use crate::tests::any_objects::boxed::made;
+use crate::tests::asked::{Ask, Told};
 use crate::tests::managers::{deferred, in_place};
 use crate::tests::reports::are_at;
 use object_trait::{AnyObject, Recovery};
-use reference_store::asked::{Ask, Told};
 use serial_order::Refusal;
 use std::process::Abort;
 use test_support::type_texts::{COUNTER, TWIN};

@@ -1,13 +1,13 @@
 //! The calls of a type, by name and by number.
 
-ghost use Rattle.table_checker.specs.Declarations.{table_of};
+ghost use Rattle.declared_types.specs.Declarations.{table_of};
 ghost use Rattle.object_calls.specs.Calls.{HoldsCalls};
 
+use crate::tests::checked_types::checked_of;
+use declared_types::DeclaredType;
 use object_calls::{Call, CallTable};
-use reference_store::checked_types::checked_of;
 use std::process::Abort;
 use std::test::Fail;
-use table_checker::DeclaredType;
 use test_support::printed::are_debugged;
 use test_support::type_texts::{PURSE, SEMIQUEUE};
 use type_table::{Kind, Operation};

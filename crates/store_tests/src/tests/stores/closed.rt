@@ -2,8 +2,8 @@
 
 use super::objects_of;
 use super::scripts::{Happened, Happening, Row, answers, is_closed, store_of};
+use crate::tests::asked::{Ask, Told};
 use crate::tests::reports::are_at;
-use reference_store::asked::{Ask, Told};
 use test_support::type_texts::{COUNTER, ONE_WAY};
 use type_table::Kind;
 

@@ -2,8 +2,8 @@
 
 use super::objects_of;
 use super::scripts::{Happened, Happening, Row, answers, are_events, is_closed, store_of};
+use crate::tests::asked::{Ask, Told};
 use object_trait::Recovery;
-use reference_store::asked::{Ask, Told};
 use serial_order::Refusal;
 use std::process::Abort;
 use store::Store;

@@ -2,10 +2,10 @@
 
 use super::scripts::{is_closed, store_of};
 use super::types_of;
+use crate::tests::checked_types::Sort;
 use crate::tests::managers::driven::apply_next;
 use object_trait::{Recovery, Renew};
 use objects::Object;
-use reference_store::checked_types::Sort;
 use std::alloc::Global;
 use std::process::Abort;
 use std::sync::Arc;

@@ -1,9 +1,9 @@
 //! Several transactions at a number from 0 to 5 in escrow, with each answer and each kept number worked out by hand.
 //! No contract says that a call is ever answered with a reply.
 
-use super::scripts::{Happening, Script, are_played};
-use reference_store::asked::{Ask, Told};
-use reference_store::checked_types::Sort;
+use super::scripts::{Happening, Script};
+use crate::tests::asked::{Ask, Told};
+use crate::tests::checked_types::Sort;
 use test_support::type_texts::NUMBER_OF_FIVE;
 use type_table::Kind;
 
@@ -160,9 +160,4 @@ const BOTH: Script = Script {
     ],
 };
 
-static NUMBERS: [Script; 3] = [TAKES, SHORTS, BOTH];
-
-#[test]
-fn takes_wait_and_shorts_are_held(rt: HostRuntime) {
-    are_played(&rt, &NUMBERS);
-}
+pub static NUMBERS: [Script; 3] = [TAKES, SHORTS, BOTH];

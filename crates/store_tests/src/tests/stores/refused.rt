@@ -1,7 +1,7 @@
 //! The first reason for which a call is refused. A refusal is no event.
 
-use super::scripts::{Happening, Script, are_played};
-use reference_store::asked::{Ask, Told};
+use super::scripts::{Happening, Script};
+use crate::tests::asked::{Ask, Told};
 use serial_order::Refusal;
 use test_support::type_texts::{COUNTER, SEMIQUEUE};
 use type_table::Kind;
@@ -127,9 +127,4 @@ const SECOND_BEGIN: Script = Script {
     ],
 };
 
-static REFUSED: [Script; 4] = [WITH_ROOM, WITHOUT_ROOM, LEAST, SECOND_BEGIN];
-
-#[test]
-fn refusals_have_their_order(rt: HostRuntime) {
-    are_played(&rt, &REFUSED);
-}
+pub static REFUSED: [Script; 4] = [WITH_ROOM, WITHOUT_ROOM, LEAST, SECOND_BEGIN];

@@ -4,8 +4,8 @@
 use super::objects_of;
 use super::scripts::{Happened, Happening, Row, answers, is_closed, store_of};
 use crate::tests::any_objects::replayed::Replayed;
+use crate::tests::asked::{Ask, Told};
 use object_trait::Recovery;
-use reference_store::asked::{Ask, Told};
 use std::process::Abort;
 use table_checker::check;
 use test_support::type_texts::COUNTER_OF_FOUR;

@@ -4,25 +4,17 @@ ghost use Rattle.std.specs.Prelude.{◌≡◌, true, [], length};
 
 use super::objects_of;
 use super::scripts::{Happened, Happening, are_closed, are_events, store_of};
+use crate::tests::checked_types::Sort;
 use object_trait::{Event, Recovery};
 use objects::Object;
 use outputs::OutFault;
-use reference_store::checked_types::Sort;
 use script_run::run_script;
 use script_text::{Script, read_script};
 use std::process::Abort;
 use store::Store;
-use test_support::sinks::{AtEnd, MOST_BYTES, sink_over};
+use test_support::sinks::{AtEnd, narrow_sink};
 use test_support::type_texts::COUNTER;
 use type_table::Kind;
-
-/// The script of a text. Where one allocation is refused, the next try has it.
-fn script_of(rt: &(impl Abort + AllocGlobal), text: &[u8]) -> Script {
-    if let Ok(script) = read_script(rt.alloc(), text) {
-        return script;
-    }
-    read_script(rt.alloc(), text).ok().expect(rt, "no script")
-}
 
 /// Whether a store has no history and as many objects as a script.
 #[tactic(auto, using(std::proofs::lemmas::List::nil_from_length))]
@@ -34,20 +26,19 @@ fn is_ready<R: Recovery>(store: &Store<R>, script: &Script) -> bool
 }
 
 /// What is left of a run: the store, what the output holds, and what stopped it.
-pub type Left = (Store<Object>, Vec<u8>, Result<(), OutFault>);
+type Left = (Store<Object>, Vec<u8>, Result<(), OutFault>);
 
 /// Runs a script on a new store of these objects, with an output of this many bytes.
-pub fn run_with_room(
+fn run_with_room(
     rt: &(impl Abort + AllocGlobal),
     sorts: &[Sort],
     text: &[u8],
     room: usize,
     at_end: AtEnd,
 ) -> Left {
-    let script = script_of(rt, text);
-    let held = memory_of(rt);
+    let script = read_script(rt.alloc(), text).ok().expect(rt, "no script");
     let store = store_of(rt, objects_of(rt, sorts), script.max);
-    let mut out = sink_over(held, usize::MAX, room, at_end);
+    let mut out = narrow_sink(rt.alloc(), usize::MAX, room, at_end);
     assert!(rt; is_ready(&store, &script));
     let (store, result) = run_script(store, &script, &mut out);
     (store, out.into_inner().held, result)
@@ -101,14 +92,6 @@ static CLOSING: [&[Happened]; 7] = [
     &[ABORT_1],
     &[],
 ];
-
-/// Memory for the bytes of an output. Where one allocation is refused, the next try has it.
-fn memory_of(rt: &(impl Abort + AllocGlobal)) -> Vec<u8> {
-    if let Ok(held) = Vec::with_capacity(rt.alloc(), MOST_BYTES) {
-        return held;
-    }
-    Vec::with_capacity(rt.alloc(), MOST_BYTES).expect(rt, "no room")
-}
 
 /// How many commands were asked where the output stopped after this many bytes: the one whose line
 /// failed, and those before it.
@@ -168,43 +151,7 @@ fn a_stopped_output_has_a_beginning(rt: HostRuntime) {
     stops_at(&rt, whole, AtEnd::Fails, Ok(()));
 }
 
-/// Adds a line this many times.
-fn push_lines(rt: &impl Abort, text: &mut Vec<u8>, line: &[u8], count: u32) {
-    for _ in 0..count {
-        text.extend_from_slice(line).expect(rt, "no room");
-    }
-}
-
-/// A script of this many begins.
-fn begins(rt: &(impl Abort + AllocGlobal), count: u32) -> Vec<u8> {
-    let mut text = memory_of(rt);
-    push_lines(rt, &mut text, b"max 2048\nobject undo 0\n", 1);
-    push_lines(rt, &mut text, b"begin\n", count);
-    push_lines(rt, &mut text, b"end\n", 1);
-    text
-}
-
 /// How many lines a text has.
 fn line_count(text: &[u8]) -> usize {
     text.iter().filter(|b| **b == b'\n').count()
-}
-
-/// That the history is full and all that was begun was aborted, as the text says.
-fn is_full(rt: &impl Abort, store: Store<Object>, held: &[u8]) {
-    assert!(rt; store.history().len() == 2048);
-    assert!(rt; line_count(held) == 2052);
-    assert!(rt; held.ends_with(b"\nabort 0 1023\nend\n# kept 0 0\n"));
-    let (history, objects) = store.close();
-    assert!(rt; history.len() == 2048);
-    are_closed(rt, &objects);
-}
-
-/// The last begin is one too many, and the history has room for the end of each of the others.
-#[test]
-fn ends_have_their_places(rt: HostRuntime) {
-    let sorts = [(Kind::Undo, COUNTER)];
-    let text = begins(&rt, 1025);
-    let (store, held, result) = run_with_room(&rt, &sorts, &text, MOST_BYTES, AtEnd::Fails);
-    assert!(rt; result == Ok(()));
-    is_full(&rt, store, &held);
 }

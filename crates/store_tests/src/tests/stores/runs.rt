@@ -1,7 +1,10 @@
 //! Runs whose answers, kept states and histories were worked out by hand.
 
+use super::amounts::PLAYED;
+use super::numbers::NUMBERS;
+use super::refused::REFUSED;
 use super::scripts::{Happening, Script, are_played};
-use reference_store::asked::{Ask, Told};
+use crate::tests::asked::{Ask, Told};
 use test_support::type_texts::{COUNTER, COUNTER_FROM_ONE, ONE_WAY, SEMIQUEUE, TWIN};
 use type_table::Kind;
 
@@ -236,7 +239,11 @@ static RUNS: [Script; 7] = [
     TWO_OPERATIONS,
 ];
 
+/// All scripts: of these runs, of numbers, of amounts, and of refusals.
 #[test]
 fn runs_are_played(rt: HostRuntime) {
     are_played(&rt, &RUNS);
+    are_played(&rt, &NUMBERS);
+    are_played(&rt, &PLAYED);
+    are_played(&rt, &REFUSED);
 }

@@ -1,9 +1,9 @@
 //! Calls of a store, one after another, and what each answers.
 
 use super::objects_of;
+use crate::tests::asked::{Ask, Told, as_number, as_told};
+use crate::tests::checked_types::Sort;
 use object_trait::{Event, EventKind, Recovery};
-use reference_store::asked::{Ask, Told, as_number, as_told};
-use reference_store::checked_types::Sort;
 use serial_order::Refusal;
 use std::process::Abort;
 use store::{Answer, NewRefusal, Store};

@@ -2,15 +2,16 @@
 
 use super::next_of;
 use super::scripts::outcome;
+use crate::tests::asked::{Ask, Told};
+use crate::tests::checked_types::checked_of;
+use declared_types::DeclaredType;
 use object_trait::{Recovery, Renew};
 use objects::Object;
-use reference_store::asked::{Ask, Told};
-use reference_store::checked_types::checked_of;
 use std::alloc::{AllocError, Global};
 use std::process::Abort;
 use std::sync::Arc;
 use store::Store;
-use table_checker::{CheckedType, DeclaredType};
+use table_checker::CheckedType;
 use test_support::type_texts::COUNTER;
 use type_table::{Kind, Operation};
 

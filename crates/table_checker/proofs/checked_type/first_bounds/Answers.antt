@@ -3,7 +3,7 @@ use Rattle.std.proofs.lemmas.List.{length-append}
 use Rattle.std.proofs.lemmas.List.FromFn.{length-map-range_with_len}
 use Rattle.escrow_laws.specs.Bounds.{bounds_of}
 use Rattle.escrow_laws.specs.declared.bounded.Bounded.{Bounded}
-use Rattle.number_text.specs.Operations.{names_or_none, op_at, op_count, number_table}
+use Rattle.number_types.specs.Operations.{names_or_none, op_at, op_count, number_table}
 use Rattle.table_checker.proofs.Declared.{holds_more}
 use Rattle.table_checker.proofs.checked_type.first_bounds.Goals as goal
 

@@ -1,6 +1,6 @@
 use Rattle.std.proofs.Common.{sym}
 use Rattle.std.proofs.lemmas.Bool.{both_ways, false≢true}
-use Rattle.table_maker.proofs.AmountFacts.{all-from_each}
+use Rattle.table_families.proofs.AmountFacts.{all-from_each}
 use Rattle.table_families.proofs.number.are_number_amounts.Goals as goal
 
 pub returns-then-not-are_within : goal.returns-then-not-are_within

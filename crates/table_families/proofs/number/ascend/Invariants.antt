@@ -1,5 +1,5 @@
 use Rattle.std.proofs.Common.{ℕ, ◌+◌, ◌<◌, ◌≤◌}
-use Rattle.table_maker.specs.Amounts.{amount_at}
+use Rattle.table_families.specs.Amounts.{amount_at}
 use Rattle.table_families.proofs.number.ascend.Given as goal
 
 -- the amounts before the place ascend

@@ -1,7 +1,7 @@
 use Rattle.std.proofs.Common.{◌≡◌, ◌∙◌, arith, replicate, true, List}
 use Rattle.std.specs.Prelude.{Bool, IfOk, Result, Ok, Err}
 use Rattle.type_table.specs.Table.{Table}
-use Rattle.type_text.specs.declared.type_file.TypeFile.{TypeFile}
+use Rattle.declared_types.specs.declared.type_file.TypeFile.{TypeFile}
 use Rattle.table_maker.specs.Made.{Family, IsFileOfFamily, IsTableOfFamily}
 use Rattle.table_maker.specs.declared.make_error.MakeError.{MakeError}
 use Rattle.table_maker.proofs.Entries.{some_state}

@@ -1,9 +1,9 @@
 use Rattle.std.proofs.Common.{◌≡◌, sym, subst, Ok}
-use Rattle.number_text.specs.NumberFile.{Number}
+use Rattle.number_types.specs.Number.{Number}
 use Rattle.table_checker.specs.Answer.{IsAnswer}
 use Rattle.table_checker.specs.Checked.{Checked, IsChecked}
-use Rattle.table_checker.specs.Declarations.{IsDeclaredFor, file_of, number_file}
-use Rattle.table_checker.specs.declared.declared_type.Declaration.{Declaration}
+use Rattle.declared_types.specs.Declarations.{IsDeclaredFor, file_of, number_file}
+use Rattle.declared_types.specs.declared.declared_type.Declaration.{Declaration}
 use Rattle.type_table.specs.declared.kind.Kind.{Kind}
 use Rattle.type_table.specs.declared.kind.Kind.TheVariants.{Escrow}
 use Rattle.type_commands.proofs.asked_type.check_declared.Goals as goal

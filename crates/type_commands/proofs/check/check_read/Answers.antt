@@ -2,8 +2,8 @@ use Rattle.std.proofs.Common.{◌≡◌, ◌↔◌, ◌∙◌, true, subst}
 use Rattle.command_files.specs.Answers.{Comes}
 use Rattle.command_files.proofs.Comes.{comes}
 use Rattle.table_checker.specs.Checked.{Checked, IsStrong}
-use Rattle.table_checker.specs.Declarations.{file_of}
-use Rattle.table_checker.specs.declared.declared_type.Declaration.{Declaration}
+use Rattle.declared_types.specs.Declarations.{file_of}
+use Rattle.declared_types.specs.declared.declared_type.Declaration.{Declaration}
 use Rattle.type_commands.specs.Verdict.{SaysOf}
 use Rattle.type_commands.proofs.Verdicts.{line_says}
 use Rattle.type_commands.proofs.check.check_read.Goals as goal

@@ -1,9 +1,9 @@
 use Rattle.std.proofs.Common.{◌∙◌, sym, ap, subst, IfSome}
 use Rattle.command_files.specs.Answers.{Comes}
 use Rattle.table_checker.specs.Checked.{Checked}
-use Rattle.table_checker.specs.Declarations.{file_of, table_of}
+use Rattle.declared_types.specs.Declarations.{file_of, table_of}
 use Rattle.table_checker.specs.Laws.{CoversType}
-use Rattle.table_checker.specs.declared.declared_type.Declaration.{Declaration}
+use Rattle.declared_types.specs.declared.declared_type.Declaration.{Declaration}
 use Rattle.type_commands.specs.Explain.{AreOps, Explains, pair_as}
 use Rattle.type_commands.proofs.explain.explain_read.Goals as goal
 

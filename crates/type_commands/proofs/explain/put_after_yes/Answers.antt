@@ -2,7 +2,7 @@ use Rattle.std.proofs.Common.{◌≡◌, ◌∙◌, sym, ap, subst, None, Some}
 use Rattle.std.proofs.lemmas.Result.{on_ok_weaker}
 use Rattle.command_files.specs.declared.status.Verdict.TheVariants.{Yes}
 use Rattle.type_table.specs.Kind.{table_kind}
-use Rattle.table_checker.specs.Declarations.{IsByTable, file_of}
+use Rattle.declared_types.specs.Declarations.{IsByTable, file_of}
 use Rattle.type_commands.specs.Explain.{ExplainsNumber, pair_as}
 use Rattle.type_commands.proofs.Explaining.{adds_weaker, by_number, by_table, is_by_table}
 use Rattle.type_commands.proofs.explain.put_after_yes.Goals as goal

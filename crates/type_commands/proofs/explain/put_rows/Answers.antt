@@ -1,5 +1,5 @@
 use Rattle.std.proofs.Common.{sym, refl, subst}
-use Rattle.explaining.specs.Leads.{IsLedSet}
+use Rattle.pair_needs.specs.Leads.{IsLedSet}
 use Rattle.type_commands.proofs.explain.put_rows.Goals as goal
 
 pub returns : goal.returns

@@ -1,7 +1,7 @@
 use Rattle.std.proofs.Common.{◌≡◌, ◌<◌, Bool, ℕ, All, length, sym, ap, subst, ◌∙◌, arith}
 use Rattle.std.specs.List.{range_with_len}
 use Rattle.std.specs.Prelude.{filter, List}
-use Rattle.table_checker.specs.Declarations.{rows_of}
+use Rattle.declared_types.specs.Declarations.{rows_of}
 use Rattle.type_table.specs.declared.op.Op.{Op}
 use Rattle.type_commands.specs.Explain.{is_asked, pair_as}
 use Rattle.type_commands.proofs.Asked.{all_below, one_fails, one_passes}

@@ -1,10 +1,10 @@
 use Rattle.std.proofs.Common.{◌≡◌, ◌∙◌, true, sym, ap, subst}
 use Rattle.std.proofs.lemmas.Option.{slice_get_within}
-use Rattle.explaining.specs.Numeric.{bounds_line}
-use Rattle.number_text.specs.Operations.{number_rows}
+use Rattle.need_text.specs.Numeric.{bounds_line}
+use Rattle.number_types.specs.Operations.{number_rows}
 use Rattle.type_table.specs.Table.{has_op}
-use Rattle.type_text.specs.declared.type_file.TypeFile.{TypeFile}
-use Rattle.type_commands.specs.Rows.{number_line}
+use Rattle.declared_types.specs.declared.type_file.TypeFile.{TypeFile}
+use Rattle.type_commands.specs.Rows.{number_row_line}
 use Rattle.type_commands.proofs.RowOps.{any_line_is, row_is_op}
 use Rattle.type_commands.proofs.rows.write_number_line.Goals as goal
 
@@ -24,4 +24,4 @@ pub returns-in-None : goal.returns-in-None
 returns-in-None g c =
     let v = c.args.number.now in
     let k = c.args.k in
-    rw (ap (λ (file : TypeFile). bounds_line file.table k) c.requires.same ∙ sym (ap (number_line v k) (sym c.any_op_at.ensures ∙ c.in-None.is))) at c.write_op_line.ensures
+    rw (ap (λ (file : TypeFile). bounds_line file.table k) c.requires.same ∙ sym (ap (number_row_line v k) (sym c.any_op_at.ensures ∙ c.in-None.is))) at c.write_op_line.ensures

@@ -1,10 +1,10 @@
 use Rattle.std.proofs.Common.{◌≡◌, ◌∙◌, true, sym, ap, subst, slice_get, Some}
-use Rattle.explaining.specs.Numeric.{bounds_line}
-use Rattle.table_checker.specs.Declarations.{file_of, rows_of}
-use Rattle.table_checker.specs.declared.declared_type.Declaration.{Declaration}
+use Rattle.need_text.specs.Numeric.{bounds_line}
+use Rattle.declared_types.specs.Declarations.{file_of, rows_of}
+use Rattle.declared_types.specs.declared.declared_type.Declaration.{Declaration}
 use Rattle.type_table.specs.Table.{has_op}
-use Rattle.type_text.specs.declared.type_file.TypeFile.{TypeFile}
-use Rattle.type_commands.specs.Rows.{row_line}
+use Rattle.declared_types.specs.declared.type_file.TypeFile.{TypeFile}
+use Rattle.type_commands.specs.Rows.{type_row_line}
 use Rattle.type_commands.proofs.RowOps.{row_found, table_row}
 use Rattle.type_commands.proofs.rows.write_row_line.Goals as goal
 
@@ -32,9 +32,9 @@ write_number_line-requires-clause-row g c =
 pub returns-in-Table : goal.returns-in-Table
 returns-in-Table g c =
     let is = sym c.declaration.ensures ∙ c.in-Table.is in
-    rw (ap (λ (file : TypeFile). bounds_line file.table c.args.k) (c.requires.same ∙ ap file_of is) ∙ sym (ap (λ d. row_line d c.args.k) is)) at c.write_op_line.ensures
+    rw (ap (λ (file : TypeFile). bounds_line file.table c.args.k) (c.requires.same ∙ ap file_of is) ∙ sym (ap (λ d. type_row_line d c.args.k) is)) at c.write_op_line.ensures
 
 pub returns-in-Number : goal.returns-in-Number
 returns-in-Number g c =
     let is = sym c.declaration.ensures ∙ c.in-Number.is in
-    rw (sym (ap (λ d. row_line d c.args.k) is)) at c.write_number_line.ensures
+    rw (sym (ap (λ d. type_row_line d c.args.k) is)) at c.write_number_line.ensures

@@ -1,7 +1,7 @@
 use Rattle.std.proofs.Common.{◌<◌, ◌≤◌, refl, arith, inr}
-use Rattle.number_text.specs.Examples.{credit}
-use Rattle.number_text.specs.NumberFile.{IsNumber}
-use Rattle.table_checker.specs.declared.declared_type.Declaration.TheVariants.{Number as Numbers}
+use Rattle.number_types.specs.Examples.{credit}
+use Rattle.number_types.specs.Number.{IsNumber}
+use Rattle.declared_types.specs.declared.declared_type.Declaration.TheVariants.{Number as Numbers}
 use Rattle.type_commands.proofs.worked.the_credit_is_for_escrow.Goals as goal
 
 -- what is known of each number is so of the credit

@@ -3,8 +3,8 @@ use Rattle.std.proofs.lemmas.List.{drop_all}
 use Rattle.undo_manager.proofs.Settling.{start-behind}
 use Rattle.undo_manager.proofs.log.state_before.Goals as goal
 
-pub returns-then-place-log : goal.returns-then-place-log
-returns-then-place-log c = sym (start-behind c.args.log.now c.args.place c.args.state _ (omega arith))
+pub returns-then-position-log : goal.returns-then-position-log
+returns-then-position-log c = sym (start-behind c.args.log.now c.args.position c.args.state _ (omega arith))
 
-pub returns-else-place-log : goal.returns-else-place-log
-returns-else-place-log c = rw (drop_all c.args.place c.args.log.now (omega arith)) refl
+pub returns-else-position-log : goal.returns-else-position-log
+returns-else-position-log c = rw (drop_all c.args.position c.args.log.now (omega arith)) refl

@@ -1,6 +1,6 @@
 -- Those that aren't at their ends are in the list. A turn takes one from those that a worker has left, or takes a worker out of the list.
 use Rattle.std.proofs.Common.{◌≡◌, ◌+◌, ◌≤◌, vec_len}
-use Rattle.workers.specs.Doing.{AreGoing, left_in}
+use Rattle.workers.specs.SharedCalls.{AreGoing, left_in}
 use Rattle.workers.proofs.drawn.draw_turns.Given as goal
 
 abbrev pub invariant-loop-words : goal.invariant-loop-words

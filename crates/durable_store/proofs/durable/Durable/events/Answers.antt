@@ -2,10 +2,10 @@ use Rattle.std.proofs.Common.{◌≡◌, ◌∙◌, List, [], ◌∷◌, ap, dro
 use Rattle.std.proofs.lemmas.Result.{IfOk-weaker}
 use Rattle.object_trait.specs.declared.event.EventKind.{EventKind}
 use Rattle.journal.specs.Journal.{Clean, written}
-use Rattle.durable_store.specs.Durable.{events, kinds}
+use Rattle.durable_store.specs.Durable.{events_of_kinds, kinds}
 use Rattle.durable_store.proofs.durable.Durable.events.Goals as goal
 
-kinds-events : (happened : List EventKind) → kinds (events happened) ≡ happened
+kinds-events : (happened : List EventKind) → kinds (events_of_kinds happened) ≡ happened
 kinds-events [] = refl
 kinds-events (kind ∷ happened) = ap (λ more. kind ∷ more) (kinds-events happened)
 

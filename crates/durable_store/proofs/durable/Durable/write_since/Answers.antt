@@ -1,4 +1,4 @@
-use Rattle.durable_store.proofs.CatchingUp.{caught-up, last-ones}
+use Rattle.durable_store.proofs.CatchUp.{caught-up, last-ones}
 use Rattle.durable_store.proofs.durable.Durable.write_since.Goals as goal
 
 pub returns-clause-sound : goal.returns-clause-sound

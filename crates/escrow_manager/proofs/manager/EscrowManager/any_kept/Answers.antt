@@ -1,7 +1,7 @@
 use Rattle.std.proofs.Common.{◌≡◌, ℕ, ◌+◌, ◌≤◌, Some, sym, ap, subst, ◌∙◌, arith}
 use Rattle.escrow_laws.specs.Marks.{FitsIn}
 use Rattle.escrow_laws.specs.declared.mark.Mark.{Mark}
-use Rattle.number_text.specs.NumberFile.{Number}
+use Rattle.number_types.specs.Number.{Number}
 use Rattle.object_trait.specs.Meaning.{Meaning}
 use Rattle.escrow_manager.specs.Numeric.{greatest}
 use Rattle.escrow_manager.specs.KeptAmount.{IsFreeFrom, first_kept, first_beyond, first_refused}

@@ -1,6 +1,6 @@
 use Rattle.std.proofs.Common.{◌<◌, length, sym, subst, arith}
-use Rattle.number_text.specs.NumberFile.{Number}
-use Rattle.number_text.specs.Operations.{number_table}
+use Rattle.number_types.specs.Number.{Number}
+use Rattle.number_types.specs.Operations.{number_table}
 use Rattle.escrow_manager.proofs.KeptOps.{inside-ops}
 use Rattle.escrow_manager.proofs.manager.EscrowManager.kept_with.Goals as goal
 

@@ -1,7 +1,7 @@
 use Rattle.std.proofs.Common.{◌<◌, length, sym, subst, arith}
 use Rattle.std.proofs.lemmas.Bool.{iff_false}
-use Rattle.number_text.specs.NumberFile.{Number}
-use Rattle.number_text.specs.Operations.{number_table}
+use Rattle.number_types.specs.Number.{Number}
+use Rattle.number_types.specs.Operations.{number_table}
 use Rattle.object_trait.specs.Meaning.{Meaning}
 use Rattle.object_trait.proofs.Amounts.{told-none}
 use Rattle.escrow_manager.specs.KeptAmount.{IsKeptFrom}

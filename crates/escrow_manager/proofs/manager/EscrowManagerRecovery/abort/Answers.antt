@@ -6,7 +6,7 @@ use Rattle.object_trait.specs.Meaning.{Meaning, is_open_of}
 use Rattle.object_trait.specs.Steps.{Keeps}
 use Rattle.escrow_manager.specs.Numeric.{greatest}
 use Rattle.escrow_manager.specs.Marks.{without_mark}
-use Rattle.escrow_manager.specs.Totals.{totals_of, IsShort}
+use Rattle.escrow_manager.specs.Totals.{totals_of, HasShortSums}
 use Rattle.escrow_manager.specs.Kept.{IsKeptInEscrow}
 use Rattle.escrow_manager.proofs.Keeping.{meant, all-open, top-small, short-of, sums-of}
 use Rattle.escrow_manager.proofs.Changing.{totals_at, with_log, left-keeps, dropped-kept, kept-told}
@@ -28,7 +28,7 @@ drop_mark-requires c = c.self.invariant.listed.ordered
 
 pub of-self-inside-requires-clause-short : goal.of-self-inside-requires-clause-short
 of-self-inside-requires-clause-short c =
-    subst (λ (V : List OpenMark). All (λ (o : OpenMark). IsShort o.mark) V) (sym c.drop_mark.ensures) (short-of (kept c) c.marks_fit.ensures c.firm_is_legal.ensures)
+    subst (λ (V : List OpenMark). All (λ (o : OpenMark). HasShortSums o.mark) V) (sym c.drop_mark.ensures) (short-of (kept c) c.marks_fit.ensures c.firm_is_legal.ensures)
 
 pub of-self-inside-requires-clause-fallen : goal.of-self-inside-requires-clause-fallen
 of-self-inside-requires-clause-fallen c =

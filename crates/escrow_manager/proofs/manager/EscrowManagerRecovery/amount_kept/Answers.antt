@@ -1,6 +1,6 @@
 use Rattle.std.proofs.Common.{sym, ap, subst, ◌∙◌}
 use Rattle.type_table.specs.Table.{IsTable}
-use Rattle.table_checker.specs.Declarations.{file_of}
+use Rattle.declared_types.specs.Declarations.{file_of}
 use Rattle.object_trait.proofs.Amounts.{told-of-table}
 use Rattle.escrow_manager.proofs.manager.EscrowManagerRecovery.amount_kept.Goals as goal
 

@@ -1,6 +1,6 @@
 use Rattle.std.proofs.Common.{◌≡◌, ◌++◌, ◌∷◌, [], false, All, List, Some, sym, ap, subst, ◌∙◌, arith}
 use Rattle.std.specs.Prelude.{slice_get}
-use Rattle.escrow_laws.specs.Marks.{marked, fallen_of, risen_of}
+use Rattle.escrow_laws.specs.Marks.{mark_after, fallen_of, risen_of}
 use Rattle.escrow_laws.specs.declared.bounded.Bounded.{Bounded}
 use Rattle.escrow_laws.specs.declared.mark.Mark.{Mark}
 use Rattle.escrow_laws.specs.declared.mark.OpenMark.{OpenMark}
@@ -9,8 +9,8 @@ use Rattle.object_trait.specs.Meaning.{Meaning}
 use Rattle.object_trait.specs.Steps.{MayApply, applied}
 use Rattle.object_trait.specs.declared.log_entry.LogEntry.{LogEntry}
 use Rattle.escrow_manager.specs.Numeric.{bounds_in, greatest}
-use Rattle.escrow_manager.specs.Marks.{AreOrdered, mark_in, with_mark, IsSmall}
-use Rattle.escrow_manager.specs.Totals.{totals_of, IsShort}
+use Rattle.escrow_manager.specs.Marks.{MarksAscend, mark_in, with_mark, IsSmall}
+use Rattle.escrow_manager.specs.Totals.{totals_of, HasShortSums}
 use Rattle.escrow_manager.specs.Kept.{IsKeptInEscrow}
 use Rattle.escrow_manager.specs.declared.totals.Totals.{Totals}
 use Rattle.escrow_manager.proofs.Keeping.{meant, mark_at, op-found, top-small, small-of, short-of, sums-of}
@@ -48,13 +48,13 @@ first_small c =
     (small-of c.self.invariant c.marks_are_exact.ensures c.marks_fit.ensures c.firm_is_legal.ensures c.args.t c.args.k (first_op c) (first_found c) (first_may c).legal)
 
 pub place_of-at-requires : goal.place_of-at-requires
-place_of-at-requires c = subst (λ V. AreOrdered V) (sym c.in_ok-reserve-2.ensures.items) c.self.invariant.listed.ordered
+place_of-at-requires c = subst (λ V. MarksAscend V) (sym c.in_ok-reserve-2.ensures.items) c.self.invariant.listed.ordered
 
 pub mark_at-old-requires-clause-ordered : goal.mark_at-old-requires-clause-ordered
-mark_at-old-requires-clause-ordered c = subst (λ V. AreOrdered V) (sym c.in_ok-reserve-2.ensures.items) c.self.invariant.listed.ordered
+mark_at-old-requires-clause-ordered c = subst (λ V. MarksAscend V) (sym c.in_ok-reserve-2.ensures.items) c.self.invariant.listed.ordered
 
 pub put_mark-requires-clause-ordered : goal.put_mark-requires-clause-ordered
-put_mark-requires-clause-ordered c = subst (λ V. AreOrdered V) (sym c.in_ok-reserve-2.ensures.items) c.self.invariant.listed.ordered
+put_mark-requires-clause-ordered c = subst (λ V. MarksAscend V) (sym c.in_ok-reserve-2.ensures.items) c.self.invariant.listed.ordered
 
 pub marked-mark-requires-clause-fall : goal.marked-mark-requires-clause-fall
 marked-mark-requires-clause-fall c =
@@ -94,7 +94,7 @@ exact : (c : goal.After-after-arg-2-1) → c.mark_at-old.result ≡ mark_at (mea
 exact c = old_is c ∙ c.self.invariant.listed.exact c.args.t
 
 same_mark : (c : goal.After-after-arg-2-1) → c.marked-mark.result ≡ mark_with (meant c.self.inside) c.args.t (op c)
-same_mark c = c.marked-mark.ensures ∙ ap (λ (x : Mark). marked x (op c)) (exact c)
+same_mark c = c.marked-mark.ensures ∙ ap (λ (x : Mark). mark_after x (op c)) (exact c)
 
 -- with t's new mark
 abbrev now : goal.After-after-arg-2-1 → List OpenMark
@@ -132,7 +132,7 @@ after-self-inside-requires-clause-new c = more-short (greatest c.self.inside.che
 
 pub after-self-inside-requires-clause-short : goal.after-self-inside-requires-clause-short
 after-self-inside-requires-clause-short c =
-    subst (λ (V : List OpenMark). All (λ (o : OpenMark). IsShort o.mark) V) (sym (now_is c)) (short-of (kept c) c.marks_fit.ensures c.firm_is_legal.ensures)
+    subst (λ (V : List OpenMark). All (λ (o : OpenMark). HasShortSums o.mark) V) (sym (now_is c)) (short-of (kept c) c.marks_fit.ensures c.firm_is_legal.ensures)
 
 pub after-self-inside-requires-clause-fallen : goal.after-self-inside-requires-clause-fallen
 after-self-inside-requires-clause-fallen c =

@@ -1,6 +1,6 @@
 use Rattle.std.proofs.Common.{◌≡◌, ◌<◌, Some, sym, ap, subst, ◌∙◌, arith}
 use Rattle.std.specs.Prelude.{slice_get}
-use Rattle.escrow_laws.specs.Marks.{marked}
+use Rattle.escrow_laws.specs.Marks.{mark_after}
 use Rattle.escrow_laws.specs.declared.bounded.Bounded.{Bounded}
 use Rattle.escrow_laws.specs.declared.mark.Mark.{Mark}
 use Rattle.table_checker.specs.Checked.{Checked}
@@ -88,7 +88,7 @@ first_keeper-requires-clause-risen c = let few = (bounded c.before.before.before
 
 -- they are the totals after k
 same_mark : (c : goal.After-with-totals) → c.marked-mark.result ≡ mark_with (meant c.self.inside) c.args.t (op c.before.before.before)
-same_mark c = c.marked-mark.ensures ∙ ap (λ (x : Mark). marked x (op c.before.before.before)) (exact c.before.before.before)
+same_mark c = c.marked-mark.ensures ∙ ap (λ (x : Mark). mark_after x (op c.before.before.before)) (exact c.before.before.before)
 
 same_totals : (c : goal.After-with-totals) → c.with-totals.result ≡ totals_after (meant c.self.inside) c.self.inside.totals c.args.t (op c.before.before.before)
 same_totals c =

@@ -10,7 +10,7 @@ use Rattle.object_trait.specs.declared.log_entry.LogEntry.{LogEntry}
 use Rattle.object_trait.proofs.Leaving.{each-left}
 use Rattle.escrow_manager.specs.Numeric.{bounds_in, greatest}
 use Rattle.escrow_manager.specs.Marks.{with_mark}
-use Rattle.escrow_manager.specs.Totals.{totals_of, IsShort}
+use Rattle.escrow_manager.specs.Totals.{totals_of, HasShortSums}
 use Rattle.escrow_manager.specs.Kept.{IsKeptInEscrow}
 use Rattle.escrow_manager.proofs.Keeping.{meant, all-open, inside-of, top-small, short-of, sums-of}
 use Rattle.escrow_manager.proofs.Changing.{totals_at, with_log, left-keeps, struck-legal, rewound-kept, listed-some, kept-told}
@@ -83,7 +83,7 @@ kept c =
 
 pub of-self-inside-requires-clause-short : goal.of-self-inside-requires-clause-short
 of-self-inside-requires-clause-short c =
-    subst (λ (V : List OpenMark). All (λ (o : OpenMark). IsShort o.mark) V) (sym c.put_mark.ensures) (short-of (kept c) c.marks_fit.ensures c.firm_is_legal.ensures)
+    subst (λ (V : List OpenMark). All (λ (o : OpenMark). HasShortSums o.mark) V) (sym c.put_mark.ensures) (short-of (kept c) c.marks_fit.ensures c.firm_is_legal.ensures)
 
 pub of-self-inside-requires-clause-fallen : goal.of-self-inside-requires-clause-fallen
 of-self-inside-requires-clause-fallen c =

@@ -1,5 +1,5 @@
 use Rattle.std.proofs.Common.{List, map, subst}
-use Rattle.table_checker.specs.Declarations.{table_of}
+use Rattle.declared_types.specs.Declarations.{table_of}
 use Rattle.history_audit.specs.Judged.{IsHanded}
 use Rattle.history_audit.specs.SerialRun.{ReplaysFrom}
 use Rattle.history_audit.specs.declared.executed.Executed.{Executed}

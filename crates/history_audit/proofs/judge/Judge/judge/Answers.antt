@@ -1,7 +1,7 @@
 use Rattle.std.proofs.Common.{map}
 use Rattle.history_audit.proofs.Judged.{commit_passed, commit_failed}
 use Rattle.history_audit.proofs.judge.Judge.judge.Goals as goal
-use Rattle.table_checker.specs.Declarations.{table_of}
+use Rattle.declared_types.specs.Declarations.{table_of}
 use Rattle.history_audit.proofs.judge.Judge.judge.Goals.{in-Ok, in-Err}
 
 pub returns-after-commit-clause-judged : goal.returns-after-commit-clause-judged

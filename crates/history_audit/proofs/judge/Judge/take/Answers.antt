@@ -1,6 +1,6 @@
 use Rattle.std.proofs.Common.{map, length, Some, Ok, Err, refl}
 use Rattle.std.proofs.lemmas.Option.{slice_get_read}
-use Rattle.table_checker.specs.Declarations.{table_of}
+use Rattle.declared_types.specs.Declarations.{table_of}
 use Rattle.object_trait.specs.declared.event.Event.{Event}
 use Rattle.history_audit.proofs.Taken.{judged-more, handed-none, handed-some, judge-stops, judged-of}
 use Rattle.history_audit.proofs.judge.Judge.take.Goals as goal

@@ -1,5 +1,5 @@
 use Rattle.std.proofs.Common.{map, length}
-use Rattle.table_checker.specs.Declarations.{table_of}
+use Rattle.declared_types.specs.Declarations.{table_of}
 use Rattle.history_audit.proofs.Replayed.{stopped-within}
 use Rattle.history_audit.proofs.serial_run.SerialRun.replay.Goals as goal
 

@@ -7,11 +7,11 @@ use Rattle.object_trait.specs.Steps.{MayApply, applied}
 use Rattle.object_trait.specs.declared.log_entry.LogEntry.{LogEntry}
 use Rattle.intentions_manager.specs.Views.{seen_by, with_view}
 use Rattle.intentions_manager.specs.Walk.{stepped}
-use Rattle.intentions_manager.specs.Kept.{HasBits, IsKeptDeferred}
+use Rattle.intentions_manager.specs.Kept.{LogHasBits, IsKeptDeferred}
 use Rattle.intentions_manager.specs.declared.views.View.{View}
 use Rattle.intentions_manager.proofs.Bits.{bits-push}
 use Rattle.intentions_manager.proofs.Keeping.{meant, seen-count, next_view, applied-kept}
-use Rattle.table_checker.specs.Declarations.{IsByTable}
+use Rattle.declared_types.specs.Declarations.{IsByTable}
 use Rattle.intentions_manager.proofs.manager.IntentionsManagerRecovery.apply.Goals as goal
 
 pub table-requires : goal.table-requires
@@ -48,7 +48,7 @@ invariant_of-self-2 c =
     let made : c.put_view.new.views.items ≡ with_view (next_view (meant inside) views t k) views = c.put_view.ensures ∙ ap (λ w. with_view w c.reserve-2.new.self.items) put ∙ ap (with_view (next_view (meant inside) views t k)) c.in_ok-reserve-2.ensures.items in (
       subst (λ L. IsKeptDeferred (record { checked = inside.checked.value; base = inside.base; log = L }) c.put_view.new.views.items) (sym log)
           (applied-kept c.runs_along.ensures c.equi_extends.ensures c.steps_within.ensures c.sound_after_apply.ensures c.put_view.new.views.items t k c.self.invariant.0 may made),
-      subst (HasBits c.with_bit-self-inside.result) (sym log)
+      subst (LogHasBits c.with_bit-self-inside.result) (sym log)
           (bits-push inside.word c.with_bit-self-inside.result inside.log.items entry c.with_bit-self-inside.ensures.added c.with_bit-self-inside.ensures.kept c.self.invariant.1),
     )
 

@@ -6,7 +6,7 @@ use Rattle.table_checker.specs.Checked.{Checked}
 use Rattle.object_trait.specs.declared.log_entry.LogEntry.{LogEntry}
 use Rattle.intentions_manager.proofs.Keeping.{meant, deferred-sound}
 use Rattle.intentions_manager.proofs.Blocking.{rows-deferred, stopper-told}
-use Rattle.table_checker.specs.Declarations.{IsByTable}
+use Rattle.declared_types.specs.Declarations.{IsByTable}
 use Rattle.intentions_manager.proofs.manager.IntentionsManagerRecovery.blocker.Goals as goal
 
 pub conflicts-requires : goal.conflicts-requires

@@ -8,7 +8,7 @@ use Rattle.intentions_manager.specs.Walk.{carried, FitsTable}
 use Rattle.intentions_manager.specs.declared.views.View.{View}
 use Rattle.intentions_manager.proofs.Keeping.{meant, all-open}
 use Rattle.intentions_manager.proofs.Committing.{CommitLaws, IsCommitted, committed, committed-commits, committed-kept}
-use Rattle.table_checker.specs.Declarations.{IsByTable}
+use Rattle.declared_types.specs.Declarations.{IsByTable}
 use Rattle.intentions_manager.proofs.manager.IntentionsManagerRecovery.commit.Goals as goal
 
 pub table-requires : goal.table-requires

@@ -1,7 +1,7 @@
 use Rattle.std.proofs.Common.{sym, ap, subst, ◌∙◌}
 use Rattle.intentions_manager.proofs.Keeping.{legal-told}
 use Rattle.table_checker.specs.Checked.{Checked}
-use Rattle.table_checker.specs.Declarations.{IsByTable}
+use Rattle.declared_types.specs.Declarations.{IsByTable}
 use Rattle.intentions_manager.proofs.manager.IntentionsManagerRecovery.legal.Goals as goal
 
 pub table-table-requires : goal.table-table-requires

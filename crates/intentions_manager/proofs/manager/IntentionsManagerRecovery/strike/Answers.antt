@@ -11,7 +11,7 @@ use Rattle.intentions_manager.specs.declared.views.View.{View}
 use Rattle.intentions_manager.proofs.Seeing.{count-any}
 use Rattle.intentions_manager.proofs.Keeping.{meant, all-open, seen-count}
 use Rattle.intentions_manager.proofs.Rewinding.{StrikeLaws, RewindLaws, with_log, struck-keeps, dropped-kept, rewound-kept}
-use Rattle.table_checker.specs.Declarations.{IsByTable}
+use Rattle.declared_types.specs.Declarations.{IsByTable}
 use Rattle.intentions_manager.proofs.manager.IntentionsManagerRecovery.strike.Goals as goal
 
 pub table-requires : goal.table-requires

@@ -1,7 +1,7 @@
 use Rattle.std.proofs.Common.{◌≡◌, Some, sym, ap, subst, ◌∙◌, arith}
 use Rattle.type_table.specs.Table.{Table}
 use Rattle.table_checker.specs.Checked.{Checked}
-use Rattle.table_checker.specs.Declarations.{IsByTable}
+use Rattle.declared_types.specs.Declarations.{IsByTable}
 use Rattle.intentions_manager.specs.Walk.{walked}
 use Rattle.intentions_manager.proofs.Keeping.{view-told}
 use Rattle.intentions_manager.proofs.manager.IntentionsManagerRecovery.view.Goals as goal

@@ -1,5 +1,5 @@
 use Rattle.std.proofs.Common.{refl}
-use Rattle.journal.proofs.Raising.{raises, in-life}
+use Rattle.journal.proofs.NewHeaders.{raises, in-life}
 use Rattle.journal.proofs.journal.Journal.begin_life.Goals as goal
 
 pub returns-clause-kept : goal.returns-clause-kept

@@ -1,5 +1,5 @@
 use Rattle.std.proofs.Common.{sym, ◌∙◌}
-use Rattle.table_checker.specs.Declarations.{table_of}
+use Rattle.declared_types.specs.Declarations.{table_of}
 use Rattle.object_calls.proofs.Held.{found_by_name}
 use Rattle.object_calls.proofs.call_table.CallTable.by_name.Goals as goal
 

@@ -1,7 +1,7 @@
 use Rattle.std.proofs.Common.{◌≡◌, ◌≤◌, length, sym, subst, ap, ◌∙◌}
 use Rattle.type_table.specs.Limits.{most_ops}
 use Rattle.type_table.specs.Table.{Table}
-use Rattle.table_checker.specs.Declarations.{table_of}
+use Rattle.declared_types.specs.Declarations.{table_of}
 use Rattle.object_calls.proofs.Held.{found_by_number, not_numbered}
 use Rattle.object_calls.proofs.call_table.CallTable.by_number.Goals as goal
 

@@ -1,5 +1,5 @@
 use Rattle.std.proofs.Common.{All}
-use Rattle.number_text.specs.Operations.{number_table}
+use Rattle.number_types.specs.Operations.{number_table}
 use Rattle.object_calls.specs.Calls.{IsNamedCall}
 use Rattle.object_calls.proofs.call_table.CallTable.of_number.Given as goal
 

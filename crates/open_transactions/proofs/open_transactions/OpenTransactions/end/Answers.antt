@@ -1,6 +1,6 @@
 use Rattle.std.proofs.Common.{◌+◌, ap, ◌∙◌, arith}
 use Rattle.open_transactions.specs.Transactions.{count_open}
-use Rattle.open_transactions.specs.Slots.{number_of, row_of}
+use Rattle.open_transactions.specs.Slots.{transaction_number, open_row}
 use Rattle.open_transactions.proofs.InSlots.{moved-slotted, still-slotted, end-shows}
 use Rattle.open_transactions.proofs.Calls.{end-known}
 use Rattle.open_transactions.proofs.Counts.{count-less}
@@ -8,13 +8,13 @@ use Rattle.open_transactions.proofs.open_transactions.OpenTransactions.end.Goals
 
 pub put-requires-clause-still_open : goal.put-requires-clause-still_open
 put-requires-clause-still_open c =
-    moved-slotted number_of row_of c.self.inside.slots.items c.self.inside.index.slots c.self.invariant.placed c.args.self.now.rows (ap (λ a. a.rows) c.self.view_is) c.args.t
+    moved-slotted transaction_number open_row c.self.inside.slots.items c.self.inside.index.slots c.self.invariant.placed c.args.self.now.rows (ap (λ a. a.rows) c.self.view_is) c.args.t
     c.open_slot-slot.result 65535 c.requires c.open_slot-slot.ensures c.len-last.result (omega (arith, c.len-last.ensures, c.self.inside.slots.ok.0)) c.index.result.now c.index.ensures
 
 pub end-requires : goal.end-requires
 end-requires c =
     rw c.put.ensures.slots
-    (still-slotted number_of row_of c.self.inside.slots.items c.self.inside.index.slots c.self.invariant.placed c.args.self.now.rows (ap (λ a. a.rows) c.self.view_is) c.args.t
+    (still-slotted transaction_number open_row c.self.inside.slots.items c.self.inside.index.slots c.self.invariant.placed c.args.self.now.rows (ap (λ a. a.rows) c.self.view_is) c.args.t
     c.open_slot-slot.result 65535 c.requires c.open_slot-slot.ensures c.len-last.result (omega (arith, c.len-last.ensures, c.self.inside.slots.ok.0)) c.index.result.now c.index.ensures)
 
 pub invariant_of-self : goal.invariant_of-self
@@ -26,7 +26,7 @@ invariant_of-self c =
 pub returns-clause-rows : goal.returns-clause-rows
 returns-clause-rows c =
     rw (c.end.ensures, c.put.ensures.slots, c.swap_remove.ensures.items)
-    (end-shows number_of row_of c.self.inside.slots.items c.self.inside.index.slots c.self.invariant.placed c.args.self.now.rows (ap (λ a. a.rows) c.self.view_is) c.args.t
+    (end-shows transaction_number open_row c.self.inside.slots.items c.self.inside.index.slots c.self.invariant.placed c.args.self.now.rows (ap (λ a. a.rows) c.self.view_is) c.args.t
     c.open_slot-slot.result 65535 c.requires c.open_slot-slot.ensures c.len-last.result (omega (arith, c.len-last.ensures, c.self.inside.slots.ok.0)) c.index.result.now c.index.ensures c.swap_remove.result)
 
 pub returns-clause-count : goal.returns-clause-count

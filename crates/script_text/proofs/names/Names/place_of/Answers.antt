@@ -10,5 +10,5 @@ returns-then-eq-clause-there c =
     let same : c.as_bytes-name.result.now ≡ c.args.bytes.now = (bytes_eq-Decides c.as_bytes-name.result.now c.args.bytes.now).0 (sym c.eq.ensures ∙ c.if-eq.true) in
     let found = c.in_ok-get.ensures.lookup in
     let names = c.deref.result.now in
-    let place = slice_index_or c.self.inside.places c.from.result 0 in
-    rw (← c.self.view_is, ← c.deref.ensures.value) (slice_get-get_or names place c.in_ok-get.field-0.now (ltb-true place (length names) (sym found.0)) ∙ ap Some (sym found.1 ∙ sym c.as_bytes-name.ensures.exact ∙ same))
+    let position = slice_index_or c.self.inside.positions c.from.result 0 in
+    rw (← c.self.view_is, ← c.deref.ensures.value) (slice_get-get_or names position c.in_ok-get.field-0.now (ltb-true position (length names) (sym found.0)) ∙ ap Some (sym found.1 ∙ sym c.as_bytes-name.ensures.exact ∙ same))

@@ -1,6 +1,6 @@
 use Rattle.serving.specs.Told.{greeting}
 use Rattle.type_table.proofs.Results.{on_err}
-use Rattle.serving.proofs.Telling.{part-of-whole}
+use Rattle.serving.proofs.TextParts.{part-of-whole}
 use Rattle.serving.proofs.client.Client.greet.Goals as goal
 
 pub returns-clause-part : goal.returns-clause-part

@@ -1,8 +1,8 @@
 use Rattle.std.proofs.Common.{None, refl, rules}
 use Rattle.outputs.specs.Gathered.{taken_by}
-use Rattle.serving.proofs.Acknowledging.{stops-safely, tells-none}
+use Rattle.serving.proofs.Acknowledgements.{stops-safely, tells-none}
 use Rattle.serving.proofs.Groups.{stops-before}
-use Rattle.serving.proofs.Lasting.{left-nowhere, left-then, writes-nowhere, writes-on}
+use Rattle.serving.proofs.LaterEpochs.{left-nowhere, left-then, writes-nowhere, writes-on}
 use Rattle.serving.proofs.Results.{of-err, of-ok}
 use Rattle.serving.proofs.server.Server.run.Goals as goal
 

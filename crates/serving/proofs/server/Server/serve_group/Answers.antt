@@ -4,11 +4,11 @@ use Rattle.outputs.specs.Gathered.{taken_by}
 use Rattle.serving.specs.declared.answer_line.Answered.{Answered}
 use Rattle.serving.specs.declared.server.Server.{Server}
 use Rattle.serving.specs.Told.{AppendsPart, answers_text}
-use Rattle.serving.proofs.Following.{leaves-then}
-use Rattle.serving.proofs.Serving.{stays-then}
+use Rattle.serving.proofs.MoreEvents.{leaves-then}
+use Rattle.serving.proofs.ServedBytes.{stays-then}
 use Rattle.type_table.proofs.Results.{on_err}
-use Rattle.serving.proofs.Acknowledging.{stops-safely, stops-safely-telling, tells-group}
-use Rattle.serving.proofs.Lasting.{left-more, left-nowhere}
+use Rattle.serving.proofs.Acknowledgements.{stops-safely, stops-safely-telling, tells-group}
+use Rattle.serving.proofs.LaterEpochs.{left-more, left-nowhere}
 use Rattle.serving.proofs.server.Server.serve_group.Goals as goal
 
 pub returns-in-Err-clause-stops : goal.returns-in-Err-clause-stops

@@ -1,9 +1,9 @@
 use Rattle.std.proofs.Common.{◌≡◌, ◌+◌, true, false, Option, None, Some, refl, sym, ap, subst, arith}
 use Rattle.std.proofs.lemmas.List.{append-nil}
 use Rattle.std.specs.Prelude.{is_some}
-use Rattle.serving.specs.Serving.{HasServed}
-use Rattle.serving.proofs.Following.{leaves-then}
-use Rattle.serving.proofs.Serving.{byte-stays, bytes-more, stays-put, stays-then}
+use Rattle.serving.specs.Server.{HasServed}
+use Rattle.serving.proofs.MoreEvents.{leaves-then}
+use Rattle.serving.proofs.ServedBytes.{byte-stays, bytes-more, stays-put, stays-then}
 use Rattle.serving.proofs.server.Server.take_bytes.Goals as goal
 
 none-of : {A : Type 0} (x : Option A) → is_some x ≡ false → x ≡ None

@@ -2,7 +2,7 @@
 use Rattle.std.proofs.Common.{◌≡◌, ℕ, List, ◌++◌, take, None}
 use Rattle.serving.specs.declared.answer_line.Answered.{Answered}
 use Rattle.serving.specs.declared.session.Session.{Session}
-use Rattle.serving.specs.Serving.{StaysInEpoch, HasServed}
+use Rattle.serving.specs.Server.{StaysInEpoch, HasServed}
 use Rattle.serving.proofs.server.Server.take_bytes.Given as goal
 
 abbrev pub invariant-loop-b : goal.invariant-loop-b

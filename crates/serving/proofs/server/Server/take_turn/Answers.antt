@@ -3,8 +3,8 @@ use Rattle.std.specs.Prelude.{OnOk}
 use Rattle.outputs.specs.Gathered.{taken_by}
 use Rattle.serving.specs.Epochs.{WritesEpochs}
 use Rattle.std.proofs.lemmas.Result.{on_ok_weaker}
-use Rattle.serving.proofs.Acknowledging.{stops-safely}
-use Rattle.serving.proofs.Lasting.{left-stays, left-more, writes-stays, writes-one}
+use Rattle.serving.proofs.Acknowledgements.{stops-safely}
+use Rattle.serving.proofs.LaterEpochs.{left-stays, left-more, writes-stays, writes-one}
 use Rattle.type_table.proofs.Results.{on_err}
 use Rattle.serving.proofs.server.Server.take_turn.Goals as goal
 

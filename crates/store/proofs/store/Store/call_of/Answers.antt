@@ -1,6 +1,6 @@
 use Rattle.std.proofs.Common.{◌++◌, ap, sym, ◌∙◌}
 use Rattle.type_table.specs.Table.{first_op}
-use Rattle.table_checker.specs.Declarations.{table_of}
+use Rattle.declared_types.specs.Declarations.{table_of}
 use Rattle.serial_order.specs.Replay.{call_at}
 use Rattle.store.proofs.OpCalls.{object-found}
 use Rattle.store.proofs.store.Store.call_of.Goals as goal

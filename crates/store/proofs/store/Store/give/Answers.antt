@@ -1,9 +1,9 @@
 use Rattle.std.proofs.Common.{◌≡◌, ◌+◌, ◌≤◌, true, false, [], ◌∷◌, ◌++◌, length, map, Some, slice_get, vec_len, vec_capacity, refl, sym, ap, ◌∙◌, arith}
 use Rattle.std.proofs.lemmas.List.{length-map}
 use Rattle.object_trait.specs.Meaning.{Meaning}
-use Rattle.serial_order.specs.Replay.{is_full}
+use Rattle.serial_order.specs.Replay.{is_history_full}
 use Rattle.store_laws.specs.Words.{as_event}
-use Rattle.store.specs.Executed.{IsDone}
+use Rattle.store.specs.Executed.{ExecutesAnswer}
 use Rattle.store.proofs.Rooms.{succeeded}
 use Rattle.store.proofs.Pasts.{past-more, past-length}
 use Rattle.store.proofs.Executed.{failed}
@@ -16,7 +16,7 @@ returns-then-not-has_room g c =
     let inside = c.self.inside in
     let H = inside.past.items ++ inside.history.items in
     let ms = map g.R.Recovery.meaning inside.objects.items in
-    let room : is_full inside.max_events H 1 ≡ true =
+    let room : is_history_full inside.max_events H 1 ≡ true =
     room-tested c.rows_are_counted.ensures ms inside.transactions.rows inside.past.items inside.history.items c.deref.result.now inside.forgotten c.open_count-opened.result inside.max_events c.has_room.result false
     c.self.invariant.1.store.kept c.open_count-opened.ensures.exact c.self.invariant.0 c.deref.ensures.value c.has_room.ensures c.if-not-has_room.true in
     full-comes ms inside.transactions.rows H inside.max_events inside.forgotten c.args.self.now c.args.w c.args.t c.args.x c.args.call.now.first c.self.view_is room
@@ -36,7 +36,7 @@ do_answer-done-requires-clause-still_open g c κs within =
 pub do_answer-done-requires-clause-may : goal.do_answer-done-requires-clause-may
 do_answer-done-requires-clause-may g c κs within = λ k replies m there.
     let inside = c.self.inside in
-    let room : is_full inside.max_events (inside.past.items ++ inside.history.items) 1 ≡ false =
+    let room : is_history_full inside.max_events (inside.past.items ++ inside.history.items) 1 ≡ false =
     room-tested c.rows_are_counted.ensures (map g.R.Recovery.meaning inside.objects.items) inside.transactions.rows inside.past.items inside.history.items c.deref.result.now
     inside.forgotten c.open_count-opened.result inside.max_events c.has_room.result true
     c.self.invariant.1.store.kept c.open_count-opened.ensures.exact c.self.invariant.0 c.deref.ensures.value c.has_room.ensures c.if-not-has_room.false in
@@ -51,7 +51,7 @@ returns-then-is_err-2 g c =
     let inside = c.self.inside in
     let H = inside.past.items ++ inside.history.items in
     let ms = map g.R.Recovery.meaning inside.objects.items in
-    let room : is_full inside.max_events H 1 ≡ false =
+    let room : is_history_full inside.max_events H 1 ≡ false =
     room-tested c.rows_are_counted.ensures ms inside.transactions.rows inside.past.items inside.history.items c.deref.result.now inside.forgotten c.open_count-opened.result inside.max_events c.has_room.result true
     c.self.invariant.1.store.kept c.open_count-opened.ensures.exact c.self.invariant.0 c.deref.ensures.value c.has_room.ensures c.if-not-has_room.false in
     memory_refused-comes ms inside.transactions.rows H inside.max_events inside.forgotten c.args.self.now c.args.w c.args.t c.args.x c.args.call.now.first c.self.view_is
@@ -61,7 +61,7 @@ returns-then-is_err-2 g c =
 
 -- what the answer says is done
 done : (g : Over) (c : goal.After-push_reserved g)
-    → IsDone c.args.answer.now c.args.t c.args.x (map g.R.Recovery.meaning c.self.inside.objects.items) (map g.R.Recovery.meaning c.do_answer-done.new.objects.items)
+    → ExecutesAnswer c.args.answer.now c.args.t c.args.x (map g.R.Recovery.meaning c.self.inside.objects.items) (map g.R.Recovery.meaning c.do_answer-done.new.objects.items)
     c.self.inside.transactions.rows c.do_answer-done.new.transactions.rows
 done g c = succeeded c.do_answer-done.result (sym c.is_err-2.ensures.value ∙ c.if-is_err-2.false) c.do_answer-done.ensures.done
 
@@ -85,7 +85,7 @@ called g c =
     c.args.t c.args.answer.now c.self.invariant.1.store.kept c.requires.still_open c.requires.chosen
 
 -- there is room
-roomy : (g : Over) (c : goal.After-push_reserved g) → is_full c.self.inside.max_events (c.self.inside.past.items ++ c.self.inside.history.items) 1 ≡ false
+roomy : (g : Over) (c : goal.After-push_reserved g) → is_history_full c.self.inside.max_events (c.self.inside.past.items ++ c.self.inside.history.items) 1 ≡ false
 roomy g c =
     let inside = c.self.inside in
     room-tested c.rows_are_counted.ensures (map g.R.Recovery.meaning inside.objects.items) inside.transactions.rows inside.past.items inside.history.items c.deref.result.now inside.forgotten

@@ -1,9 +1,10 @@
 use Rattle.std.proofs.Common.{◌≡◌, true, sym, subst, ap, ◌∙◌}
-use Rattle.type_text.specs.TypeFile.{file_at}
-use Rattle.type_text.specs.declared.type_file.TypeFile.{TypeFile}
+use Rattle.declared_types.specs.TypeFile.{file_at}
+use Rattle.declared_types.specs.declared.type_file.TypeFile.{TypeFile}
 use Rattle.table_checker.specs.Checked.{Checked, IsCheckedBy}
-use Rattle.table_checker.specs.At.{is_inside, checked_at}
-use Rattle.table_checker.specs.Declarations.{file_of, declared_at, IsAccepted}
+use Rattle.table_checker.specs.At.{may_begin_at, checked_at}
+use Rattle.table_checker.specs.Declarations.{IsAccepted}
+use Rattle.declared_types.specs.Declarations.{file_of, declared_at}
 use Rattle.table_checker.proofs.Declared.{file_of-at, declared_for-at, holds_bounds-at}
 use Rattle.table_checker.proofs.checked_type.CheckedType.at.Goals as goal
 
@@ -16,8 +17,8 @@ invariant_of-result c =
     let inside = c.self.inside in
     let d = inside.declared in
     let s = c.args.state in
-    let member : is_inside (record { kind = inside.kind; file = file_of d }) s ≡ true =
-    subst (λ (k : Checked). is_inside k s ≡ true) (sym c.self.view_is) (sym c.is_inside.ensures ∙ c.if-not-is_inside.false) in
+    let member : may_begin_at (record { kind = inside.kind; file = file_of d }) s ≡ true =
+    subst (λ (k : Checked). may_begin_at k s ≡ true) (sym c.self.view_is) (sym c.is_inside.ensures ∙ c.if-not-is_inside.false) in
     let checked = subst (λ (f : TypeFile). IsCheckedBy inside.kind f) (sym (file_of-at d s)) (c.at_is_checked.ensures (record { kind = inside.kind; file = file_of d }) s c.self.invariant.checked member) in
     let accepted : IsAccepted inside.kind (declared_at d s) inside.bounds =
     record { checked = checked; kinds = declared_for-at inside.kind d s c.self.invariant.kinds; bounds_are = holds_bounds-at inside.kind d s inside.bounds c.self.invariant.bounds_are } in

@@ -1,5 +1,5 @@
 use Rattle.std.proofs.Common.{◌≡◌, ◌↔◌, true, sym, ap, subst, ◌∙◌}
-use Rattle.type_text.specs.declared.type_file.TypeFile.{TypeFile}
+use Rattle.declared_types.specs.declared.type_file.TypeFile.{TypeFile}
 use Rattle.table_checker.specs.Checked.{Checked}
 use Rattle.table_checker.specs.Condition.{PassesEverywhere}
 use Rattle.table_checker.specs.declared.condition.Condition.TheVariants.{BackwardBothWays}

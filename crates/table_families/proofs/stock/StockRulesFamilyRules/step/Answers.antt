@@ -1,5 +1,5 @@
 use Rattle.std.proofs.Common.{codes, arith}
-use Rattle.table_maker.proofs.AmountFacts.{length-amounts}
+use Rattle.table_families.proofs.AmountFacts.{length-amounts}
 use Rattle.table_families.proofs.stock.StockRulesFamilyRules.step.Goals as goal
 
 pub bounds-self-k : goal.bounds-self-k

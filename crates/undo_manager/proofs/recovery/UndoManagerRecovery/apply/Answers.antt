@@ -11,7 +11,7 @@ use Rattle.undo_manager.proofs.Holding.{held-push}
 use Rattle.undo_manager.proofs.Keeping.{legal-next, count-length}
 use Rattle.undo_manager.proofs.Running.{entries-append}
 use Rattle.table_checker.specs.Checked.{Checked}
-use Rattle.table_checker.specs.Declarations.{IsByTable}
+use Rattle.declared_types.specs.Declarations.{IsByTable}
 use Rattle.undo_manager.proofs.recovery.UndoManagerRecovery.apply.Goals as goal
 
 pub table-requires : goal.table-requires

@@ -1,5 +1,5 @@
 use Rattle.std.proofs.Common.{◌<◌, List, Bool, All, length, sym, ap, subst, ◌∙◌}
-use Rattle.op_locks.specs.Locks.{blocker}
+use Rattle.op_locks.specs.Locks.{blocking_holder}
 use Rattle.op_locks.specs.declared.held.Held.{Held}
 use Rattle.table_checker.specs.Checked.{Checked}
 use Rattle.object_trait.specs.Object.{conflicts_by}
@@ -8,7 +8,7 @@ use Rattle.undo_manager.specs.Log.{entries}
 use Rattle.undo_manager.proofs.Keeping.{meaning_of}
 use Rattle.undo_manager.proofs.Accepted.{rows-in_place}
 use Rattle.undo_manager.proofs.Blocking.{held-fits, stopper-told}
-use Rattle.table_checker.specs.Declarations.{IsByTable}
+use Rattle.declared_types.specs.Declarations.{IsByTable}
 use Rattle.undo_manager.proofs.recovery.UndoManagerRecovery.blocker.Goals as goal
 
 pub conflicts-requires : goal.conflicts-requires
@@ -28,8 +28,8 @@ returns c =
     let m = meaning_of inside.checked.value inside.base inside.log.items in
     rw (← c.self.view_is)
     (c.blocker.ensures
-    ∙ ap (λ k. blocker c.conflicts.result.now c.args.t k inside.held.held) c.column-column.ensures
-    ∙ ap (λ (rows : List (List Bool)). blocker rows c.args.t c.args.k inside.held.held)
+    ∙ ap (λ k. blocking_holder c.conflicts.result.now c.args.t k inside.held.held) c.column-column.ensures
+    ∙ ap (λ (rows : List (List Bool)). blocking_holder rows c.args.t c.args.k inside.held.held)
     (c.conflicts.ensures.exact ∙ ap (λ (x : Checked). x.file.undo) c.deref-2.ensures ∙ rows-in_place inside.checked.value.kind inside.checked.value.file c.self.invariant.0.in_place)
-    ∙ ap (blocker (conflicts_by inside.checked.value.kind inside.checked.value.file) c.args.t c.args.k) c.self.invariant.1
+    ∙ ap (blocking_holder (conflicts_by inside.checked.value.kind inside.checked.value.file) c.args.t c.args.k) c.self.invariant.1
     ∙ stopper-told m c.args.t c.args.k c.self.invariant.0.in_place)

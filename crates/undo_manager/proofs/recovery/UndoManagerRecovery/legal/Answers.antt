@@ -1,7 +1,7 @@
 use Rattle.std.proofs.Common.{is_some, sym, ap, ◌∙◌, subst}
 use Rattle.undo_manager.proofs.Keeping.{legal-for, legal-next}
 use Rattle.table_checker.specs.Checked.{Checked}
-use Rattle.table_checker.specs.Declarations.{IsByTable}
+use Rattle.declared_types.specs.Declarations.{IsByTable}
 use Rattle.undo_manager.proofs.recovery.UndoManagerRecovery.legal.Goals as goal
 
 pub table-table-requires : goal.table-table-requires

@@ -1,6 +1,6 @@
 use Rattle.std.proofs.Common.{sym, ap, subst, ◌∙◌}
 use Rattle.table_checker.specs.Checked.{Checked}
-use Rattle.table_checker.specs.Declarations.{IsByTable}
+use Rattle.declared_types.specs.Declarations.{IsByTable}
 use Rattle.undo_manager.proofs.Keeping.{fresh-kept}
 use Rattle.undo_manager.proofs.undo_manager.UndoManager.fresh.Goals as goal
 

@@ -1,5 +1,5 @@
 -- Nothing but this worker changed; each of its turns takes one from those that it has left.
-use Rattle.workers.specs.Doing.{LeavesOthers, left_at}
+use Rattle.workers.specs.SharedCalls.{LeavesOthers, left_at}
 use Rattle.workers.proofs.shared.Shared.finish.Given as goal
 
 abbrev pub invariant-loop : goal.invariant-loop

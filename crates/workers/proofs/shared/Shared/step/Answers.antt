@@ -1,9 +1,9 @@
 -- By what is known of the worker under the lock.
 use Rattle.std.proofs.Common.{refl, sym, subst}
 use Rattle.workers.specs.SharedState.{SharedState}
-use Rattle.workers.specs.Doing.{IsGoing}
+use Rattle.workers.specs.SharedCalls.{IsGoing}
 use Rattle.workers.proofs.Lists.{read-found}
-use Rattle.workers.proofs.Taking.{has-job, own-open, takes, steps}
+use Rattle.workers.proofs.WorkerTurns.{has-job, own-open, takes, steps}
 use Rattle.workers.proofs.shared.Shared.step.Goals as goal
 
 pub turn-requires-clause-going : goal.turn-requires-clause-going

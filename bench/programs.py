@@ -1,0 +1,79 @@
+"""The programs that are measured, and those beside them: where they are, how they are built, and what they print."""
+import os
+import subprocess
+import sys
+
+HERE = os.path.dirname(os.path.abspath(__file__))
+ROOT = os.path.dirname(HERE)
+C = os.path.join(ROOT, "bindings", "c")
+KINDS = ("undo", "intentions")
+
+# How many commands a run has where nothing else is said, and how often programs take turns.
+COMMANDS = 200_000
+TURNS = 5
+
+
+def built(crate):
+    """The program of a crate, which is proved where that hasn't been done. COLOCK and BENCHES name others."""
+    named = os.environ.get(crate.upper())
+    if named:
+        return os.path.abspath(named)
+    folder = os.path.join(ROOT, "crates", crate)
+    subprocess.run(["rt", "run"], cwd=folder, capture_output=True, check=False)
+    return os.path.join(folder, "out", crate)
+
+
+def plain(folder, name, source=None, *flags):
+    """A plain Rust program, compiled as one unit and for the processors for which ours are."""
+    path = os.path.join(folder, name)
+    subprocess.run(["rustc", "-O", "-C", "codegen-units=1", "-C", "target-cpu=x86-64-v2", "--edition", "2024",
+                    "--check-cfg", "cfg(pausing)", *flags, "-o", path, os.path.join(HERE, source or f"{name}.rs")], check=True)
+    return path
+
+
+def library():
+    """The folder of `libcolock.a`. COLOCK_LIB_DIR names another one."""
+    named = os.environ.get("COLOCK_LIB_DIR")
+    if named:
+        return os.path.abspath(named)
+    subprocess.run(["make", "--quiet", "library"], cwd=C, check=True)
+    return os.path.join(C, "build")
+
+
+def library_of_rust(folder):
+    """The program of `bench/library`."""
+    environment = {**os.environ, "COLOCK_LIB_DIR": library()}
+    subprocess.run(["cargo", "build", "--quiet", "--release", "--offline", "--target-dir", os.path.join(folder, "target")],
+                   cwd=os.path.join(HERE, "library"), env=environment, check=True)
+    return os.path.join(folder, "target", "release", "library")
+
+
+def library_of_c(folder):
+    """The program of `bench/library.c`."""
+    program = os.path.join(folder, "library_c")
+    subprocess.run(["cc", "-O2", "-Wall", "-Wextra", "-o", program, os.path.join(HERE, "library.c"), f"-I{C}",
+                    os.path.join(library(), "libcolock.a")], check=True)
+    return program
+
+
+def printed(words):
+    """What a program prints: lines of a name and a value."""
+    text = subprocess.run([*map(str, words)], check=True, capture_output=True, text=True).stdout
+    return dict(line.split(" ", 1) for line in text.split("\n") if line)
+
+
+def least(commands, keys=("refused", "kept", "history")):
+    """The least nanoseconds of each command, by turns. What came of their runs must be the same."""
+    seen = [[printed(words) for words in commands] for _ in range(TURNS)]
+    outcomes = [[told[key] for key in keys] for turn in seen for told in turn]
+    if any(outcome != outcomes[0] for outcome in outcomes):
+        sys.exit(f"{' '.join(map(str, commands[0]))}: the programs differ: {outcomes}")
+    return [min(int(turn[place]["nanoseconds"]) for turn in seen) for place in range(len(commands))]
+
+
+def written(folder, name, text):
+    """A file of this text."""
+    path = os.path.join(folder, name)
+    with open(path, "w", encoding="ascii") as file:
+        file.write(text)
+    return path

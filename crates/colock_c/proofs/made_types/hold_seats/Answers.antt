@@ -1,0 +1,16 @@
+use Rattle.std.proofs.Common.{◌≡◌, ℕ, refl}
+use Rattle.table_families.specs.Seats.{seats, AreSeats, SeatsFit}
+use Rattle.colock_c.specs.Families.{HasNone, IsOfFamily}
+use Rattle.colock_c.specs.Codes.{number}
+use Rattle.colock_c.proofs.Typings.{of_file, of_no_family}
+use Rattle.colock_c.proofs.made_types.hold_seats.Goals as goal
+
+pub returns-in-Ok : goal.returns-in-Ok
+returns-in-Ok c =
+    of_file (IsOfFamily (AreSeats c.args.count) (SeatsFit c.args.count) (seats c.args.count)) (λ n words. HasNone (AreSeats c.args.count) (SeatsFit c.args.count) n × (words ≡ c.args.fault.now))
+    c.in-Ok.file c.args.kind c.args.fault.now c.args.fault.now (number c.hold_type.result) c.hold_type.new.fault c.hold_type.new.slot.handle.held c.in-Ok.ensures.made refl c.hold_type.ensures
+
+pub returns-in-Err : goal.returns-in-Err
+returns-in-Err c =
+    of_no_family (IsOfFamily (AreSeats c.args.count) (SeatsFit c.args.count) (seats c.args.count)) (λ (n : ℕ). HasNone (AreSeats c.args.count) (SeatsFit c.args.count) n)
+    c.args.kind c.args.fault.now c.in-Err.code c.args.slot.now.handle.held c.in-Err.ensures.refused c.requires

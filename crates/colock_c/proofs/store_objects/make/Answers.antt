@@ -1,0 +1,11 @@
+use Rattle.std.proofs.Common.{◌∙◌, Some, ap}
+use Rattle.colock_c.specs.Codes.{number}
+use Rattle.colock_c.specs.Holding.{objects_at}
+use Rattle.colock_c.specs.declared.held.Held.{Held}
+use Rattle.colock_c.proofs.Limits.{another_limit}
+use Rattle.colock_c.proofs.store_objects.make.Goals as goal
+
+pub returns-clause-makes : goal.returns-clause-makes
+returns-clause-makes c = λ ms e.
+    another_limit ms c.limit_of-max.result c.args.max_events (number c.made-now.result.1) (Some c.made-now.result.0) c.limit_of-max.ensures
+    (c.made-now.ensures.makes ms (ap (λ (h : Held). objects_at (Some h)) c.replace.ensures.value ∙ e))

@@ -1,0 +1,2 @@
+pub mod SameParts
+pub mod TableOps

@@ -1,0 +1,2 @@
+pub mod TypeFile
+pub mod Declarations

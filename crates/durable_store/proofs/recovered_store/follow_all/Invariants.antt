@@ -1,0 +1,10 @@
+-- The events so far are made again.
+use Rattle.std.proofs.Common.{◌≡◌, ◌++◌, take}
+use Rattle.durable_store.specs.Durable.{events_of_kinds}
+use Rattle.durable_store.proofs.recovered_store.follow_all.Given as goal
+
+abbrev pub invariant-loop-place : goal.invariant-loop-place
+invariant-loop-place l = record {
+  types : l.store.types ≡ l.fn.store.types;
+  history : l.store.history ≡ l.fn.store.history ++ events_of_kinds (take l.place l.happened);
+}

@@ -1,5 +1,0 @@
-use Rattle.explaining.specs.Search.{IsSearched}
-use Rattle.explaining.proofs.leads.Leads.new.Given as goal
-
-abbrev pub invariant-loop-place : goal.invariant-loop-place
-invariant-loop-place l = IsSearched l.table l.place 0 l.leads

@@ -1,6 +1,0 @@
-use Rattle.std.proofs.Common.{◌≡◌, ℕ, ◌<◌, ◌≤◌, None}
-use Rattle.type_table.specs.Table.{next}
-use Rattle.explaining.proofs.numeric.first_legal.Given as goal
-
-abbrev pub invariant-loop-s : goal.invariant-loop-s
-invariant-loop-s l = (r : ℕ) → l.start ≤ r → r < l.s → next l.table r l.k ≡ None

@@ -1,5 +1,0 @@
-use Rattle.explaining.proofs.FirstLegal.{legal_here}
-use Rattle.explaining.proofs.numeric.move_at.Goals as goal
-
-pub least_from-low-requires-clause-some : goal.least_from-low-requires-clause-some
-least_from-low-requires-clause-some c = legal_here c.args.table.now c.args.k c.args.s c.args.end c.requires.leads

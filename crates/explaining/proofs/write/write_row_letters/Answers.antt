@@ -1,9 +1,0 @@
-use Rattle.explaining.specs.Text.{letter_text}
-use Rattle.explaining.specs.declared.explained.Explained.{Explained}
-use Rattle.explaining.proofs.Writing.{items_exit}
-use Rattle.explaining.proofs.write.write_row_letters.Goals as goal
-
-pub returns-in_err-write_letter : goal.returns-in_err-write_letter
-returns-in_err-write_letter g c =
-    items_exit c.items_in_turn.ensures (λ (x : Explained). letter_text x) c.args.pairs.now c.loop-pair.pair-index c.pair-item.result c.loop-pair-test.true c.pair-item.is
-    c.loop-pair.invariant c.in_err-write_letter.ensures c.from_residual.ensures.1

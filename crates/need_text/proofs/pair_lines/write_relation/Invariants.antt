@@ -1,0 +1,8 @@
+use Rattle.std.proofs.Common.{Ok, take}
+use Rattle.std.specs.List.{flat_map}
+use Rattle.outputs.specs.Out.{Puts}
+use Rattle.need_text.specs.Text.{equi_line}
+use Rattle.need_text.proofs.pair_lines.write_relation.Given as goal
+
+abbrev pub invariant-loop-pair : goal.invariant-loop-pair
+invariant-loop-pair g l = Puts (g.W.Out.taken l.fn.out) (g.W.Out.taken l.out) (g.W.Out.fault l.out) (flat_map (equi_line) (take l.pair-index l.pairs)) (Ok tt)

@@ -1,5 +1,0 @@
-use Rattle.number_text.proofs.Tables.{tells_bounds}
-use Rattle.number_text.proofs.laws.number_tells_bounds.Goals as goal
-
-pub returns : goal.returns
-returns c = tells_bounds c.bounds_are_told.ensures c.number_has_table.ensures

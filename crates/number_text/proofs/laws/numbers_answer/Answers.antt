@@ -1,5 +1,0 @@
-use Rattle.number_text.proofs.OneLegal.{numbers_answer}
-use Rattle.number_text.proofs.laws.numbers_answer.Goals as goal
-
-pub returns : goal.returns
-returns c = numbers_answer c.number_has_table.ensures

@@ -1,0 +1,14 @@
+pub mod Tables
+pub mod Amounts
+pub mod FirstOps
+pub mod NamedCalls
+pub mod FirstNumbers
+pub mod LinePlaces
+pub mod SameCall
+pub mod Called
+pub mod FirstNamed
+pub mod OneLegal
+pub mod FirstOfLine
+pub mod PurseExamples
+pub mod NumberedNames
+pub mod LineRows

@@ -1,8 +1,0 @@
-use Rattle.object_calls.proofs.Searching.{IsSearched}
-use Rattle.object_calls.proofs.choosing.choose_of.Given as goal
-
-abbrev pub invariant-loop-left : goal.invariant-loop-left
-invariant-loop-left g l = IsSearched (g.R.Recovery.meaning l.object) l.t l.fn.asked l.left l.first
-
-abbrev pub decreases-loop-left : goal.decreases-loop-left
-decreases-loop-left g l = l.left

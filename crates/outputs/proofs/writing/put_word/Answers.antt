@@ -1,5 +1,0 @@
-use Rattle.outputs.proofs.Puts.{Puts-append}
-use Rattle.outputs.proofs.writing.put_word.Goals as goal
-
-pub returns : goal.returns
-returns g c = Puts-append c.in_ok-put.ensures c.put-2.ensures

@@ -1,0 +1,9 @@
+pub mod FirstLegal
+pub mod Order
+pub mod Search
+pub mod Parting
+pub mod Places
+pub mod Needing
+pub mod Gathered
+pub mod Outside
+pub mod Said

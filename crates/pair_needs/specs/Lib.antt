@@ -1,0 +1,11 @@
+pub mod Leads
+pub mod Search
+pub mod Needs
+pub mod Witnesses
+pub mod Ends
+pub mod Places
+pub mod Mends
+pub mod LedPairs
+pub mod Explained
+pub mod Explainers
+pub mod WhyNot

@@ -1,0 +1,190 @@
+//! The readers of scripts, histories and jobs: what texts say, and what is answered where memory is refused. Texts
+//! with faults are in `cases/`.
+
+use history_text::read_history;
+use jobs_text::read_jobs;
+use script_text::{FaultKind, TextFault, read_script};
+use std::alloc::Global;
+
+/// Which reader reads a text; that of jobs is given the number of workers.
+#[derive(Clone, Copy)]
+enum Reader {
+    Script,
+    History,
+    Jobs(u8),
+}
+
+/// A script over two objects. Its store refuses the last commands.
+const SCRIPT: &[u8] = b"max 20
+object undo 0
+object intentions 255
+begin
+call 0 0 inc:1
+call 0 1 inc:1
+call 9999999 9999999 no
+rollback 0 2
+commit 0
+abort 9999999
+rollback 9999999 0
+end
+";
+
+/// The script of most events and fewest lines.
+const SHORT_SCRIPT: &[u8] = b"max 1000000
+object intentions 0
+end
+";
+
+/// A history of each kind of event.
+pub const HISTORY: &[u8] = b"object undo 0
+object intentions 0
+begin 0 0
+begin 0 1
+op 0 0 0 0
+op 0 1 0 0
+op 0 0 1 0
+busy 0 1 1 0 0
+none 0 1 0 1
+rollback 0 0 2
+commit 0 1
+abort 0 0
+end
+";
+
+/// The greatest numbers of a history's lines.
+pub const HIGH_HISTORY: &[u8] = b"object intentions 255
+begin 255 999999
+op 255 999999 255 63
+busy 255 999999 255 63 999999
+none 255 999999 255 63
+rollback 255 999999 999999
+commit 255 999999
+abort 255 999999
+end
+";
+
+/// The jobs of three workers in order, of whom one has none.
+const JOBS: &[u8] = b"max 4
+object undo 0
+job 0
+do 0 inc:1
+do 255 dec:1
+job 0
+job 2
+do 0 dec:1
+end
+";
+
+/// The same jobs in another order of the workers.
+const MIXED_JOBS: &[u8] = b"max 4
+object undo 0
+job 2
+do 0 dec:1
+job 0
+do 0 inc:1
+do 255 dec:1
+job 0
+end
+";
+
+/// Two jobs of the one worker, for a history that has room for one of them.
+const TWO_JOBS: &[u8] = b"max 4
+object undo 0
+job 0
+do 0 inc:1
+job 0
+do 0 inc:1
+end
+";
+
+/// Jobs that wait for one another.
+const THREE_JOBS: &[u8] = b"max 20
+object undo 0
+job 0
+do 0 dec:1
+job 0
+do 0 inc:1
+job 0
+do 0 dec:1
+end
+";
+
+/// A call and an object that aren't there.
+const NO_CALL: &[u8] = b"max 20
+object undo 0
+job 0
+do 0 nope
+end
+";
+
+const NO_OBJECT: &[u8] = b"max 20
+object undo 0
+job 0
+do 5 inc:1
+end
+";
+
+/// Canonical texts.
+static TEXTS: [(Reader, &[u8]); 9] = [
+    (Reader::Script, SCRIPT),
+    (Reader::Script, SHORT_SCRIPT),
+    (Reader::History, HISTORY),
+    (Reader::History, HIGH_HISTORY),
+    (Reader::Jobs(3), JOBS),
+    (Reader::Jobs(1), TWO_JOBS),
+    (Reader::Jobs(1), THREE_JOBS),
+    (Reader::Jobs(1), NO_CALL),
+    (Reader::Jobs(1), NO_OBJECT),
+];
+
+/// The fault that the reader names.
+fn fault_of(alloc: Global, reader: Reader, text: &[u8]) -> Option<TextFault> {
+    match reader {
+        Reader::Script => read_script(alloc, text).err(),
+        Reader::History => read_history(alloc, text).err(),
+        Reader::Jobs(workers) => read_jobs(alloc, text, workers).err(),
+    }
+}
+
+#[test]
+fn texts_say_their_values(rt: HostRuntime) {
+    let script = read_script(rt.alloc(), SCRIPT).expect(&rt, "a fault");
+    assert!(rt; (script.max == 20) & (script.objects.len() == 2) & (script.commands.len() == 8));
+    let file = read_jobs(rt.alloc(), MIXED_JOBS, 3).expect(&rt, "a fault");
+    assert!(rt; (file.max == 4) & (file.objects.len() == 1) & (file.jobs.len() == 3));
+}
+
+/// Workers that there are none of have no job.
+#[test]
+fn no_workers_have_no_job(rt: HostRuntime) {
+    let fault = fault_of(
+        rt.alloc(),
+        Reader::Jobs(0),
+        b"max 2\nobject undo 0\njob 0\n",
+    );
+    let kind = FaultKind::OutOfRange;
+    assert!(rt; fault == Some(TextFault { line: 3, kind }));
+}
+
+/// Whether this is no fault, or refused memory at one of the first lines.
+fn is_refused_memory(fault: Option<TextFault>, lines: usize) -> bool {
+    match fault {
+        Some(fault) => {
+            fault.kind == FaultKind::NoMemory && 1 <= fault.line && fault.line <= lines
+        }
+        None => true,
+    }
+}
+
+/// How many lines a text has.
+fn line_count(text: &[u8]) -> usize {
+    text.iter().filter(|byte| **byte == b'\n').count()
+}
+
+#[test]
+fn readers_say_that_memory_is_refused(rt: HostRuntime) {
+    for (reader, text) in &TEXTS {
+        let fault = fault_of(rt.alloc(), *reader, text);
+        assert!(rt; is_refused_memory(fault, line_count(text)));
+    }
+}

@@ -1,8 +1,0 @@
--- The commands so far were asked, and their lines written.
-use Rattle.std.proofs.Common.{Ok, take}
-use Rattle.script_run.specs.Running.{RunsCommands}
-use Rattle.script_run.proofs.asking.run_commands.Given as goal
-
-abbrev pub invariant-loop-place : goal.invariant-loop-place
-invariant-loop-place g l =
-    RunsCommands l.fn.store (take l.place l.fn.commands) (g.W.Out.taken l.fn.out) (g.W.Out.taken l.out) (g.W.Out.fault l.out) l.store (Ok tt)

@@ -1,0 +1,76 @@
+-- An epoch is closed: what is open is aborted, and its history is kept.
+use Rattle.std.proofs.Common.{◌≡◌, ◌∙◌, ◌⊎◌, inl, inr, ℕ, ◌≤◌, Option, List, [], ◌∷◌, length, take, drop, sym, ap, ap₂, subst, arith}
+use Rattle.std.proofs.Math.Seq.{drop-append_seam}
+use Rattle.std.proofs.lemmas.List.{length-map, take_all}
+use Rattle.sqlite_trees.specs.declared.store.Store.{Ghosts}
+use Rattle.sqlite_trees.specs.Tree.{Trees}
+use Rattle.object_trait.specs.declared.event.Event.{Event}
+use Rattle.object_trait.specs.declared.event.EventKind.{EventKind}
+use Rattle.store_text.specs.declared.line.ObjectLine.{ObjectLine}
+use Rattle.history_text.specs.Canonical.{canonical_text}
+use Rattle.store_laws.specs.Stored.{Stored}
+use Rattle.store.specs.Ends.{closing}
+use Rattle.journal.specs.Contents.{Contents, IsFile, contents_of}
+use Rattle.journal.specs.Journal.{Clean, IsJournal, ShowsCommit, may_leave, written}
+use Rattle.durable_store.specs.declared.durable.Durable.{Durable}
+use Rattle.durable_store.specs.Durable.{IsDurable, OutcomesStay, WritesSince, events_of_kinds, with_all}
+use Rattle.serving.specs.Archives.{KeepsAtLeast, KeepsEpochs, KeepsText, KeptHistory, text_of_epoch, life_in, with_kept}
+use Rattle.serving.specs.Epochs.{LeavesEpochs, Reaches, aborted}
+use Rattle.serving.specs.Server.{life_of}
+use Rattle.serving.proofs.MoreEvents.{outcomes-more, writes-more}
+use Rattle.serving.proofs.LaterEpochs.{left-more, left-then, writes-one}
+
+-- ---- the text of an epoch
+
+-- of the objects and of all events that a file has
+pub text-told : {S : Type 0} (g : Ghosts S) (old mid new : Durable S) (objects : List ObjectLine) (happened : List EventKind) (count : ℕ) → IsDurable g old → (Clean g mid.journal → Clean g old.journal)
+    → (Clean g new.journal → Clean g mid.journal) → (Clean g mid.journal → written g mid.journal ≡ written g old.journal) → count ≡ length old.store.history
+    → (Clean g mid.journal → objects ≡ (written g old.journal).objects) → (Clean g new.journal → happened ≡ take count (drop 0 (written g mid.journal).events))
+    → Clean g new.journal → canonical_text objects (events_of_kinds happened) ≡ text_of_epoch (written g old.journal)
+text-told g old mid new objects happened count sound was was_mid same is_count is_objects is_events now =
+    let at_mid = was_mid now in
+    let all = (written g old.journal).events in
+    let long : length old.store.history ≡ length all = ap length (sound.history (was at_mid)) ∙ length-map all (λ k. let e : Event = record { worker = 0; kind = k } in e) in
+    let many : length all ≤ count = omega (arith, long, is_count) in
+    let whole : happened ≡ all = is_events now ∙ ap (λ (c : Contents). take count (drop 0 c.events)) (same at_mid) ∙ take_all count all many in
+    ap₂ (λ os es. canonical_text os (events_of_kinds es)) (is_objects at_mid) whole
+
+-- it is kept under the file's life
+pub text-kept : {S : Type 0} (g : Ghosts S) (mid new : Durable S) (kept kept_now : Option (List KeptHistory)) (life : ℕ) (text : List ℕ) → IsJournal g mid.journal → ShowsCommit g mid.journal
+    → (Clean g new.journal → Clean g mid.journal) → (Clean g new.journal → written g new.journal ≡ written g mid.journal) → life ≡ life_of mid
+    → (Clean g new.journal → text ≡ text_of_epoch (written g mid.journal)) → KeepsText kept kept_now life text → Clean g new.journal → KeepsEpochs kept kept_now (written g new.journal ∷ [])
+text-kept g mid new kept kept_now life text journal shows clean same is_life is_text keeps now =
+    let headers : (written g mid.journal).headers ≡ mid.journal.header ∷ [] = (journal (clean now)).header_is (shows (clean now)).sound in
+    let its_life : life ≡ life_in (written g new.journal).headers = is_life ∙ sym (ap life_in (ap (λ (c : Contents). c.headers) (same now) ∙ headers)) in
+    let its_text : text ≡ text_of_epoch (written g new.journal) = is_text now ∙ sym (ap text_of_epoch (same now)) in
+    keeps ∙ ap₂ (λ n t. with_kept kept (record { life = n; text = t } ∷ [])) its_life its_text
+
+-- ---- crashes
+
+-- what was written was settled, and a text may be kept
+pub left-kept : {S : Type 0} (g : Ghosts S) (old mid new : Durable S) (kept kept_now : Option (List KeptHistory))
+    → ((db : Trees) → may_leave g mid.journal db → (Clean g old.journal × IsFile db × (contents_of db ≡ written g old.journal)) ⊎ may_leave g old.journal db) → OutcomesStay g mid new
+    → KeepsAtLeast kept kept_now [] → LeavesEpochs g old new kept kept_now
+left-kept g old mid new kept kept_now crash stay keeps db left = elim (crash db (stay db left)) [
+  | inl it ↦ inl (it.0, it.1, ([], subst (λ c. Reaches (written g old.journal) [] c) (sym it.2) Reaches.none, keeps))
+  | inr before ↦ inr (before, keeps)
+]
+
+-- events were written, which is all
+pub left-written : {S : Type 0} (g : Ghosts S) (old new : Durable S) (kept : Option (List KeptHistory)) → OutcomesStay g old new → LeavesEpochs g old new kept kept
+left-written g old new kept stay = left-more g old new kept (outcomes-more g old new stay)
+
+-- events were written, and then the epoch was kept
+pub left-closed : {S : Type 0} (g : Ghosts S) (old mid new : Durable S) (kept kept_now : Option (List KeptHistory)) → (Clean g mid.journal → Clean g old.journal) → WritesSince g old mid → OutcomesStay g old mid
+    → LeavesEpochs g mid new kept kept_now → LeavesEpochs g old new kept kept_now
+left-closed g old mid new kept kept_now clean since stay crash =
+    left-then g old mid new kept kept kept_now clean (writes-one g old mid kept (writes-more g old mid since)) (left-written g old mid kept stay) crash
+
+-- ---- what was written
+
+-- with an abort of each transaction that was open
+pub closed-written : {S : Type 0} (g : Ghosts S) (old mid : Durable S) → mid.store ≡ aborted old.store → WritesSince g old mid → Clean g mid.journal
+    → written g mid.journal ≡ with_all (written g old.journal) (closing old.store.history)
+closed-written g old mid aborts since now =
+    since now ∙ ap (λ es. with_all (written g old.journal) es)
+    (ap (λ (s : Stored). drop (length old.store.history) s.history) aborts ∙ drop-append_seam old.store.history (closing old.store.history))

@@ -1,5 +1,0 @@
-use Rattle.outputs.proofs.Turns.{Puts-append}
-use Rattle.serving.proofs.listing.put_events.Goals as goal
-
-pub returns : goal.returns
-returns g c = Puts-append c.texts_in_turn.ensures.joined c.in_ok-put_event_lines.ensures c.put_done.ensures

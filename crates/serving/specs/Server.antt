@@ -1,0 +1,85 @@
+-- What a server has done of what its client asked.
+use Rattle.std.specs.Prelude.{◌≡◌, ℕ, ◌≤◌, List, [], ◌∷◌, ◌++◌, length, take, nat_lt, ◌==◌, if◌then◌else◌, MatchBool, Some, None}
+use Rattle.sqlite_trees.specs.declared.store.Store.{Ghosts}
+use Rattle.journal.specs.Journal.{Clean, written}
+use Rattle.durable_store.specs.declared.durable.Durable.{Durable}
+use Rattle.durable_store.specs.Durable.{IsDurable}
+use Rattle.serving.specs.declared.answer_line.Answered.{Answered}
+use Rattle.serving.specs.declared.session.Session.{Session}
+use Rattle.serving.specs.declared.server.Server.{Server}
+use Rattle.serving.specs.Epochs.{LeavesEpochs, WritesEpochs}
+use Rattle.serving.specs.Follows.{LeavesMore, WritesMore}
+use Rattle.serving.specs.Lines.{AreLines, asks_end}
+use Rattle.request_text.specs.Requests.{asked_by}
+use Rattle.serving.specs.Served.{IsAnswered, Serves}
+
+-- the most bytes that are kept of a line: with one more it is too long, whatever follows
+abbrev pub most_kept : ℕ
+most_kept = 256
+
+-- the number of a store's life
+abbrev pub life_of : {S : Type 0} → Durable S → ℕ
+life_of d = d.journal.header.life
+
+-- a session goes on from another, in the same epoch
+pub record StaysInEpoch {S : Type 0} (g : Ghosts S) (old new : Session S) : Type 0 where
+  pub sound : IsDurable g new.store
+  pub life : new.life ≡ old.life
+  pub most : new.most_events ≡ old.most_events
+  pub same : life_of new.store ≡ life_of old.store
+  pub follows : WritesMore g old.store new.store
+  pub clean : Clean g new.store.journal → Clean g old.store.journal
+  pub crash : LeavesMore g old.store new.store
+
+-- the same, epoch after epoch; what an archive keeps of them is said apart
+pub record Lasts {S : Type 0} (g : Ghosts S) (old new : Session S) : Type 0 where
+  pub sound : IsDurable g new.store
+  pub named : new.life ≡ life_of new.store
+  pub most : new.most_events ≡ old.most_events
+  pub reaches : WritesEpochs g old.store new.store None None
+  pub clean : Clean g new.store.journal → Clean g old.store.journal
+  pub crash : LeavesEpochs g old.store new.store None None
+
+-- since it began, its client has asked these bytes; the answers that it got, and those that wait, are those of a store
+pub record HasServed {S : Type 0} (g : Ghosts S) (began : Session S) (told : List Answered) (bytes : List ℕ) (now : Server S) : Type 0 where
+  pub lines : List (List ℕ)
+  pub half : List ℕ
+  pub asked : AreLines bytes lines half
+  pub kept : now.line.items ≡ take most_kept half
+  pub lasts : Lasts g began now.session
+  pub serves : Clean g now.session.store.journal
+      → Serves began.most_events (written g began.store.journal) began.life lines began.store.store (told ++ now.answers.items) now.session.life now.session.store.store now.end
+
+-- a line is answered
+pub record AnswersLine {S : Type 0} (g : Ghosts S) (old new : Server S) : Type 0 where
+  pub a : Answered
+  pub stays_in_epoch : StaysInEpoch g old.session new.session
+  pub answered : Clean g new.session.store.journal
+      → IsAnswered old.session.most_events old.session.life (written g old.session.store.journal) old.line.items old.session.store.store a new.session.store.store
+  pub told : new.answers.items ≡ old.answers.items ++ a ∷ []
+  pub others : new ≡ record old { session = new.session; line = new.line; answers = new.answers }
+
+-- it asks for the end
+pub record TakesEnd {S : Type 0} (old new : Server S) : Type 0 where
+  pub others : new ≡ record old { line = new.line; end = Some (asked_by old.line.items) }
+
+-- the line that was kept is done
+pub record DoesLine {S : Type 0} (g : Ghosts S) (old new : Server S) : Type 0 where
+  pub line : new.line.items ≡ []
+  pub done : MatchBool (asks_end old.line.items) (TakesEnd old new) (AnswersLine g old new)
+
+-- a byte of a line is kept where there is room for it
+pub record KeepsByte {S : Type 0} (old : Server S) (b : ℕ) (new : Server S) : Type 0 where
+  pub line : new.line.items ≡ (if nat_lt (length old.line.items) most_kept then old.line.items ++ b ∷ [] else old.line.items)
+  pub others : new ≡ record old { line = new.line }
+
+-- a byte ends a line, or is one of it
+abbrev pub TakesByte : {S : Type 0} (g : Ghosts S) → Server S → ℕ → Server S → Type 0
+TakesByte g old b new = MatchBool (b == 10) (DoesLine g old new) (KeepsByte old b new)
+
+-- of these bytes a beginning is served: all of them, or those up to the line that asks for the end
+pub record ServesBytes {S : Type 0} (g : Ghosts S) (began : Session S) (told : List Answered) (seen : List ℕ) (bytes : List ℕ) (new : Server S) : Type 0 where
+  pub count : ℕ
+  pub within : count ≤ length bytes
+  pub served : HasServed g began told (seen ++ take count bytes) new
+  pub all : new.end ≡ None → count ≡ length bytes

@@ -1,0 +1,297 @@
+//! The lines of an answer, each after the tag.
+
+ghost use Rattle.std.specs.Prelude.{◌≡◌, None, ◌+◌, ◌<◌, ◌==◌, ◌++◌, IfSome, drop, length, position};
+ghost use Rattle.outputs.specs.Out.{Puts};
+ghost use Rattle.serving.specs.AnswerText.{answer_text, counts_text, done_text, draining_text, fault_name, state_text, tag_text, transaction_text, behind, event_text, answer_lines, object_answer};
+ghost use Rattle.std.specs.List.{flat_map};
+
+use crate::answer_line::AnswerLine;
+use history_text::{write_event, write_object};
+use itoa::Buffer;
+use journal::TypeText;
+use object_trait::{Event, EventKind};
+use outputs::{Out, OutFault, items_in_turn, put_all, texts_in_turn};
+use request_text::{RequestFault, TransactionName};
+use script_run::name_of;
+use store_text::ObjectLine;
+use type_table::Name;
+
+/// Writes the lines of an answer after its tag, which is `-` where there is none.
+///
+/// # Errors
+///
+/// The fault that stopped the output, which then took a beginning of the lines.
+pub fn write_answer<W: Out>(
+    out: &mut W,
+    tag: Option<Name>,
+    answer: &AnswerLine,
+) -> Result<(), OutFault>
+    requires { W.fault out.old ≡ None }
+    ensures { Puts (W.taken out.old) (W.taken out.new) (W.fault out.new) (answer_text tag answer.now) result }
+{
+    let tag = tag_of(&tag);
+    match answer {
+        AnswerLine::Done | AnswerLine::Committed => put_done(out, tag),
+        AnswerLine::Begun { t } => put_transaction(out, tag, b" ok ", *t),
+        AnswerLine::State { state } => put_state(out, tag, *state),
+        AnswerLine::Reply { reply } => put_all(out, &[tag, b" reply ", reply.as_bytes(), b"\n"]),
+        AnswerLine::Busy { blocker } => put_transaction(out, tag, b" busy ", *blocker),
+        AnswerLine::Draining => put_draining(out, tag),
+        AnswerLine::Nothing => put_all(out, &[tag, b" none\n"]),
+        AnswerLine::Counts {
+            events,
+            begun,
+            open,
+        } => put_counts(out, tag, *events, *begun, *open),
+        AnswerLine::Objects { objects } => put_objects(out, tag, objects),
+        AnswerLine::Types { texts } => put_types(out, tag, texts),
+        AnswerLine::Events { events } => put_events(out, tag, events),
+        AnswerLine::Refused { refusal } => {
+            put_all(
+                out,
+                &[tag, b" refused ", name_of(*refusal).as_bytes(), b"\n"],
+            )
+        }
+        AnswerLine::Fault { fault } => {
+            put_all(
+                out,
+                &[tag, b" fault ", fault_name(*fault).as_bytes(), b"\n"],
+            )
+        }
+    }
+}
+
+/// The bytes of a tag.
+fn tag_of(tag: &Option<Name>) -> &[u8]
+    ensures { result.now ≡ tag_text tag.now }
+{
+    match tag {
+        Some(tag) => tag.as_bytes(),
+        None => b"-",
+    }
+}
+
+/// Writes that it is done.
+pub(crate) fn put_done<W: Out>(out: &mut W, tag: &[u8]) -> Result<(), OutFault>
+    requires { W.fault out.old ≡ None }
+    ensures { Puts (W.taken out.old) (W.taken out.new) (W.fault out.new) (done_text tag.now) result }
+{
+    put_all(out, &[tag, b" ok\n"])
+}
+
+/// Writes that no further transaction begins.
+fn put_draining<W: Out>(out: &mut W, tag: &[u8]) -> Result<(), OutFault>
+    requires { W.fault out.old ≡ None }
+    ensures { Puts (W.taken out.old) (W.taken out.new) (W.fault out.new) (draining_text tag.now) result }
+{
+    put_all(out, &[tag, b" busy drain\n"])
+}
+
+/// Writes a tag, words and a transaction.
+fn put_transaction<W: Out>(
+    out: &mut W,
+    tag: &[u8],
+    words: &[u8],
+    t: TransactionName,
+) -> Result<(), OutFault>
+    requires { W.fault out.old ≡ None }
+    ensures { Puts (W.taken out.old) (W.taken out.new) (W.fault out.new) (transaction_text tag.now words.now t) result }
+{
+    let (mut life, mut number) = (Buffer::new(), Buffer::new());
+    put_all(
+        out,
+        &[
+            tag,
+            words,
+            life.format(t.life).as_bytes(),
+            b".",
+            number.format(t.number).as_bytes(),
+            b"\n",
+        ],
+    )
+}
+
+/// Writes a tag and a state.
+fn put_state<W: Out>(out: &mut W, tag: &[u8], state: u32) -> Result<(), OutFault>
+    requires { W.fault out.old ≡ None }
+    ensures { Puts (W.taken out.old) (W.taken out.new) (W.fault out.new) (state_text tag.now state) result }
+{
+    let mut number = Buffer::new();
+    put_all(out, &[tag, b" ok ", number.format(state).as_bytes(), b"\n"])
+}
+
+/// Writes a tag and three counts.
+fn put_counts<W: Out>(
+    out: &mut W,
+    tag: &[u8],
+    events: u32,
+    begun: u32,
+    open: u32,
+) -> Result<(), OutFault>
+    requires { W.fault out.old ≡ None }
+    ensures { Puts (W.taken out.old) (W.taken out.new) (W.fault out.new) (counts_text tag.now events begun «open») result }
+{
+    let (mut first, mut second, mut third) = (Buffer::new(), Buffer::new(), Buffer::new());
+    put_all(
+        out,
+        &[
+            tag,
+            b" ok events ",
+            first.format(events).as_bytes(),
+            b" begun ",
+            second.format(begun).as_bytes(),
+            b" open ",
+            third.format(open).as_bytes(),
+            b"\n",
+        ],
+    )
+}
+
+/// The name of a fault.
+fn fault_name(fault: RequestFault) -> &'static str
+    ensures { result.now ≡ fault_name fault }
+{
+    match fault {
+        RequestFault::TooLong => "TooLong",
+        RequestFault::NotAscii => "NotAscii",
+        RequestFault::BadTag => "BadTag",
+        RequestFault::UnknownVerb => "UnknownVerb",
+        RequestFault::BadWords => "BadWords",
+        RequestFault::BadNumber => "BadNumber",
+    }
+}
+
+/// Writes the objects, and that these are all.
+pub(crate) fn put_objects<W: Out>(
+    out: &mut W,
+    tag: &[u8],
+    objects: &[ObjectLine],
+) -> Result<(), OutFault>
+    requires { W.fault out.old ≡ None }
+    ensures { Puts (W.taken out.old) (W.taken out.new) (W.fault out.new) (flat_map (object_answer tag.now) objects.now ++ done_text tag.now) result }
+{
+    texts_in_turn();
+    put_object_lines(out, tag, objects)?;
+    put_done(out, tag)
+}
+
+/// Writes the lines of objects.
+fn put_object_lines<W: Out>(out: &mut W, tag: &[u8], objects: &[ObjectLine]) -> Result<(), OutFault>
+    requires { W.fault out.old ≡ None }
+    ensures { Puts (W.taken out.old) (W.taken out.new) (W.fault out.new) (flat_map (object_answer tag.now) objects.now) result }
+{
+    texts_in_turn();
+    items_in_turn::<ObjectLine>();
+    for object in objects {
+        put_object(out, tag, object)?;
+    }
+    Ok(())
+}
+
+/// Writes the line of an object.
+fn put_object<W: Out>(out: &mut W, tag: &[u8], object: &ObjectLine) -> Result<(), OutFault>
+    requires { W.fault out.old ≡ None }
+    ensures { Puts (W.taken out.old) (W.taken out.new) (W.fault out.new) (object_answer tag.now object.now) result }
+{
+    texts_in_turn();
+    put_all(out, &[tag, b" "])?;
+    write_object(out, object)
+}
+
+/// Writes events, and that these are all.
+pub(crate) fn put_events<W: Out>(
+    out: &mut W,
+    tag: &[u8],
+    events: &[EventKind],
+) -> Result<(), OutFault>
+    requires { W.fault out.old ≡ None }
+    ensures { Puts (W.taken out.old) (W.taken out.new) (W.fault out.new) (flat_map (event_text tag.now) events.now ++ done_text tag.now) result }
+{
+    texts_in_turn();
+    put_event_lines(out, tag, events)?;
+    put_done(out, tag)
+}
+
+/// Writes the lines of events.
+fn put_event_lines<W: Out>(out: &mut W, tag: &[u8], events: &[EventKind]) -> Result<(), OutFault>
+    requires { W.fault out.old ≡ None }
+    ensures { Puts (W.taken out.old) (W.taken out.new) (W.fault out.new) (flat_map (event_text tag.now) events.now) result }
+{
+    texts_in_turn();
+    items_in_turn::<EventKind>();
+    for kind in events {
+        put_event(out, tag, *kind)?;
+    }
+    Ok(())
+}
+
+/// Writes the line of an event.
+fn put_event<W: Out>(out: &mut W, tag: &[u8], kind: EventKind) -> Result<(), OutFault>
+    requires { W.fault out.old ≡ None }
+    ensures { Puts (W.taken out.old) (W.taken out.new) (W.fault out.new) (event_text tag.now kind) result }
+{
+    texts_in_turn();
+    put_all(out, &[tag, b" "])?;
+    write_event(out, &Event { worker: 0, kind })
+}
+
+/// Writes the texts of types, and that these are all.
+pub(crate) fn put_types<W: Out>(out: &mut W, tag: &[u8], texts: &[TypeText]) -> Result<(), OutFault>
+    requires { W.fault out.old ≡ None }
+    ensures { Puts (W.taken out.old) (W.taken out.new) (W.fault out.new) (flat_map (answer_lines tag.now) texts.now ++ done_text tag.now) result }
+{
+    texts_in_turn();
+    put_texts(out, tag, texts)?;
+    put_done(out, tag)
+}
+
+/// Writes the lines of texts.
+fn put_texts<W: Out>(out: &mut W, tag: &[u8], texts: &[TypeText]) -> Result<(), OutFault>
+    requires { W.fault out.old ≡ None }
+    ensures { Puts (W.taken out.old) (W.taken out.new) (W.fault out.new) (flat_map (answer_lines tag.now) texts.now) result }
+{
+    texts_in_turn();
+    items_in_turn::<TypeText>();
+    for text in texts {
+        put_text(out, tag, text.as_bytes())?;
+    }
+    Ok(())
+}
+
+/// Writes what is between the LFs of a text, line by line.
+fn put_text<W: Out>(out: &mut W, tag: &[u8], text: &[u8]) -> Result<(), OutFault>
+    requires { W.fault out.old ≡ None }
+    ensures { Puts (W.taken out.old) (W.taken out.new) (W.fault out.new) (answer_lines tag.now text.now) result }
+{
+    texts_in_turn();
+    let mut rest = text;
+    while let Some(at) = line_end(rest) {
+        put_behind(out, tag, &rest[..at])?;
+        rest = text_after(rest, at);
+    }
+    put_behind(out, tag, rest)
+}
+
+/// What comes after a place of a text.
+fn text_after(text: &[u8], at: usize) -> &[u8]
+    requires { at < length text.now }
+    ensures { result.now ≡ drop (at + 1) text.now }
+{
+    &text[at + 1..]
+}
+
+/// The place of the first LF.
+fn line_end(text: &[u8]) -> Option<usize>
+    ensures place { result ≡ position (λ b. b == 10) text.now }
+    ensures within { IfSome result (λ at. at < length text.now) }
+{
+    text.iter().position(|b| *b == b'\n')
+}
+
+/// Writes a line after a tag.
+fn put_behind<W: Out>(out: &mut W, tag: &[u8], line: &[u8]) -> Result<(), OutFault>
+    requires { W.fault out.old ≡ None }
+    ensures { Puts (W.taken out.old) (W.taken out.new) (W.fault out.new) (behind tag.now line.now) result }
+{
+    put_all(out, &[tag, b" ", line, b"\n"])
+}

@@ -1,0 +1,199 @@
+//! The end of an epoch: its history goes to an archive, before the file begins anew.
+
+ghost use Rattle.std.specs.Prelude.{◌≡◌, [], ◌∷◌, OnOk, IfOk};
+ghost use Rattle.store.specs.Ends.{closing};
+ghost use Rattle.store.specs.Renews.{Renews};
+ghost use Rattle.journal.specs.Journal.{Clean, ShowsCommit, durable, written};
+ghost use Rattle.durable_store.specs.Durable.{IsDurable, with_all, OutcomesStay, events_of_kinds};
+ghost use Rattle.durable_store.specs.Epochs.{LeavesEpoch, renewed};
+ghost use Rattle.serving.specs.EpochEnd.{EndsEpoch};
+ghost use Rattle.serving.specs.Archives.{KeepsEpochs, text_of_epoch};
+ghost use Rattle.serving.specs.Epochs.{LeavesEpochs, WritesEpochs, aborted};
+ghost use Rattle.serving.specs.Requests.{LetsGo};
+ghost use Rattle.history_text.specs.Canonical.{canonical_text};
+
+use crate::archive::Archive;
+use crate::serve_fault::ServeFault;
+use durable_store::Durable;
+use history_text::write_history;
+use object_trait::{Event, EventKind};
+use outputs::Sink;
+use sqlite_trees::store::Alter;
+use std::alloc::{AllocError, Global};
+use store_text::ObjectLine;
+
+/// Aborts what is open, gives the history of the epoch to the archive, and begins another epoch, all of it durable.
+///
+/// # Errors
+///
+/// The file or the archive failed, or memory was refused: who opens the file again finds what was open aborted. It has
+/// begun anew only where the archive keeps the history.
+pub(crate) fn end_epoch<S: Alter, A: Archive>(
+    alloc: Global,
+    mut store: Durable<S>,
+    archive: &mut A,
+) -> (Durable<S>, Result<(), ServeFault>)
+    requires { IsDurable S.Store store }
+    ensures sound { OnOk result.1 (IsDurable S.Store result.0) }
+    ensures ends { OnOk result.1 (EndsEpoch S.Store store result.0) }
+    ensures writes { OnOk result.1 (WritesEpochs S.Store store result.0 (A.kept archive.old) (A.kept archive.new)) }
+    ensures shows { OnOk result.1 (ShowsCommit S.Store result.0.journal) }
+    ensures clean { Clean S.Store result.0.journal → Clean S.Store store.journal }
+    ensures crash { LeavesEpochs S.Store store result.0 (A.kept archive.old) (A.kept archive.new) }
+{
+    match close_epoch(alloc, &mut store, archive) {
+        Ok(()) => renew(alloc, store),
+        Err(fault) => (store, Err(fault)),
+    }
+}
+
+/// Aborts what is open, and gives the history of the epoch to the archive.
+///
+/// # Errors
+///
+/// The file or the archive failed, or memory was refused.
+fn close_epoch<S: Alter, A: Archive>(
+    alloc: Global,
+    store: &mut Durable<S>,
+    archive: &mut A,
+) -> Result<(), ServeFault>
+    requires { IsDurable S.Store store.old }
+    ensures keeps { OnOk result (Clean S.Store store.new.journal → KeepsEpochs (A.kept archive.old) (A.kept archive.new) (written S.Store store.new.journal ∷ [])) }
+    ensures sound { OnOk result (IsDurable S.Store store.new) }
+    ensures store { OnOk result (LetsGo (aborted store.old.store) store.new.store) }
+    ensures life { OnOk result (store.new.journal.header ≡ store.old.journal.header) }
+    ensures written { OnOk result (Clean S.Store store.new.journal
+        → written S.Store store.new.journal ≡ with_all (written S.Store store.old.journal) (closing store.old.store.history)) }
+    ensures clean { Clean S.Store store.new.journal → Clean S.Store store.old.journal }
+    ensures crash { LeavesEpochs S.Store store.old store.new (A.kept archive.old) (A.kept archive.new) }
+{
+    store.abort_all()?;
+    archive_epoch(alloc, store, archive)
+}
+
+/// Gives the history of the present epoch to an archive that asks for it.
+///
+/// # Errors
+///
+/// As `keep_epoch`.
+pub(crate) fn archive_epoch<S: Alter, A: Archive>(
+    alloc: Global,
+    store: &mut Durable<S>,
+    archive: &mut A,
+) -> Result<(), ServeFault>
+    requires { IsDurable S.Store store.old }
+    ensures keeps { OnOk result (Clean S.Store store.new.journal → KeepsEpochs (A.kept archive.old) (A.kept archive.new) (written S.Store store.new.journal ∷ [])) }
+    ensures sound { OnOk result (IsDurable S.Store store.new) }
+    ensures lets_go { OnOk result (LetsGo store.old.store store.new.store) }
+    ensures life { OnOk result (store.new.journal.header ≡ store.old.journal.header) }
+    ensures written { OnOk result (Clean S.Store store.new.journal → written S.Store store.new.journal ≡ written S.Store store.old.journal) }
+    ensures clean { Clean S.Store store.new.journal → Clean S.Store store.old.journal }
+    ensures crash { LeavesEpochs S.Store store.old store.new (A.kept archive.old) (A.kept archive.new) }
+{
+    if archive.wants() {
+        keep_epoch(alloc, store, archive)
+    } else {
+        Ok(())
+    }
+}
+
+/// Makes the present epoch durable, and gives its history to an archive, as the file has it.
+///
+/// # Errors
+///
+/// The file or the archive failed, or memory was refused.
+fn keep_epoch<S: Alter, A: Archive>(
+    alloc: Global,
+    store: &mut Durable<S>,
+    archive: &mut A,
+) -> Result<(), ServeFault>
+    requires { IsDurable S.Store store.old }
+    ensures keeps { OnOk result (Clean S.Store store.new.journal → KeepsEpochs (A.kept archive.old) (A.kept archive.new) (written S.Store store.new.journal ∷ [])) }
+    ensures sound { OnOk result (IsDurable S.Store store.new) }
+    ensures lets_go { OnOk result (LetsGo store.old.store store.new.store) }
+    ensures life { OnOk result (store.new.journal.header ≡ store.old.journal.header) }
+    ensures written { OnOk result (Clean S.Store store.new.journal → written S.Store store.new.journal ≡ written S.Store store.old.journal) }
+    ensures clean { Clean S.Store store.new.journal → Clean S.Store store.old.journal }
+    ensures crash { LeavesEpochs S.Store store.old store.new (A.kept archive.old) (A.kept archive.new) }
+{
+    store.settle()?;
+    let text = epoch_text(alloc, store)?;
+    archive.keep(store.life(), &text)?;
+    Ok(())
+}
+
+/// The text of the present epoch, of what the file has, while all that was written is durable.
+///
+/// # Errors
+///
+/// The file failed, or memory was refused.
+fn epoch_text<S: Alter>(alloc: Global, store: &mut Durable<S>) -> Result<Vec<u8>, ServeFault>
+    requires sound { IsDurable S.Store store.old }
+    requires shows { ShowsCommit S.Store store.old.journal }
+    ensures text { IfOk result (λ text. Clean S.Store store.new.journal → text.items ≡ text_of_epoch (written S.Store store.old.journal)) }
+    ensures sound { OnOk result (IsDurable S.Store store.new) }
+    ensures store { store.new.store ≡ store.old.store }
+    ensures life { store.new.journal.header ≡ store.old.journal.header }
+    ensures written { OnOk result (Clean S.Store store.new.journal → written S.Store store.new.journal ≡ written S.Store store.old.journal) }
+    ensures clean { Clean S.Store store.new.journal → Clean S.Store store.old.journal }
+    ensures crash { OutcomesStay S.Store store.old store.new }
+{
+    let objects = store.objects(alloc)?;
+    let count = store.store().event_count() as usize;
+    let happened = store.events(alloc, 0, count)?;
+    text_of(alloc, &objects, &happened)
+}
+
+/// The text of a history of these objects and events, all by worker 0.
+///
+/// # Errors
+///
+/// Memory was refused.
+fn text_of(
+    alloc: Global,
+    objects: &[ObjectLine],
+    happened: &[EventKind],
+) -> Result<Vec<u8>, ServeFault>
+    ensures { IfOk result (λ text. text.items ≡ canonical_text objects.now (events_of_kinds happened.now)) }
+{
+    let events = events_of(alloc, happened)?;
+    let mut text = Sink::new(Vec::new(alloc));
+    match write_history(objects, &events, &mut text) {
+        Ok(()) => Ok(text.into_inner()),
+        Err(_) => Err(ServeFault::NoMemory),
+    }
+}
+
+/// These events, all by worker 0.
+fn events_of(alloc: Global, happened: &[EventKind]) -> Result<Vec<Event>, AllocError>
+    ensures { IfOk result (λ all. all.items ≡ events_of_kinds happened.now) }
+{
+    let mut events = Vec::with_capacity(alloc, happened.len())?;
+    for kind in happened {
+        events.push_reserved(Event {
+            worker: 0,
+            kind: *kind,
+        });
+    }
+    Ok(events)
+}
+
+/// Begins another epoch, where nothing is open.
+fn renew<S: Alter>(alloc: Global, store: Durable<S>) -> (Durable<S>, Result<(), ServeFault>)
+    requires { IsDurable S.Store store }
+    ensures sound { OnOk result.1 (IsDurable S.Store result.0) }
+    ensures store { OnOk result.1 (Renews store.store result.0.store) }
+    ensures durable { OnOk result.1 (Clean S.Store result.0.journal → durable S.Store result.0.journal ≡ renewed (written S.Store store.journal) result.0.store.types) }
+    ensures shows { OnOk result.1 (ShowsCommit S.Store result.0.journal) }
+    ensures last { OnOk result.1 (Clean S.Store result.0.journal → (written S.Store store.journal).headers ≡ store.journal.header ∷ []) }
+    ensures clean { Clean S.Store result.0.journal → Clean S.Store store.journal }
+    ensures crash { LeavesEpoch S.Store store result.0 }
+{
+    let (store, answer) = store.renew(alloc);
+    let ended = match answer {
+        Ok(Ok(())) => Ok(()),
+        Ok(Err(_)) => Err(ServeFault::NoMemory),
+        Err(error) => Err(ServeFault::Journal(error)),
+    };
+    (store, ended)
+}

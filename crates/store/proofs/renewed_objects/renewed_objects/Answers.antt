@@ -1,0 +1,33 @@
+use Rattle.std.proofs.Common.{◌≡◌, ◌+◌, [], ◌∷◌, map, length, vec_capacity, sym, ap, subst, ◌∙◌, arith}
+use Rattle.std.proofs.lemmas.List.{length-map, map-append}
+use Rattle.store.proofs.Beginnings.{image-in}
+use Rattle.store.proofs.Renewals.{AreFirstRenewed, renewed-more, renewed-all}
+use Rattle.store.proofs.renewed_objects.renewed_objects.Goals as goal
+
+pub renewed_object-requires-after_bounds : goal.renewed_object-requires-after_bounds
+renewed_object-requires-after_bounds g c κs within = λ s is.
+    let items = c.args.objects.now.items in
+    let meaning = g.R.Recovery.meaning in
+    let there = image-in meaning items c.deref-object-items.result.now c.loop-object.object-index c.object-item.result c.deref-object-items.ensures.value c.loop-object-test.true c.object-item.is in
+    c.requires c.loop-object.object-index (meaning c.object-item.result) s there is
+
+pub loop-object-preserved : goal.loop-object-preserved
+loop-object-preserved g c =
+    let items = c.args.objects.now.items in
+    let meaning = g.R.Recovery.meaning in
+    let i = c.loop-object.object-index in
+    let before = c.loop-object.renewed.items in
+    let after = c.push_reserved.new.self.items in
+    let one = c.in_ok-renewed_object.field-0 in
+    let there = image-in meaning items c.deref-object-items.result.now i c.object-item.result c.deref-object-items.ensures.value c.loop-object-test.true c.object-item.is in
+    subst (λ room. AreFirstRenewed (map meaning items) (map meaning after) room (i + 1)) (sym c.push_reserved.ensures.capacity)
+    (renewed-more (map meaning items) (map meaning before) (map meaning after) (meaning one) (vec_capacity c.loop-object.renewed) i (meaning c.object-item.result) c.loop-object.invariant there
+    c.in_ok-renewed_object.ensures (ap (map meaning) c.push_reserved.ensures.items ∙ map-append meaning before (one ∷ [])))
+
+pub returns : goal.returns
+returns g c =
+    let items = c.args.objects.now.items in
+    let meaning = g.R.Recovery.meaning in
+    let all : c.loop-object.object-index ≡ length c.deref-object-items.result.now = omega arith in
+    renewed-all (map meaning items) (map meaning c.loop-object.renewed.items) (vec_capacity c.loop-object.renewed) c.loop-object.object-index c.loop-object.invariant
+    (all ∙ ap length c.deref-object-items.ensures.value ∙ sym (length-map items meaning))

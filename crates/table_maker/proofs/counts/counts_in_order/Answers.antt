@@ -1,5 +1,0 @@
-use Rattle.table_maker.proofs.Lexicographic.{in_order}
-use Rattle.table_maker.proofs.counts.counts_in_order.Goals as goal
-
-pub returns : goal.returns
-returns c = in_order

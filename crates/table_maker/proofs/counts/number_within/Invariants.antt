@@ -1,6 +1,0 @@
-use Rattle.table_maker.specs.Counts.{AreNumbers}
-use Rattle.table_maker.proofs.counts.number_within.Given as goal
-
--- the numbers are those of the counts so far
-abbrev pub invariant-loop-counts : goal.invariant-loop-counts
-invariant-loop-counts l = AreNumbers l._counts l.numbers

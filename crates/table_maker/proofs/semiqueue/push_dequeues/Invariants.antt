@@ -1,7 +1,0 @@
-use Rattle.std.proofs.Common.{◌≡◌, ◌++◌, map, take}
-use Rattle.table_maker.specs.Semiqueue.{deq_op}
-use Rattle.table_maker.proofs.semiqueue.push_dequeues.Given as goal
-
--- the dequeues of the elements so far come after what was there before
-abbrev pub invariant-loop-e : goal.invariant-loop-e
-invariant-loop-e l = l.ops.items ≡ l.initial.ops.items ++ map deq_op (take l.e-index l.elements)

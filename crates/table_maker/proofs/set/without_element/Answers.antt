@@ -1,6 +1,0 @@
-use Rattle.std.proofs.Common.{arith}
-use Rattle.table_maker.proofs.Bits.{clear-bit}
-use Rattle.table_maker.proofs.set.without_element.Goals as goal
-
-pub returns : goal.returns
-returns c = clear-bit c.args.i c.args.s c.requires (omega arith)

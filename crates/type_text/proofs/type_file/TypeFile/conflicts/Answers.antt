@@ -1,5 +1,0 @@
-use Rattle.std.proofs.Common.{refl}
-use Rattle.type_text.proofs.type_file.TypeFile.conflicts.Goals as goal
-
-pub returns-in-Undo-clause-exact : goal.returns-in-Undo-clause-exact
-returns-in-Undo-clause-exact c = rw c.in-Undo.is refl

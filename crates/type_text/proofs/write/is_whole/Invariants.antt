@@ -1,7 +1,0 @@
--- The states so far are members.
-use Rattle.std.proofs.Common.{◌≡◌, true, take}
-use Rattle.std.specs.List.{list_all}
-use Rattle.type_text.proofs.write.is_whole.Given as goal
-
-abbrev pub invariant-loop-s : goal.invariant-loop-s
-invariant-loop-s l = list_all (λ member. member) (take l.s l.set) ≡ true
