@@ -7,3 +7,4 @@ pub mod Rooms
 pub mod Followed
 pub mod Typings
 pub mod Narrowed
+pub mod Becoming

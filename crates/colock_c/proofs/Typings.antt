@@ -1,5 +1,6 @@
 -- Types that are made: of a file that is such, or why there is none.
-use Rattle.std.proofs.Common.{◌≡◌, ℕ, ◌⊎◌, Option, Some, None, refl, sym, ap, subst, ◌∙◌, inl, inr}
+use Rattle.std.proofs.Common.{◌≡◌, ℕ, ◌⊎◌, Option, Some, None, Result, Ok, Err, refl, sym, ap, subst, ◌∙◌, inl, inr}
+use Rattle.std.specs.Prelude.{IfErr, IfOk, MatchResult}
 use Rattle.std.proofs.lemmas.Option.{same_Some}
 use Rattle.type_table.specs.declared.kind.Kind.{Kind}
 use Rattle.type_table.specs.declared.kind.Kind.TheVariants.{Escrow}
@@ -53,15 +54,26 @@ of_none IsSuch IsAmiss kind was code words new why at =
       | inr amiss ↦ no_file amiss at
     ]
 
--- which says nothing of the fault's words, so that they stay
-pub of_no_family : (IsSuch : TypeFile → Type 0) (IsNone : ℕ → Type 0) (kind : Kind) (was : ColockFault) (code : Code) (new : Option Held)
-    → (code ≡ NoMemory) ⊎ IsNone (number code) → new ≡ None → MakesType IsSuch (λ n words. IsNone n × (words ≡ was)) kind was (number code) was new
-of_no_family IsSuch IsNone kind was code new why at =
-    elim why [
-      | inl memory ↦ memory_refused (ap number memory) refl at
-      | inr none ↦ no_file (none, refl) at
+-- of a family, what is made of the file that it has, or why it has none. The fault's words stay where it has none
+pub of_family : (IsSuch : TypeFile → Type 0) (IsNone : ℕ → Type 0) (made : Result TypeFile Code) (kind : Kind) (was : ColockFault) (n : ℕ) (words : ColockFault) (new : Option Held)
+    → IfOk made IsSuch → IfErr made (λ code. (code ≡ NoMemory) ⊎ IsNone (number code))
+    → MatchResult made (λ file. MakesType (λ f. f ≡ file) (λ m w. ⊥) kind was n words new) (λ code. (n ≡ number code) × (words ≡ was) × (new ≡ None))
+    → MakesType IsSuch (λ m w. IsNone m × (w ≡ was)) kind was n words new
+of_family IsSuch IsNone (Ok file) kind was n words new such none held = of_file IsSuch (λ m w. IsNone m × (w ≡ was)) file kind was was n words new such refl held
+of_family IsSuch IsNone (Err code) kind was n words new such none held =
+    elim none [
+      | inl memory ↦ memory_refused (held.0 ∙ ap number memory) (held.1) (held.2)
+      | inr why ↦ no_file (subst IsNone (sym held.0) why, held.1) (held.2)
     ]
 
 -- what holds of the kind that was found holds of the one that there is
 pub for_kind : (P : Kind → ℕ → Type 0) (found : Option Kind) (j k : Kind) (n m : ℕ) → Some j ≡ found → found ≡ Some k → m ≡ n → P j n → P k m
 for_kind P found j k n m is there same p = subst (λ (i : Kind). P i m) (same_Some j k (is ∙ there)) (subst (P j) (sym same) p)
+
+-- of a file that was made, what is held for the kind that was found
+pub of_made : (made : Result TypeFile Code) (file : TypeFile) (found : Option Kind) (j k : Kind) (was : ColockFault) (n m : ℕ) (words : ColockFault) (new : Option Held)
+    → made ≡ Ok file → Some j ≡ found → found ≡ Some k → m ≡ n → MakesType (λ f. f ≡ file) (λ i w. ⊥) j was n words new
+    → MatchResult made (λ x. MakesType (λ f. f ≡ x) (λ i w. ⊥) k was m words new) (λ code. (m ≡ number code) × (words ≡ was) × (new ≡ None))
+of_made made file found j k was n m words new ok is there same held =
+    subst (λ (r : Result TypeFile Code). MatchResult r (λ x. MakesType (λ f. f ≡ x) (λ i w. ⊥) k was m words new) (λ code. (m ≡ number code) × (words ≡ was) × (new ≡ None))) (sym ok)
+    (for_kind (λ (i : Kind) (a : ℕ). MakesType (λ f. f ≡ file) (λ i w. ⊥) i was a words new) found j k n m is there same held)

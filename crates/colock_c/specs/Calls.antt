@@ -52,22 +52,23 @@ pub data IsCallNumber (s : Stored) (x : ℕ) (name : List ℕ) (n c : ℕ) : Typ
 
 -- ---- a handle
 
--- what comes of a worker's command. Where the handle holds no store it goes on holding what it held
+-- the store that a handle holds becomes such a store. Where the handle holds no store it goes on holding what it held
+abbrev pub Becomes : (Stored → Stored → Type 0) → Option Held → ℕ → Option Held → Type 0
+Becomes IsSuch None n new = (n ≡ number NotHeld) × (new ≡ None)
+Becomes IsSuch (Some (OfType a)) n new = (n ≡ number NotHeld) × (new ≡ Some (OfType a))
+Becomes IsSuch (Some (OfObjects os)) n new = (n ≡ number NotHeld) × (new ≡ Some (OfObjects os))
+Becomes IsSuch (Some (OfStore s)) n new = (later : Stored) × (new ≡ Some (OfStore later)) × IsSuch s later
+
+-- what comes of a worker's command
 abbrev pub DoesCommand : Option Held → ℕ → Command → ℕ → Option Held → Type 0
-DoesCommand None w command n new = (n ≡ number NotHeld) × (new ≡ None)
-DoesCommand (Some (OfType a)) w command n new = (n ≡ number NotHeld) × (new ≡ Some (OfType a))
-DoesCommand (Some (OfObjects os)) w command n new = (n ≡ number NotHeld) × (new ≡ Some (OfObjects os))
-DoesCommand (Some (OfStore s)) w command n new = (later : Stored) × (new ≡ Some (OfStore later)) × IsCommandDone s w command n later
+DoesCommand held w command n new = Becomes (λ s later. IsCommandDone s w command n later) held n new
 
 -- what comes of a worker's commit or abort, which takes no memory: its refusal, which changes nothing, or the event that it makes
 abbrev pub IsEnded : Stored → ℕ → Command → ℕ → Stored → Type 0
 IsEnded s w command n new = (n ≡ number (code_of (refusal_of s command))) × (new ≡ stored_after s w command)
 
 abbrev pub Ends : Option Held → ℕ → Command → ℕ → Option Held → Type 0
-Ends None w command n new = (n ≡ number NotHeld) × (new ≡ None)
-Ends (Some (OfType a)) w command n new = (n ≡ number NotHeld) × (new ≡ Some (OfType a))
-Ends (Some (OfObjects os)) w command n new = (n ≡ number NotHeld) × (new ≡ Some (OfObjects os))
-Ends (Some (OfStore s)) w command n new = (later : Stored) × (new ≡ Some (OfStore later)) × IsEnded s w command n later
+Ends held w command n new = Becomes (λ s later. IsEnded s w command n later) held n new
 
 -- the number of a transaction that begins
 abbrev pub IsNumbered : Option Held → ℕ → ℕ → Type 0
@@ -87,12 +88,8 @@ IsToldOf held w t x name n words new =
 
 -- what comes of a call by its number: that of a call with this number, or of none
 abbrev pub DoesNumbered : Option Held → ℕ → ℕ → ℕ → ℕ → ℕ → Option Held → Type 0
-DoesNumbered None w t x c n new = (n ≡ number NotHeld) × (new ≡ None)
-DoesNumbered (Some (OfType a)) w t x c n new = (n ≡ number NotHeld) × (new ≡ Some (OfType a))
-DoesNumbered (Some (OfObjects os)) w t x c n new = (n ≡ number NotHeld) × (new ≡ Some (OfObjects os))
-DoesNumbered (Some (OfStore s)) w t x c n new =
-    (later : Stored) × (new ≡ Some (OfStore later))
-    × ((name : List ℕ) → call_at (slice_get (objects s) x) name ≡ Some c → IsCommandDone s w (Call t x name) n later) × IsUnnumbered s t x c n later
+DoesNumbered held w t x c n new =
+    Becomes (λ s later. ((name : List ℕ) → call_at (slice_get (objects s) x) name ≡ Some c → IsCommandDone s w (Call t x name) n later) × IsUnnumbered s t x c n later) held n new
 
 abbrev pub KeepsState : Option Held → ℕ → ℕ → ℕ → Type 0
 KeepsState held x n state = (s : Stored) → store_at held ≡ Some s → IsKeptStateOf s x n state
@@ -106,7 +103,4 @@ CountsOpen held n count = (s : Stored) → store_at held ≡ Some s → (n ≡ n
 
 -- each open transaction is aborted, in ascending order of numbers, as the worker that began it
 abbrev pub AbortsAll : Option Held → ℕ → Option Held → Type 0
-AbortsAll None n new = (n ≡ number NotHeld) × (new ≡ None)
-AbortsAll (Some (OfType a)) n new = (n ≡ number NotHeld) × (new ≡ Some (OfType a))
-AbortsAll (Some (OfObjects os)) n new = (n ≡ number NotHeld) × (new ≡ Some (OfObjects os))
-AbortsAll (Some (OfStore s)) n new = (n ≡ number Done) × (new ≡ Some (OfStore (record s { history = s.history ++ closing s.history })))
+AbortsAll held n new = Becomes (λ s later. (n ≡ number Done) × (later ≡ record s { history = s.history ++ closing s.history })) held n new

@@ -3,14 +3,14 @@ use Rattle.std.specs.Prelude.{◌≡◌, ℕ, ◌+◌, ◌-◌, ◌<◌, ◌≤�
 use Rattle.object_trait.specs.declared.event.Event.{Event}
 use Rattle.store_laws.specs.Stored.{Stored}
 use Rattle.store.specs.Follows.{IsMade, with_event}
+use Rattle.colock_c.specs.Calls.{Becomes}
 use Rattle.colock_c.specs.Codes.{number}
 use Rattle.colock_c.specs.EventWords.{event_at, event_words}
 use Rattle.colock_c.specs.Holding.{store_at}
 use Rattle.colock_c.specs.declared.code.Code.{Code}
-use Rattle.colock_c.specs.declared.code.Code.TheVariants.{Done, NotHeld, Forgotten, NotMade, NoMemory}
+use Rattle.colock_c.specs.declared.code.Code.TheVariants.{Done, Forgotten, NotMade, NoMemory}
 use Rattle.colock_c.specs.declared.event_words.ColockEvent.{ColockEvent}
 use Rattle.colock_c.specs.declared.held.Held.{Held}
-use Rattle.colock_c.specs.declared.held.Held.TheVariants.{OfType, OfObjects, OfStore}
 
 -- ---- events that are copied
 
@@ -42,10 +42,7 @@ CountsEvents held n count forgotten =
 
 -- the first of those that are in memory are forgotten, or all of them
 abbrev pub Forgets : Option Held → ℕ → ℕ → Option Held → Type 0
-Forgets None m n new = (n ≡ number NotHeld) × (new ≡ None)
-Forgets (Some (OfType a)) m n new = (n ≡ number NotHeld) × (new ≡ Some (OfType a))
-Forgets (Some (OfObjects os)) m n new = (n ≡ number NotHeld) × (new ≡ Some (OfObjects os))
-Forgets (Some (OfStore s)) m n new = (n ≡ number Done) × (new ≡ Some (OfStore (record s { forgotten = min (s.forgotten + m) (length s.history) })))
+Forgets held m n new = Becomes (λ s later. (n ≡ number Done) × (later ≡ record s { forgotten = min (s.forgotten + m) (length s.history) })) held n new
 
 -- ---- events that are made again
 
@@ -71,7 +68,4 @@ pub data IsFollowed (s : Stored) (ws : List ColockEvent) (n made : ℕ) (new : S
   memory_refused : n ≡ number NoMemory → made < length ws → AreMadeOfWords s (take made ws) new → IsFollowed s ws n made new
 
 abbrev pub FollowsWords : Option Held → List ColockEvent → ℕ → ℕ → Option Held → Type 0
-FollowsWords None ws n made new = (n ≡ number NotHeld) × (new ≡ None)
-FollowsWords (Some (OfType a)) ws n made new = (n ≡ number NotHeld) × (new ≡ Some (OfType a))
-FollowsWords (Some (OfObjects os)) ws n made new = (n ≡ number NotHeld) × (new ≡ Some (OfObjects os))
-FollowsWords (Some (OfStore s)) ws n made new = (later : Stored) × (new ≡ Some (OfStore later)) × IsFollowed s ws n made later
+FollowsWords held ws n made new = Becomes (λ s later. IsFollowed s ws n made later) held n new

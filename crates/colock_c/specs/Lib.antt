@@ -1,6 +1,7 @@
 pub mod Owned
 pub mod Codes
 pub mod Holding
+pub mod Lending
 pub mod Words
 pub mod Operations
 pub mod EventWords

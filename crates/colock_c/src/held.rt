@@ -30,13 +30,66 @@ impl Drop for Held {
 }
 
 impl Held {
-    ghost use Rattle.std.specs.Prelude.{◌≡◌, List, Some, None};
+    ghost use Rattle.std.specs.Borrow.{sem};
+    ghost use Rattle.std.specs.Prelude.{◌≡◌, List, Some, None, IsSome, is_some};
     ghost use Rattle.object_trait.specs.Meaning.{Meaning};
     ghost use Rattle.store_laws.specs.Stored.{Stored};
     ghost use Rattle.colock_c.specs.Codes.{number};
-    ghost use Rattle.colock_c.specs.Holding.{objects_at, store_at};
+    ghost use Rattle.colock_c.specs.Holding.{objects_at, store_at, type_at};
+    ghost use Rattle.colock_c.specs.Lending.{LendsStore};
     ghost use Rattle.colock_c.specs.Making.{MakesStore};
     ghost use Rattle.colock_c.specs.Epochs.{IsRenewal};
+
+    /// Whether it is a store.
+    pub(crate) fn is_store(&self) -> bool
+        ensures { result ≡ is_some (store_at (Some self.now)) }
+    {
+        matches!(self, Held::OfStore(_))
+    }
+
+    /// Whether it is a type.
+    pub(crate) fn is_type(&self) -> bool
+        ensures { result ≡ is_some (type_at (Some self.now)) }
+    {
+        matches!(self, Held::OfType(_))
+    }
+
+    /// The store that it is.
+    pub(crate) fn store(&mut self) -> &mut Store<Object>
+        requires { IsSome (store_at (Some self.old)) }
+        ensures* lends { sem 𝓛 (LendsStore self.entry result) }
+        ensures is { store_at (Some self.old) ≡ Some result.now }
+    {
+        match self {
+            Held::OfStore(store) => store,
+            Held::OfType(_) => unreachable!(),
+            Held::OfObjects(_) => unreachable!(),
+        }
+    }
+
+    /// The same, to read of it.
+    pub(crate) fn stored(&self) -> &Store<Object>
+        requires { IsSome (store_at (Some self.now)) }
+        ensures { store_at (Some self.now) ≡ Some result.now }
+    {
+        match self {
+            Held::OfStore(store) => store,
+            Held::OfType(_) => unreachable!(),
+            Held::OfObjects(_) => unreachable!(),
+        }
+    }
+
+    /// The type that it is.
+    pub(crate) fn checked(&self) -> &Arc<CheckedType>
+        requires { IsSome (type_at (Some self.now)) }
+        ensures { type_at (Some self.now) ≡ Some result.now.value }
+    {
+        match self {
+            Held::OfType(checked) => checked,
+            Held::OfObjects(_) => unreachable!(),
+            Held::OfStore(_) => unreachable!(),
+        }
+    }
 
     /// The store of these objects; else what there was, and why not.
     pub(crate) fn made(self, alloc: Global, max_events: u32) -> (Held, Code)

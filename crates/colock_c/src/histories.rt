@@ -7,9 +7,10 @@ ghost use Rattle.colock_c.specs.Codes.{number};
 ghost use Rattle.colock_c.specs.Histories.{Copies, CountsEvents, FollowsWords, Forgets};
 ghost use Rattle.colock_c.specs.Holding.{store_at};
 
-use crate::at_history;
 use crate::code::Code;
+use crate::event_rooms;
 use crate::event_words::ColockEvent;
+use crate::made_events::follow_words;
 use crate::slot::Slot;
 use std::alloc::Global;
 
@@ -28,10 +29,10 @@ pub extern "C" fn colock_events(
     ensures reads { slot.new.handle.held ≡ slot.old.handle.held }
     ensures rest { result ≢ 0 → (room.new ≡ room.old) × (count.new ≡ count.old) }
 {
-    let Some(held) = slot.take(alloc) else {
+    let Some(held) = slot.take_store(alloc) else {
         return Code::NotHeld.number();
     };
-    let code = at_history::events(&held, from, room, count);
+    let code = event_rooms::events(held.stored(), from, room, count);
     slot.put(held);
     code.number()
 }
@@ -49,30 +50,33 @@ pub extern "C" fn colock_event_count(
     ensures reads { slot.new.handle.held ≡ slot.old.handle.held }
     ensures rest { result ≢ 0 → (count.new ≡ count.old) × (forgotten.new ≡ forgotten.old) }
 {
-    let Some(held) = slot.take(alloc) else {
+    let Some(held) = slot.take_store(alloc) else {
         return Code::NotHeld.number();
     };
-    let code = at_history::event_count(&held, count, forgotten);
+    *count = u64::from(held.stored().event_count());
+    *forgotten = event_rooms::forgotten_count(held.stored());
     slot.put(held);
-    code.number()
+    Code::Done.number()
 }
 
 /// Forgets the first events, this many of those that are in memory, or all of them. It takes no memory.
 #[unsafe(no_mangle)]
+#[tactic(auto, using(crate::proofs::Becoming::becomes, crate::proofs::Becoming::stays))]
 pub extern "C" fn colock_forget(alloc: Global, slot: &mut Slot, events: u64) -> u32
     ensures { Forgets slot.old.handle.held events result slot.new.handle.held }
 {
-    let Some(mut held) = slot.take(alloc) else {
+    let Some(mut held) = slot.take_store(alloc) else {
         return Code::NotHeld.number();
     };
-    let code = at_history::forget(&mut held, events);
+    held.store().forget(events as usize);
     slot.put(held);
-    code.number()
+    Code::Done.number()
 }
 
 /// Makes these events again, one after another, each as the worker that made it; `made` gets how many were
 /// made. `NotMade` or `NoMemory` at the next: those before it are made.
 #[unsafe(no_mangle)]
+#[tactic(auto, using(crate::proofs::Becoming::becomes, crate::proofs::Becoming::stays))]
 pub extern "C" fn colock_follow(
     alloc: Global,
     slot: &mut Slot,
@@ -82,10 +86,10 @@ pub extern "C" fn colock_follow(
     ensures follows { FollowsWords slot.old.handle.held events.now result made.new slot.new.handle.held }
     ensures no_store { store_at slot.old.handle.held ≡ None → made.new ≡ made.old }
 {
-    let Some(mut held) = slot.take(alloc) else {
+    let Some(mut held) = slot.take_store(alloc) else {
         return Code::NotHeld.number();
     };
-    let code = at_history::follow(&mut held, events, made);
+    let code = follow_words(held.store(), events, made);
     slot.put(held);
     code.number()
 }

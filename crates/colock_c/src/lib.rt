@@ -4,9 +4,6 @@
 //! store. Of each pointer an export assumes that it isn't null, is aligned, and is the call's alone.
 #![tactic(auto)]
 
-mod at_history;
-mod at_store;
-mod at_type;
 mod call_numbers;
 mod code;
 pub mod epochs;

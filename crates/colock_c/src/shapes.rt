@@ -7,10 +7,10 @@ ghost use Rattle.colock_c.specs.Codes.{number};
 ghost use Rattle.colock_c.specs.Holding.{type_at};
 ghost use Rattle.colock_c.specs.Named.{IsShaped, TellsStep, NamesCall, NamesReply, NamesType, TellsConflict};
 
-use crate::at_type;
 use crate::code::Code;
 use crate::slot::Slot;
-use crate::words::ColockShape;
+use crate::type_parts::{conflict, declared_by, put_call, put_name, put_reply, step};
+use crate::words::{ColockShape, shape_of};
 use std::alloc::Global;
 
 /// The type at once: its number of states, the initial one, its number of operations, and its kind.
@@ -21,12 +21,12 @@ pub extern "C" fn colock_type_shape(alloc: Global, slot: &mut Slot, shape: &mut 
     ensures reads { slot.new.handle.held ≡ slot.old.handle.held }
     ensures rest { result ≢ 0 → shape.new ≡ shape.old }
 {
-    let Some(held) = slot.take(alloc) else {
+    let Some(held) = slot.take_type(alloc) else {
         return Code::NotHeld.number();
     };
-    let code = at_type::shape(&held, shape);
+    *shape = shape_of(held.checked().kind(), declared_by(held.checked()));
     slot.put(held);
-    code.number()
+    Code::Done.number()
 }
 
 /// The type's name, in the room's first bytes; `count` gets their number, which is at most 32. `NoRoom`.
@@ -42,10 +42,10 @@ pub extern "C" fn colock_type_name(
     ensures reads { slot.new.handle.held ≡ slot.old.handle.held }
     ensures rest { result ≢ 0 → (room.new ≡ room.old) × (count.new ≡ count.old) }
 {
-    let Some(held) = slot.take(alloc) else {
+    let Some(held) = slot.take_type(alloc) else {
         return Code::NotHeld.number();
     };
-    let code = at_type::name(&held, room, count);
+    let code = put_name(held.checked().declared().name(), room, count);
     slot.put(held);
     code.number()
 }
@@ -64,10 +64,10 @@ pub extern "C" fn colock_type_call(
     ensures reads { slot.new.handle.held ≡ slot.old.handle.held }
     ensures rest { result ≢ 0 → (room.new ≡ room.old) × (count.new ≡ count.old) }
 {
-    let Some(held) = slot.take(alloc) else {
+    let Some(held) = slot.take_type(alloc) else {
         return Code::NotHeld.number();
     };
-    let code = at_type::call(&held, k, room, count);
+    let code = put_call(declared_by(held.checked()), k, room, count);
     slot.put(held);
     code.number()
 }
@@ -86,10 +86,10 @@ pub extern "C" fn colock_type_reply(
     ensures reads { slot.new.handle.held ≡ slot.old.handle.held }
     ensures rest { result ≢ 0 → (room.new ≡ room.old) × (count.new ≡ count.old) }
 {
-    let Some(held) = slot.take(alloc) else {
+    let Some(held) = slot.take_type(alloc) else {
         return Code::NotHeld.number();
     };
-    let code = at_type::reply(&held, k, room, count);
+    let code = put_reply(declared_by(held.checked()), k, room, count);
     slot.put(held);
     code.number()
 }
@@ -109,10 +109,10 @@ pub extern "C" fn colock_type_step(
     ensures reads { slot.new.handle.held ≡ slot.old.handle.held }
     ensures rest { result ≢ 0 → to.new ≡ to.old }
 {
-    let Some(held) = slot.take(alloc) else {
+    let Some(held) = slot.take_type(alloc) else {
         return Code::NotHeld.number();
     };
-    let code = at_type::leads(&held, s, k, to);
+    let code = step(held.checked().declared(), s, k, to);
     slot.put(held);
     code.number()
 }
@@ -132,10 +132,10 @@ pub extern "C" fn colock_type_conflict(
     ensures reads { slot.new.handle.held ≡ slot.old.handle.held }
     ensures rest { result ≢ 0 → told.new ≡ told.old }
 {
-    let Some(held) = slot.take(alloc) else {
+    let Some(held) = slot.take_type(alloc) else {
         return Code::NotHeld.number();
     };
-    let code = at_type::conflicts(&held, requested, other, told);
+    let code = conflict(held.checked(), requested, other, told);
     slot.put(held);
     code.number()
 }

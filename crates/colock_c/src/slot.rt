@@ -1,6 +1,7 @@
 //! Where C keeps a handle, and whether it holds anything.
 
 ghost use Rattle.std.specs.Prelude.{◌≡◌, ◌↔◌, IsTrue, IsSome, Some, None, MatchOption};
+ghost use Rattle.colock_c.specs.Holding.{store_at, type_at};
 
 use crate::handle::Handle;
 use crate::held::Held;
@@ -38,6 +39,34 @@ impl Slot {
         let handle = mem::replace(&mut self.handle, Handle::empty(alloc));
         self.live = false;
         Some(handle.into_loose().into_box())
+    }
+
+    /// Takes out the store that it holds. What else it holds stays.
+    pub fn take_store(&mut self, alloc: Global) -> Option<Box<Held>>
+        ensures { MatchOption result
+            ((store_at self.old.handle.held ≡ None) × (self.new.handle.held ≡ self.old.handle.held))
+            (λ held. IsSome (store_at (Some held.value)) × (self.old.handle.held ≡ Some held.value) × (self.new.handle.held ≡ None)) }
+    {
+        let held = self.take(alloc)?;
+        if held.is_store() {
+            return Some(held);
+        }
+        self.put(held);
+        None
+    }
+
+    /// Takes out the type that it holds. What else it holds stays.
+    pub fn take_type(&mut self, alloc: Global) -> Option<Box<Held>>
+        ensures { MatchOption result
+            ((type_at self.old.handle.held ≡ None) × (self.new.handle.held ≡ self.old.handle.held))
+            (λ held. IsSome (type_at (Some held.value)) × (self.old.handle.held ≡ Some held.value) × (self.new.handle.held ≡ None)) }
+    {
+        let held = self.take(alloc)?;
+        if held.is_type() {
+            return Some(held);
+        }
+        self.put(held);
+        None
     }
 
     /// Puts something in, where there is nothing.

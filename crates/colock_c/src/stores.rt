@@ -11,14 +11,15 @@ ghost use Rattle.colock_c.specs.Codes.{number};
 ghost use Rattle.colock_c.specs.Foreseen.{Foresees, ForeseesAt};
 ghost use Rattle.colock_c.specs.Holding.{store_at};
 
-use crate::at_store;
 use crate::code::Code;
 use crate::slot::Slot;
 use crate::words::ColockAnswer;
+use crate::{call_numbers, store_calls};
 use std::alloc::Global;
 
 /// Begins a transaction, as a worker, and gives its number: `TooManyOpen`, `HistoryFull` or `NoMemory`.
 #[unsafe(no_mangle)]
+#[tactic(auto, using(crate::proofs::Becoming::becomes, crate::proofs::Becoming::stays))]
 pub extern "C" fn colock_begin(
     alloc: Global,
     slot: &mut Slot,
@@ -29,10 +30,10 @@ pub extern "C" fn colock_begin(
     ensures begun { IsNumbered slot.old.handle.held result transaction.new }
     ensures rest { result ≢ 0 → transaction.new ≡ transaction.old }
 {
-    let Some(mut held) = slot.take(alloc) else {
+    let Some(mut held) = slot.take_store(alloc) else {
         return Code::NotHeld.number();
     };
-    let code = at_store::begin(&mut held, worker, transaction);
+    let code = store_calls::begin(held.store(), worker, transaction);
     slot.put(held);
     code.number()
 }
@@ -40,6 +41,7 @@ pub extern "C" fn colock_begin(
 /// Calls, for a transaction, the call with this name at object x, and gives the answer: `NotOpen`,
 /// `NoObject`, `NoCall`, `HistoryFull` or `NoMemory`.
 #[unsafe(no_mangle)]
+#[tactic(auto, using(crate::proofs::Becoming::becomes, crate::proofs::Becoming::stays))]
 pub extern "C" fn colock_call(
     alloc: Global,
     slot: &mut Slot,
@@ -53,16 +55,17 @@ pub extern "C" fn colock_call(
     ensures told { IsToldOf slot.old.handle.held worker transaction x name.now result answer.new slot.new.handle.held }
     ensures rest { result ≢ 0 → answer.new ≡ answer.old }
 {
-    let Some(mut held) = slot.take(alloc) else {
+    let Some(mut held) = slot.take_store(alloc) else {
         return Code::NotHeld.number();
     };
-    let code = at_store::call(&mut held, worker, transaction, x, name, answer);
+    let code = store_calls::call(held.store(), worker, transaction, x, name, answer);
     slot.put(held);
     code.number()
 }
 
 /// Calls the call with this number there, as `colock_call` the one with its name.
 #[unsafe(no_mangle)]
+#[tactic(auto, using(crate::proofs::Becoming::becomes, crate::proofs::Becoming::stays))]
 pub extern "C" fn colock_call_op(
     alloc: Global,
     slot: &mut Slot,
@@ -76,10 +79,10 @@ pub extern "C" fn colock_call_op(
     ensures told { TellsAnswer slot.old.handle.held worker transaction x c result answer.new slot.new.handle.held }
     ensures rest { result ≢ 0 → answer.new ≡ answer.old }
 {
-    let Some(mut held) = slot.take(alloc) else {
+    let Some(mut held) = slot.take_store(alloc) else {
         return Code::NotHeld.number();
     };
-    let code = at_store::call_op(&mut held, worker, transaction, x, c, answer);
+    let code = store_calls::call_op(held.store(), worker, transaction, x, c, answer);
     slot.put(held);
     code.number()
 }
@@ -98,10 +101,10 @@ pub extern "C" fn colock_call_number(
     ensures reads { slot.new.handle.held ≡ slot.old.handle.held }
     ensures rest { result ≢ 0 → call.new ≡ call.old }
 {
-    let Some(held) = slot.take(alloc) else {
+    let Some(held) = slot.take_store(alloc) else {
         return Code::NotHeld.number();
     };
-    let code = at_store::call_number(&held, x, name, call);
+    let code = call_numbers::call_number(held.stored(), x, name, call);
     slot.put(held);
     code.number()
 }
@@ -121,10 +124,10 @@ pub extern "C" fn colock_would(
     ensures reads { slot.new.handle.held ≡ slot.old.handle.held }
     ensures rest { result ≢ 0 → answer.new ≡ answer.old }
 {
-    let Some(held) = slot.take(alloc) else {
+    let Some(held) = slot.take_store(alloc) else {
         return Code::NotHeld.number();
     };
-    let code = at_store::would(&held, transaction, x, name, answer);
+    let code = store_calls::would(held.stored(), transaction, x, name, answer);
     slot.put(held);
     code.number()
 }
@@ -144,36 +147,38 @@ pub extern "C" fn colock_would_op(
     ensures reads { slot.new.handle.held ≡ slot.old.handle.held }
     ensures rest { result ≢ 0 → answer.new ≡ answer.old }
 {
-    let Some(held) = slot.take(alloc) else {
+    let Some(held) = slot.take_store(alloc) else {
         return Code::NotHeld.number();
     };
-    let code = at_store::would_op(&held, transaction, x, c, answer);
+    let code = store_calls::would_op(held.stored(), transaction, x, c, answer);
     slot.put(held);
     code.number()
 }
 
 /// Commits a transaction, as a worker: `NotOpen`. It never takes memory.
 #[unsafe(no_mangle)]
+#[tactic(auto, using(crate::proofs::Becoming::becomes, crate::proofs::Becoming::stays))]
 pub extern "C" fn colock_commit(alloc: Global, slot: &mut Slot, worker: u8, transaction: u64) -> u32
     ensures { Ends slot.old.handle.held worker (command.Commit transaction) result slot.new.handle.held }
 {
-    let Some(mut held) = slot.take(alloc) else {
+    let Some(mut held) = slot.take_store(alloc) else {
         return Code::NotHeld.number();
     };
-    let code = at_store::commit(&mut held, worker, transaction);
+    let code = store_calls::commit(held.store(), worker, transaction);
     slot.put(held);
     code.number()
 }
 
 /// Aborts a transaction, as a worker: `NotOpen`. It never takes memory.
 #[unsafe(no_mangle)]
+#[tactic(auto, using(crate::proofs::Becoming::becomes, crate::proofs::Becoming::stays))]
 pub extern "C" fn colock_abort(alloc: Global, slot: &mut Slot, worker: u8, transaction: u64) -> u32
     ensures { Ends slot.old.handle.held worker (command.Abort transaction) result slot.new.handle.held }
 {
-    let Some(mut held) = slot.take(alloc) else {
+    let Some(mut held) = slot.take_store(alloc) else {
         return Code::NotHeld.number();
     };
-    let code = at_store::abort(&mut held, worker, transaction);
+    let code = store_calls::abort(held.store(), worker, transaction);
     slot.put(held);
     code.number()
 }
@@ -181,6 +186,7 @@ pub extern "C" fn colock_abort(alloc: Global, slot: &mut Slot, worker: u8, trans
 /// Strikes the last operations of a transaction, as a worker: `NotOpen`, `BadRollback`, `HistoryFull` or
 /// `NoMemory`.
 #[unsafe(no_mangle)]
+#[tactic(auto, using(crate::proofs::Becoming::becomes, crate::proofs::Becoming::stays))]
 pub extern "C" fn colock_rollback(
     alloc: Global,
     slot: &mut Slot,
@@ -190,10 +196,10 @@ pub extern "C" fn colock_rollback(
 ) -> u32
     ensures { DoesCommand slot.old.handle.held worker (command.Rollback transaction operations) result slot.new.handle.held }
 {
-    let Some(mut held) = slot.take(alloc) else {
+    let Some(mut held) = slot.take_store(alloc) else {
         return Code::NotHeld.number();
     };
-    let code = at_store::rollback(&mut held, worker, transaction, operations);
+    let code = store_calls::rollback(held.store(), worker, transaction, operations);
     slot.put(held);
     code.number()
 }
@@ -206,10 +212,10 @@ pub extern "C" fn colock_kept(alloc: Global, slot: &mut Slot, x: u32, state: &mu
     ensures reads { slot.new.handle.held ≡ slot.old.handle.held }
     ensures rest { result ≢ 0 → state.new ≡ state.old }
 {
-    let Some(held) = slot.take(alloc) else {
+    let Some(held) = slot.take_store(alloc) else {
         return Code::NotHeld.number();
     };
-    let code = at_store::kept(&held, x, state);
+    let code = store_calls::kept(held.stored(), x, state);
     slot.put(held);
     code.number()
 }
@@ -222,23 +228,24 @@ pub extern "C" fn colock_open_count(alloc: Global, slot: &mut Slot, count: &mut 
     ensures reads { slot.new.handle.held ≡ slot.old.handle.held }
     ensures rest { result ≢ 0 → count.new ≡ count.old }
 {
-    let Some(held) = slot.take(alloc) else {
+    let Some(held) = slot.take_store(alloc) else {
         return Code::NotHeld.number();
     };
-    let code = at_store::open_count(&held, count);
+    *count = u64::from(held.stored().open_count());
     slot.put(held);
-    code.number()
+    Code::Done.number()
 }
 
 /// Aborts each open transaction, in ascending order of numbers, as the worker that began it.
 #[unsafe(no_mangle)]
+#[tactic(auto, using(crate::proofs::Becoming::becomes, crate::proofs::Becoming::stays))]
 pub extern "C" fn colock_abort_all(alloc: Global, slot: &mut Slot) -> u32
     ensures { AbortsAll slot.old.handle.held result slot.new.handle.held }
 {
-    let Some(mut held) = slot.take(alloc) else {
+    let Some(mut held) = slot.take_store(alloc) else {
         return Code::NotHeld.number();
     };
-    let code = at_store::abort_all(&mut held);
+    held.store().abort_all();
     slot.put(held);
-    code.number()
+    Code::Done.number()
 }

@@ -22,10 +22,10 @@ ghost use Rattle.colock_c.specs.Types.{HasNoFile, IsDeclaredFile, MakesType, IsN
 ghost use Rattle.colock_c.specs.Words.{kind_by_number};
 
 use crate::code::Code;
-use crate::made_types::{
-    hold_account, hold_amounts, hold_counter, hold_queue, hold_seats, hold_semiqueue, hold_set,
-    hold_stock, hold_tabled, hold_text,
+use crate::families::{
+    account_file, counter_file, queue_file, seats_file, semiqueue_file, set_file, stock_file,
 };
+use crate::made_types::{hold_amounts, hold_made, hold_tabled, hold_text};
 use crate::slot::Slot;
 use crate::words::{ColockFault, kind_at};
 use std::alloc::Global;
@@ -81,6 +81,7 @@ pub extern "C" fn colock_type_tables(
 /// An account: a balance of 0 to `cap`, with deposits and withdrawals of these amounts. `BadParameter` or
 /// `TooLarge`.
 #[unsafe(no_mangle)]
+#[tactic(auto, using(crate::proofs::Typings::of_family))]
 pub extern "C" fn colock_type_account(
     alloc: Global,
     slot: &mut Slot,
@@ -94,18 +95,14 @@ pub extern "C" fn colock_type_account(
     ensures made { (k : Kind) → slot.old.handle.held ≡ None → kind_by_number kind ≡ Some k
         → MakesType (IsOfFamily (AreAmounts cap amounts.now) (AccountFits cap amounts.now) (account cap amounts.now)) (λ n words. HasNone (AreAmounts cap amounts.now) (AccountFits cap amounts.now) n × (words ≡ fault.old)) k fault.old result fault.new slot.new.handle.held }
 {
-    if slot.is_open() {
-        return Code::InUse.number();
-    }
-    let Some(kind) = kind_at(kind) else {
-        return Code::BadKind.number();
-    };
-    hold_account(alloc, slot, kind, cap, amounts, fault).number()
+    let made = account_file(alloc, cap, amounts);
+    hold_made(alloc, slot, kind, made, fault)
 }
 
 /// A counter: a number from 0 to `cap`, with steps up and down by these amounts. `BadParameter` or
 /// `TooLarge`.
 #[unsafe(no_mangle)]
+#[tactic(auto, using(crate::proofs::Typings::of_family))]
 pub extern "C" fn colock_type_counter(
     alloc: Global,
     slot: &mut Slot,
@@ -119,18 +116,14 @@ pub extern "C" fn colock_type_counter(
     ensures made { (k : Kind) → slot.old.handle.held ≡ None → kind_by_number kind ≡ Some k
         → MakesType (IsOfFamily (AreAmounts cap amounts.now) (CounterFits amounts.now) (counter cap amounts.now)) (λ n words. HasNone (AreAmounts cap amounts.now) (CounterFits amounts.now) n × (words ≡ fault.old)) k fault.old result fault.new slot.new.handle.held }
 {
-    if slot.is_open() {
-        return Code::InUse.number();
-    }
-    let Some(kind) = kind_at(kind) else {
-        return Code::BadKind.number();
-    };
-    hold_counter(alloc, slot, kind, cap, amounts, fault).number()
+    let made = counter_file(alloc, cap, amounts);
+    hold_made(alloc, slot, kind, made, fault)
 }
 
 /// A stock: a number from 0 to `cap`, of which these amounts are given and taken. `BadParameter` or
 /// `TooLarge`.
 #[unsafe(no_mangle)]
+#[tactic(auto, using(crate::proofs::Typings::of_family))]
 pub extern "C" fn colock_type_stock(
     alloc: Global,
     slot: &mut Slot,
@@ -144,17 +137,13 @@ pub extern "C" fn colock_type_stock(
     ensures made { (k : Kind) → slot.old.handle.held ≡ None → kind_by_number kind ≡ Some k
         → MakesType (IsOfFamily (AreAmounts cap amounts.now) (StockFits amounts.now) (stock cap amounts.now)) (λ n words. HasNone (AreAmounts cap amounts.now) (StockFits amounts.now) n × (words ≡ fault.old)) k fault.old result fault.new slot.new.handle.held }
 {
-    if slot.is_open() {
-        return Code::InUse.number();
-    }
-    let Some(kind) = kind_at(kind) else {
-        return Code::BadKind.number();
-    };
-    hold_stock(alloc, slot, kind, cap, amounts, fault).number()
+    let made = stock_file(alloc, cap, amounts);
+    hold_made(alloc, slot, kind, made, fault)
 }
 
 /// A set: each element, which is a word of the text, is in or out. `BadParameter` or `TooLarge`.
 #[unsafe(no_mangle)]
+#[tactic(auto, using(crate::proofs::Typings::of_family))]
 pub extern "C" fn colock_type_set(
     alloc: Global,
     slot: &mut Slot,
@@ -167,18 +156,14 @@ pub extern "C" fn colock_type_set(
     ensures made { (k : Kind) → slot.old.handle.held ≡ None → kind_by_number kind ≡ Some k
         → MakesType (IsOfFamily (AreSetWords elements.now) (SetFits (words_of elements.now)) (set (words_of elements.now))) (λ n words. HasNone (AreSetWords elements.now) (SetFits (words_of elements.now)) n × (words ≡ fault.old)) k fault.old result fault.new slot.new.handle.held }
 {
-    if slot.is_open() {
-        return Code::InUse.number();
-    }
-    let Some(kind) = kind_at(kind) else {
-        return Code::BadKind.number();
-    };
-    hold_set(alloc, slot, kind, elements, fault).number()
+    let made = set_file(alloc, elements);
+    hold_made(alloc, slot, kind, made, fault)
 }
 
 /// A semiqueue: at most `capacity` items of the elements, which are the words of the text. `BadParameter` or
 /// `TooLarge`.
 #[unsafe(no_mangle)]
+#[tactic(auto, using(crate::proofs::Typings::of_family))]
 pub extern "C" fn colock_type_semiqueue(
     alloc: Global,
     slot: &mut Slot,
@@ -192,18 +177,14 @@ pub extern "C" fn colock_type_semiqueue(
     ensures made { (k : Kind) → slot.old.handle.held ≡ None → kind_by_number kind ≡ Some k
         → MakesType (IsOfFamily (AreSemiqueueWords elements.now capacity) (SemiqueueFits (words_of elements.now) capacity) (semiqueue (words_of elements.now) capacity)) (λ n words. HasNone (AreSemiqueueWords elements.now capacity) (SemiqueueFits (words_of elements.now) capacity) n × (words ≡ fault.old)) k fault.old result fault.new slot.new.handle.held }
 {
-    if slot.is_open() {
-        return Code::InUse.number();
-    }
-    let Some(kind) = kind_at(kind) else {
-        return Code::BadKind.number();
-    };
-    hold_semiqueue(alloc, slot, kind, elements, capacity, fault).number()
+    let made = semiqueue_file(alloc, elements, capacity);
+    hold_made(alloc, slot, kind, made, fault)
 }
 
 /// A queue: at most `capacity` items of the elements, which are the words of the text, first in, first out.
 /// `BadParameter` or `TooLarge`.
 #[unsafe(no_mangle)]
+#[tactic(auto, using(crate::proofs::Typings::of_family))]
 pub extern "C" fn colock_type_queue(
     alloc: Global,
     slot: &mut Slot,
@@ -217,17 +198,13 @@ pub extern "C" fn colock_type_queue(
     ensures made { (k : Kind) → slot.old.handle.held ≡ None → kind_by_number kind ≡ Some k
         → MakesType (IsOfFamily (AreSemiqueueWords elements.now capacity) (QueueFits (words_of elements.now) capacity) (queue (words_of elements.now) capacity)) (λ n words. HasNone (AreSemiqueueWords elements.now capacity) (QueueFits (words_of elements.now) capacity) n × (words ≡ fault.old)) k fault.old result fault.new slot.new.handle.held }
 {
-    if slot.is_open() {
-        return Code::InUse.number();
-    }
-    let Some(kind) = kind_at(kind) else {
-        return Code::BadKind.number();
-    };
-    hold_queue(alloc, slot, kind, elements, capacity, fault).number()
+    let made = queue_file(alloc, elements, capacity);
+    hold_made(alloc, slot, kind, made, fault)
 }
 
 /// Seats: `count` of them, each free, held or booked. `BadParameter` or `TooLarge`.
 #[unsafe(no_mangle)]
+#[tactic(auto, using(crate::proofs::Typings::of_family))]
 pub extern "C" fn colock_type_seats(
     alloc: Global,
     slot: &mut Slot,
@@ -240,13 +217,8 @@ pub extern "C" fn colock_type_seats(
     ensures made { (k : Kind) → slot.old.handle.held ≡ None → kind_by_number kind ≡ Some k
         → MakesType (IsOfFamily (AreSeats count) (SeatsFit count) (seats count)) (λ n words. HasNone (AreSeats count) (SeatsFit count) n × (words ≡ fault.old)) k fault.old result fault.new slot.new.handle.held }
 {
-    if slot.is_open() {
-        return Code::InUse.number();
-    }
-    let Some(kind) = kind_at(kind) else {
-        return Code::BadKind.number();
-    };
-    hold_seats(alloc, slot, kind, count, fault).number()
+    let made = seats_file(alloc, count);
+    hold_made(alloc, slot, kind, made, fault)
 }
 
 /// A number from 0 to `max`, which has no table and is for escrow alone: these amounts are taken and given.

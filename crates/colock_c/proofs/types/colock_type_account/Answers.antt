@@ -1,13 +1,11 @@
-use Rattle.std.proofs.Common.{◌≡◌, ℕ}
-use Rattle.type_table.specs.declared.kind.Kind.{Kind}
-use Rattle.table_families.specs.Account.{account, AccountFits}
-use Rattle.table_families.specs.Amounts.{AreAmounts}
+use Rattle.std.proofs.Common.{ℕ}
 use Rattle.colock_c.specs.Families.{HasNone, IsOfFamily}
-use Rattle.colock_c.specs.Types.{MakesType}
-use Rattle.colock_c.proofs.Typings.{for_kind}
+use Rattle.table_families.specs.Account.{AccountFits, account}
+use Rattle.table_families.specs.Amounts.{AreAmounts}
+use Rattle.colock_c.proofs.Typings.{of_family}
 use Rattle.colock_c.proofs.types.colock_type_account.Goals as goal
 
 pub returns-clause-made : goal.returns-clause-made
 returns-clause-made c = λ k empty is.
-    for_kind (λ (k : Kind) (n : ℕ). MakesType (IsOfFamily (AreAmounts c.args.cap c.args.amounts.now) (AccountFits c.args.cap c.args.amounts.now) (account c.args.cap c.args.amounts.now)) (λ n words. HasNone (AreAmounts c.args.cap c.args.amounts.now) (AccountFits c.args.cap c.args.amounts.now) n × (words ≡ c.args.fault.now)) k c.args.fault.now n c.hold_account.new.fault c.hold_account.new.slot.handle.held)
-    _ c.in-Some.kind k _ c.number-2.result c.in-Some.ensures is c.number-2.ensures c.hold_account.ensures
+    of_family (IsOfFamily (AreAmounts c.args.cap c.args.amounts.now) (AccountFits c.args.cap c.args.amounts.now) (account c.args.cap c.args.amounts.now)) (λ (n : ℕ). HasNone (AreAmounts c.args.cap c.args.amounts.now) (AccountFits c.args.cap c.args.amounts.now) n)
+    c.account_file-made.result k c.args.fault.now c.hold_made.result c.hold_made.new.fault c.hold_made.new.slot.handle.held c.account_file-made.ensures.made c.account_file-made.ensures.refused (c.hold_made.ensures.made k empty is)

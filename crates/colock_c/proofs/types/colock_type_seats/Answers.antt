@@ -1,12 +1,10 @@
-use Rattle.std.proofs.Common.{◌≡◌, ℕ}
-use Rattle.type_table.specs.declared.kind.Kind.{Kind}
-use Rattle.table_families.specs.Seats.{seats, AreSeats, SeatsFit}
+use Rattle.std.proofs.Common.{ℕ}
 use Rattle.colock_c.specs.Families.{HasNone, IsOfFamily}
-use Rattle.colock_c.specs.Types.{MakesType}
-use Rattle.colock_c.proofs.Typings.{for_kind}
+use Rattle.table_families.specs.Seats.{AreSeats, SeatsFit, seats}
+use Rattle.colock_c.proofs.Typings.{of_family}
 use Rattle.colock_c.proofs.types.colock_type_seats.Goals as goal
 
 pub returns-clause-made : goal.returns-clause-made
 returns-clause-made c = λ k empty is.
-    for_kind (λ (k : Kind) (n : ℕ). MakesType (IsOfFamily (AreSeats c.args.count) (SeatsFit c.args.count) (seats c.args.count)) (λ n words. HasNone (AreSeats c.args.count) (SeatsFit c.args.count) n × (words ≡ c.args.fault.now)) k c.args.fault.now n c.hold_seats.new.fault c.hold_seats.new.slot.handle.held)
-    _ c.in-Some.kind k _ c.number-2.result c.in-Some.ensures is c.number-2.ensures c.hold_seats.ensures
+    of_family (IsOfFamily (AreSeats c.args.count) (SeatsFit c.args.count) (seats c.args.count)) (λ (n : ℕ). HasNone (AreSeats c.args.count) (SeatsFit c.args.count) n)
+    c.seats_file-made.result k c.args.fault.now c.hold_made.result c.hold_made.new.fault c.hold_made.new.slot.handle.held c.seats_file-made.ensures.made c.seats_file-made.ensures.refused (c.hold_made.ensures.made k empty is)

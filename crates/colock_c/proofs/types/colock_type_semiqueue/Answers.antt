@@ -1,13 +1,11 @@
-use Rattle.std.proofs.Common.{◌≡◌, ℕ}
-use Rattle.type_table.specs.declared.kind.Kind.{Kind}
-use Rattle.line_text.specs.Text.{words_of}
-use Rattle.table_families.specs.Semiqueue.{semiqueue, SemiqueueFits}
+use Rattle.std.proofs.Common.{ℕ}
 use Rattle.colock_c.specs.Families.{AreSemiqueueWords, HasNone, IsOfFamily}
-use Rattle.colock_c.specs.Types.{MakesType}
-use Rattle.colock_c.proofs.Typings.{for_kind}
+use Rattle.line_text.specs.Text.{words_of}
+use Rattle.table_families.specs.Semiqueue.{SemiqueueFits, semiqueue}
+use Rattle.colock_c.proofs.Typings.{of_family}
 use Rattle.colock_c.proofs.types.colock_type_semiqueue.Goals as goal
 
 pub returns-clause-made : goal.returns-clause-made
 returns-clause-made c = λ k empty is.
-    for_kind (λ (k : Kind) (n : ℕ). MakesType (IsOfFamily (AreSemiqueueWords c.args.elements.now c.args.capacity) (SemiqueueFits (words_of c.args.elements.now) c.args.capacity) (semiqueue (words_of c.args.elements.now) c.args.capacity)) (λ n words. HasNone (AreSemiqueueWords c.args.elements.now c.args.capacity) (SemiqueueFits (words_of c.args.elements.now) c.args.capacity) n × (words ≡ c.args.fault.now)) k c.args.fault.now n c.hold_semiqueue.new.fault c.hold_semiqueue.new.slot.handle.held)
-    _ c.in-Some.kind k _ c.number-2.result c.in-Some.ensures is c.number-2.ensures c.hold_semiqueue.ensures
+    of_family (IsOfFamily (AreSemiqueueWords c.args.elements.now c.args.capacity) (SemiqueueFits (words_of c.args.elements.now) c.args.capacity) (semiqueue (words_of c.args.elements.now) c.args.capacity)) (λ (n : ℕ). HasNone (AreSemiqueueWords c.args.elements.now c.args.capacity) (SemiqueueFits (words_of c.args.elements.now) c.args.capacity) n)
+    c.semiqueue_file-made.result k c.args.fault.now c.hold_made.result c.hold_made.new.fault c.hold_made.new.slot.handle.held c.semiqueue_file-made.ensures.made c.semiqueue_file-made.ensures.refused (c.hold_made.ensures.made k empty is)
