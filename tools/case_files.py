@@ -105,3 +105,57 @@ def all_cases():
     """The cases of all files of cases."""
     for path in sorted(glob.glob(os.path.join(FOLDER, "*.cases"))):
         yield from cases_of(os.path.basename(path))
+
+
+# ---- sessions: several commands in one folder, one after another
+
+COMMAND = re.compile(r"^\$ colock\b(.*)\n", re.M)
+
+
+@dataclasses.dataclass(frozen=True)
+class Step:
+    """A command of a session: its words, its standard input, and what comes of it."""
+    words: tuple
+    given: bytes
+    out: Expected
+    err: Expected
+    status: int
+    says: bool
+
+
+@dataclasses.dataclass(frozen=True)
+class Session:
+    """Files, and commands in their folder. The name says where it is."""
+    name: str
+    files: dict
+    steps: tuple
+
+
+def texts_of(text):
+    """The parts of a text by their names; one that names a shared file has its text."""
+    split = PART.split(text)[1:]
+    for head, part in zip(split[::2], split[1::2]):
+        name, is_shared, other = head.partition(" =")
+        yield name, shared(other.strip() or name) if is_shared else spelled(part)
+
+
+def step_of(words, text):
+    """The command with these words, and the parts after it."""
+    parts = dict(texts_of(text))
+    status = next((int(name.split(" ")[1]) for name in parts if name.startswith("status ")), 0)
+    out, err = (Expected(parts.get(name, b"")) for name in ("out", "err"))
+    return Step(tuple(shlex.split(words)), parts.get("in", b""), out, err, status, "err" in parts)
+
+
+def all_sessions():
+    """The sessions of all files of sessions."""
+    for path in sorted(glob.glob(os.path.join(FOLDER, "*.sessions"))):
+        with open(path, encoding="utf-8") as file:
+            blocks = BLOCK.split(file.read())
+        line = 1
+        for block in blocks:
+            if block.startswith("=== "):
+                files, *steps = COMMAND.split(block[:-1] if block.endswith("\n\n") else block)
+                name = f"cases/{os.path.basename(path)}:{line}"
+                yield Session(name, dict(texts_of(files)), tuple(map(step_of, steps[::2], steps[1::2])))
+            line += block.count("\n")
