@@ -109,9 +109,12 @@ fn run<M: Recovery>(store: &mut Store<M>, numbers: &[u32]) -> u32 {
 fn is_accepted<M: Recovery>(store: &mut Store<M>, numbers: &[u32]) -> bool {
     match *numbers {
         [0, ..] => store.begin(WORKER).is_ok(),
-        [1, t, x, c] => store
-            .call_op(WORKER, t, x, Operation::listed(c as u8))
-            .is_ok(),
+        [1, t, x, c] => match u8::try_from(c) {
+            Ok(place) => store
+                .call_op(WORKER, t, x, Operation::listed(place))
+                .is_ok(),
+            Err(_) => false,
+        },
         [2, t, ..] => store.commit(WORKER, t).is_ok(),
         [3, t, ..] => store.abort(WORKER, t).is_ok(),
         [4, t, n, _] => store.rollback(WORKER, t, n).is_ok(),
