@@ -38,13 +38,14 @@ class Expected:
 
 @dataclasses.dataclass(frozen=True)
 class Case:
-    """A command, its files, and what comes of it. The name says where it is."""
+    """A command, its files, and what comes of it. The name says where it is, and the sentence what it is of."""
     name: str
     words: tuple
     files: dict
     out: Expected = Expected()
     err: Expected = Expected()
     status: int = 0
+    sentence: str = ""
 
 
 def shared(name):
@@ -97,7 +98,8 @@ def cases_of(name):
         text = block[:-1] if block.endswith("\n\n") else block
         for words in WORDS.findall(text) if text.startswith("=== ") else ():
             files, streams, status = parts_of(text)
-            yield Case(f"cases/{name}:{line}", tuple(shlex.split(words)), files, streams["out"], streams["err"], status)
+            yield Case(f"cases/{name}:{line}", tuple(shlex.split(words)), files, streams["out"], streams["err"], status,
+                       text[4:].partition("\n")[0])
         line += block.count("\n")
 
 
