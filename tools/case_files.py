@@ -103,6 +103,12 @@ def cases_of(name):
         line += block.count("\n")
 
 
+def case_of(name, sentence):
+    """The one case of a file of cases with this sentence."""
+    case, = [case for case in cases_of(name + ".cases") if case.sentence == sentence]
+    return case
+
+
 def all_cases():
     """The cases of all files of cases."""
     for path in sorted(glob.glob(os.path.join(FOLDER, "*.cases"))):

@@ -1,10 +1,7 @@
 mod archives;
 mod counters;
-mod epochs;
-mod faults;
-mod full_epochs;
-mod new_files;
-mod outages;
+mod files;
+mod scenes;
 mod serving_lines;
 mod stops;
 mod stops_served;

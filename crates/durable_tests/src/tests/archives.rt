@@ -1,20 +1,17 @@
 //! Archives that are given the histories of epochs that end.
 
 ghost use Rattle.std.specs.Prelude.{◌≡◌, IsTrue, None, Some, map};
-ghost use Rattle.sqlite_trees.specs.View.{IsClean};
 ghost use Rattle.serving.specs.Archives.{KeptHistory};
 ghost use Rattle.durable_tests.specs.declared.tests.archives.Kept.{Kept};
 
-use super::counters::{NewTrees, has, opened};
-use super::serving_lines::output;
+use super::counters::{NewTrees, has, new_store};
+use super::serving_lines::{HOUR, Service, told};
 use durable_store::open;
-use serving::{Archive, ArchiveFault, Client, EpochLimits, ServeFault, Server, serve};
+use serving::{Archive, ArchiveFault, ServeFault};
 use sqlite_trees::memory::MemStore;
-use sqlite_trees::store::Alter;
 use std::alloc::Global;
 use std::process::Abort;
 use std::rt::Clock;
-use std::time::Duration;
 
 /// A history that was kept.
 #[derive(Drop)]
@@ -103,31 +100,22 @@ impl Numbered for MemStore {
 /// How serving ended, and the life and the events of the store then.
 type Ended = (Result<(), ServeFault>, u32, u32);
 
-/// A client that asks these lines, read byte by byte, is served with epochs that are full with four events and this
-/// archive; what is open may go on for `drain` then. Its trees come back.
-fn served<S: Alter + Drop, A: Archive>(
-    rt: &(impl Abort + AllocGlobal + Clock),
-    trees: S,
+/// A client that asks these lines is served with epochs that are full with four events and this archive; what is open
+/// may go on for `drain` seconds then. The trees of the store come back.
+fn served<S: NewTrees + Drop, R: Abort + AllocGlobal + Clock, A: Archive>(
+    rt: &R,
     archive: &mut A,
-    drain: Duration,
-    lines: &[u8],
-) -> (Ended, S)
-    requires { IsClean (S.Store.view trees) → IsTrue (S.Store.view trees).is_numbered }
-{
-    let alloc = rt.alloc();
-    let mut client = Client::new(output(rt, 1_000));
-    let server = Server::new(alloc, opened(rt, trees), 4);
-    let (mut input, mut byte) = (lines, [0; 1]);
-    let (server, ended) = server.run(
-        rt,
-        alloc,
+    lines: &'static [u8],
+    drain: u64,
+) -> (Ended, S) {
+    let how = Service {
+        lines,
+        piece: 1,
+        room: 1_000,
+        most_events: 4,
         drain,
-        archive,
-        &mut input,
-        &mut byte,
-        &mut client,
-    );
-    let store = server.into_store();
+    };
+    let (_, ended, store) = told(rt, new_store::<S, R>(rt), archive, &how);
     let told = (ended, store.life(), store.store().event_count());
     (told, store.into_trees())
 }
@@ -141,20 +129,6 @@ static HISTORY: &[u8] =
     b"object undo 0\nobject intentions 0\nbegin 0 0\nop 0 0 0 0\nbegin 0 1\nop 0 1 1 0\ncommit 0 0\n\
     commit 0 1\nend\n";
 
-/// An hour, which is never over.
-fn hour() -> Duration {
-    Duration::from_secs(3_600)
-}
-
-/// That it is kept, and the next epoch has begun.
-fn is_kept<S: Alter + Drop>(rt: &(impl Abort + AllocGlobal + Clock), trees: S)
-    requires { IsClean (S.Store.view trees) → IsTrue (S.Store.view trees).is_numbered }
-{
-    let mut shelf = empty_shelf(rt, 2);
-    let (told, _) = served(rt, trees, &mut shelf, hour(), COMMITTED);
-    assert!(rt; told == (Ok(()), 2, 1) && has_one(&shelf, HISTORY));
-}
-
 /// The same, where what is open is aborted.
 static OPEN: &[u8] =
     b"a begin\nb call 1.0 0 inc:1\nc begin\nd call 1.1 1 inc:1\ne begin\nf stats\n";
@@ -164,21 +138,20 @@ static ABORTED: &[u8] =
     b"object undo 0\nobject intentions 0\nbegin 0 0\nop 0 0 0 0\nbegin 0 1\nop 0 1 1 0\nabort 0 0\n\
     abort 0 1\nend\n";
 
-/// That its aborts are kept with it.
-fn is_kept_aborted<S: Alter + Drop>(rt: &(impl Abort + AllocGlobal + Clock), trees: S)
-    requires { IsClean (S.Store.view trees) → IsTrue (S.Store.view trees).is_numbered }
-{
-    let mut shelf = empty_shelf(rt, 2);
-    let (told, _) = served(rt, trees, &mut shelf, Duration::ZERO, OPEN);
-    assert!(rt; told == (Ok(()), 2, 1) && has_one(&shelf, ABORTED));
+/// That an epoch which is full is kept as the text of its history, under its life, and the next one has begun; what is
+/// open was aborted before.
+fn are_kept<S: NewTrees + Drop, R: Abort + AllocGlobal + Clock>(rt: &R) {
+    for (lines, drain, history) in [(COMMITTED, HOUR, HISTORY), (OPEN, 0, ABORTED)] {
+        let mut shelf = empty_shelf(rt, 2);
+        let (told, _) = served::<S, R, Shelf>(rt, &mut shelf, lines, drain);
+        assert!(rt; told == (Ok(()), 2, 1) && has_one(&shelf, history));
+    }
 }
 
 /// That nothing begins anew where the archive fails: what is found in the trees has the whole epoch.
-fn is_held<S: Numbered + Drop>(rt: &(impl Abort + AllocGlobal + Clock), trees: S)
-    requires { IsClean (S.Store.view trees) → IsTrue (S.Store.view trees).is_numbered }
-{
+fn is_held<S: Numbered + Drop, R: Abort + AllocGlobal + Clock>(rt: &R) {
     let mut shelf = empty_shelf(rt, 0);
-    let (told, trees) = served(rt, trees, &mut shelf, hour(), COMMITTED);
+    let (told, trees) = served::<S, R, Shelf>(rt, &mut shelf, COMMITTED, HOUR);
     let found = open(rt.alloc(), trees.numbered(), &[]).ok();
     has(rt, found.expect(rt, "no store is found"), 6, 1);
     let fault = ServeFault::Archive(ArchiveFault::Device);
@@ -186,54 +159,15 @@ fn is_held<S: Numbered + Drop>(rt: &(impl Abort + AllocGlobal + Clock), trees: S
 }
 
 /// That an archive that asks for none is given none.
-fn is_let_go<S: Alter + Drop>(rt: &(impl Abort + AllocGlobal + Clock), trees: S)
-    requires { IsClean (S.Store.view trees) → IsTrue (S.Store.view trees).is_numbered }
-{
+fn is_let_go<S: NewTrees + Drop, R: Abort + AllocGlobal + Clock>(rt: &R) {
     let mut none = Unwilling { given: 0 };
-    let (told, _) = served(rt, trees, &mut none, hour(), COMMITTED);
+    let (told, _) = served::<S, R, Unwilling>(rt, &mut none, COMMITTED, HOUR);
     assert!(rt; told == (Ok(()), 2, 1) && none.given == 0);
-}
-
-/// That the history is kept at the end too, and the end is answered.
-fn is_kept_at_the_end<S: Alter + Drop>(rt: &(impl Abort + AllocGlobal + Clock), trees: S)
-    requires { IsClean (S.Store.view trees) → IsTrue (S.Store.view trees).is_numbered }
-{
-    let mut shelf = empty_shelf(rt, 1);
-    let mut client = Client::new(output(rt, 1_000));
-    let (mut input, mut buffer) = (b"a begin\nb end\n".as_slice(), [0; 64]);
-    let limits = EpochLimits {
-        most_events: 4,
-        drain: hour(),
-    };
-    let store = opened(rt, trees);
-    let (store, ended) = serve(
-        rt,
-        rt.alloc(),
-        limits,
-        store,
-        &mut shelf,
-        &mut input,
-        &mut buffer,
-        &mut client,
-    );
-    has(rt, store, 0, 0);
-    let text = b"object undo 0\nobject intentions 0\nbegin 0 0\nabort 0 0\nend\n";
-    assert!(rt; ended.is_ok() && has_one(&shelf, text.as_slice()));
-}
-
-/// Each of these archives at new trees: an epoch that is full is kept as the text of its history, under its life, and
-/// the next one begins; what is open is aborted before. Where the archive fails, serving stops and the file holds the
-/// epoch; where it asks for none, the next epoch begins without it. The last epoch is kept before the client hears of
-/// the end.
-fn archives<S: Numbered + Drop, R: Abort + AllocGlobal + Clock>(rt: &R) {
-    is_kept(rt, S::no_trees(rt));
-    is_kept_aborted(rt, S::no_trees(rt));
-    is_held(rt, S::no_trees(rt));
-    is_let_go(rt, S::no_trees(rt));
-    is_kept_at_the_end(rt, S::no_trees(rt));
 }
 
 #[test]
 fn epochs_that_end_are_kept(rt: HostRuntime) {
-    archives::<MemStore, HostRuntime>(&rt);
+    are_kept::<MemStore, HostRuntime>(&rt);
+    is_held::<MemStore, HostRuntime>(&rt);
+    is_let_go::<MemStore, HostRuntime>(&rt);
 }

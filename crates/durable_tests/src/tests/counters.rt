@@ -4,13 +4,14 @@ ghost use Rattle.sqlite_trees.specs.View.{IsClean};
 ghost use Rattle.std.specs.Prelude.{IsTrue};
 ghost use Rattle.durable_store.specs.Durable.{IsDurable};
 
-use durable_store::{Durable, open, restart};
+use durable_store::{Durable, open, restart, settle_and_restart};
 use journal::{FileContents, FirstState, Header, Journal, TypeText};
 use object_calls::Answer;
 use serial_order::Refusal;
 use sqlite_trees::memory::MemStore;
 use sqlite_trees::store::{Alter, Reopen};
 use std::process::Abort;
+use store::RenewRefusal;
 use store_text::ObjectLine;
 use test_support::type_texts::COUNTER;
 use type_table::{Kind, Operation};
@@ -190,4 +191,57 @@ pub fn has<S: Alter + Drop>(rt: &impl Abort, store: Durable<S>, events: u32, sta
     let told = (seen.event_count(), seen.kept(0), seen.kept(1));
     let _ = store.into_trees();
     assert!(rt; told == (events, Some(state), Some(state)));
+}
+
+/// That so many events are found, and both objects in this state, where the machine stops at the moment of a settling
+/// that answers.
+pub fn has_settled<S: Alter + Reopen + Drop>(
+    rt: &(impl Abort + AllocGlobal),
+    store: Durable<S>,
+    events: u32,
+    state: u32,
+)
+    requires { IsDurable S.Store store }
+{
+    let (is_settled, store) = settle_and_restart(rt.alloc(), store);
+    has(rt, store.expect(rt, "nothing is found"), events, state);
+    assert!(rt; is_settled);
+}
+
+/// Another epoch begins.
+pub fn renewed<S: Alter + Drop>(rt: &(impl Abort + AllocGlobal), store: Durable<S>) -> Durable<S>
+    requires { IsDurable S.Store store }
+    ensures { IsDurable S.Store result }
+{
+    let (store, told) = store.renew(rt.alloc());
+    let told = told.expect(rt, "the file failed");
+    told.expect(rt, "no other epoch");
+    store
+}
+
+/// Another epoch is refused, since a transaction is open.
+pub fn still_open<S: Alter + Drop>(rt: &(impl Abort + AllocGlobal), store: Durable<S>) -> Durable<S>
+    requires { IsDurable S.Store store }
+    ensures { IsDurable S.Store result }
+{
+    let (store, told) = store.renew(rt.alloc());
+    let told = told.expect(rt, "the file failed");
+    assert!(rt; told == Err(RenewRefusal::StillOpen));
+    store
+}
+
+/// That the file of a store has no event, that both objects begin at this state, and which life it is.
+pub fn has_no_event<S: Alter + Drop>(
+    rt: &(impl Abort + AllocGlobal),
+    store: Durable<S>,
+    state: u32,
+    life: u32,
+)
+    requires { IsDurable S.Store store }
+{
+    let opened = Journal::open(rt.alloc(), store.into_trees()).ok();
+    let (_, said) = opened.expect(rt, "the file isn't opened");
+    let states = [FirstState { state }, FirstState { state }];
+    let is_at = said.states.as_slice() == states.as_slice();
+    assert!(rt; is_at && said.events.is_empty() && said.header.life == life);
 }

@@ -1,24 +1,23 @@
 //! A client that asks a durable store of two counters by lines.
 
-ghost use Rattle.std.specs.Prelude.{◌≡◌, ◌<◌, ◌≤◌, None, IsTrue, OnOk};
-ghost use Rattle.sqlite_trees.specs.View.{IsClean};
+ghost use Rattle.std.specs.Prelude.{◌≡◌, None, OnOk};
 ghost use Rattle.durable_store.specs.Durable.{IsDurable};
 ghost use Rattle.outputs.specs.Gathered.{under};
 ghost use Rattle.outputs.specs.Out.{sink_fault};
 
-use super::counters::{NewTrees, has, opened, restarted};
+use super::counters::{NewTrees, has, new_store, restarted};
 use durable_store::Durable;
 use outputs::{Gathered, OutFault, Sink};
-use serving::{Client, EpochLimits, NoArchive, ServeFault, Server, serve};
+use serving::{Archive, Client, NoArchive, ServeFault, Server};
 use sqlite_trees::memory::MemStore;
-use sqlite_trees::store::{Alter, Reopen};
+use sqlite_trees::store::Alter;
 use std::process::Abort;
 use std::rt::Clock;
 use std::time::Duration;
 use test_support::sinks::{AtEnd, Narrow, narrow_sink};
 
 /// What is asked, of the first life of a store.
-static ASKED: &str = "a begin
+static ASKED: &[u8] = b"a begin
 b call 1.0 0 inc:1
 c call 1.0 1 inc:1
 d would 1.0 0 dec:1
@@ -43,7 +42,7 @@ v begin
 ";
 
 /// What it is answered.
-static ANSWERED: &str = "a ok 1.0
+static ANSWERED: &[u8] = b"a ok 1.0
 b reply ok
 c reply ok
 d reply ok
@@ -83,6 +82,20 @@ t end
 t \nt ok
 ";
 
+/// What a client asks, how many bytes are read at a time, and how many of the answers its output takes; with how many events an epoch is
+/// full, and how many seconds what is open may go on then.
+#[derive(Clone, Copy)]
+pub struct Service {
+    pub lines: &'static [u8],
+    pub piece: usize,
+    pub room: usize,
+    pub most_events: u32,
+    pub drain: u64,
+}
+
+/// An hour, which is never over.
+pub const HOUR: u64 = 3_600;
+
 /// An output that takes this many bytes, three at a time.
 pub fn output(rt: &(impl Abort + AllocGlobal), room: usize) -> Gathered<Sink<Narrow>>
     ensures { sink_fault (under result) ≡ None }
@@ -91,30 +104,26 @@ pub fn output(rt: &(impl Abort + AllocGlobal), room: usize) -> Gathered<Sink<Nar
     Gathered::new(rt.alloc(), sink).expect(rt, "no output")
 }
 
-/// What a client gets for these lines, read this many bytes at a time, where its output takes this many; how that ended,
-/// and the store after it.
-fn told<S: Alter + Drop>(
+/// What a client gets, how that ended, and the store after it.
+pub fn told<S: Alter + Drop, A: Archive>(
     rt: &(impl Abort + AllocGlobal + Clock),
     store: Durable<S>,
-    lines: &[u8],
-    piece: usize,
-    room: usize,
+    archive: &mut A,
+    how: &Service,
 ) -> (Vec<u8>, Result<(), ServeFault>, Durable<S>)
-    requires store { IsDurable S.Store store }
-    requires piece { 0 < piece × piece ≤ 4096 }
+    requires { IsDurable S.Store store }
     ensures { OnOk result.1 (IsDurable S.Store result.2) }
 {
     let alloc = rt.alloc();
-    let mut client = Client::new(output(rt, room));
-    let server = Server::new(alloc, store, u32::MAX);
-    let mut buffer = [0; 4096];
-    let mut input = lines;
-    let drain = Duration::ZERO;
+    let mut client = Client::new(output(rt, how.room));
+    let server = Server::new(alloc, store, how.most_events);
+    let (mut input, mut buffer) = (how.lines, [0; 4096]);
+    let piece = how.piece.max(1).min(4096);
     let (server, served) = server.run(
         rt,
         alloc,
-        drain,
-        &mut NoArchive,
+        Duration::from_secs(how.drain),
+        archive,
         &mut input,
         &mut buffer[..piece],
         &mut client,
@@ -123,51 +132,75 @@ fn told<S: Alter + Drop>(
     (said, served, server.into_store())
 }
 
-/// Each line is answered in its order, read this many bytes at a time; nothing after the end is done.
-fn are_answered<S: Alter + Drop>(rt: &(impl Abort + AllocGlobal + Clock), trees: S, piece: usize)
-    requires trees { IsClean (S.Store.view trees) → IsTrue (S.Store.view trees).is_numbered }
-    requires piece { 0 < piece × piece ≤ 4096 }
-{
-    let (said, served, store) = told(rt, opened(rt, trees), ASKED.as_bytes(), piece, 10_000);
-    let begun = store.store().begun();
-    let _ = store.into_trees();
-    assert!(rt; said.as_slice() == ANSWERED.as_bytes() && served.is_ok() && begun == 3);
+/// What is asked above, read in pieces of this size, where the output takes so many bytes.
+const fn asked(piece: usize, room: usize) -> Service {
+    Service {
+        lines: ASKED,
+        piece,
+        room,
+        most_events: u32::MAX,
+        drain: 0,
+    }
 }
 
-/// That lines without a request have these answers.
-fn have_no_request<S: Alter + Drop>(
-    rt: &(impl Abort + AllocGlobal + Clock),
-    trees: S,
-    lines: &[u8],
-    answers: &[u8],
-)
-    requires { IsClean (S.Store.view trees) → IsTrue (S.Store.view trees).is_numbered }
-{
-    let (said, served, store) = told(rt, opened(rt, trees), lines, 100, 10_000);
-    has(rt, store, 0, 0);
-    assert!(rt; said.as_slice() == answers && served.is_ok());
+/// Lines of which those of one epoch are four events.
+const fn short_epochs(lines: &'static [u8], drain: u64) -> Service {
+    Service {
+        lines,
+        piece: 1,
+        room: 1_000,
+        most_events: 4,
+        drain,
+    }
 }
 
-/// A line that is too long, one with a byte that isn't ASCII, and one that isn't whole.
-fn lines_without_a_request<S: NewTrees + Drop, R: Abort + AllocGlobal + Clock>(rt: &R) {
-    let mut lines = Vec::new(rt.alloc());
-    lines.resize(256, b'a').expect(rt, "no line");
-    lines
-        .extend_from_slice(b"\na \xff\nA begin\na begin")
-        .expect(rt, "no lines");
-    let answers = b"- fault TooLong\n- fault NotAscii\n- fault BadTag\n";
-    have_no_request(rt, S::no_trees(rt), &lines, answers.as_slice());
+/// No transaction begins in a full epoch, and where the last one has ended the next epoch begins in another life.
+static DRAINED: (&[u8], &[u8]) = (
+    b"a begin\nb call 1.0 0 inc:1\nc begin\nd call 1.1 1 inc:1\ne begin\nf stats\ng commit 1.0\n\
+    h begin\ni commit 1.1\nj begin\nk commit 1.1\nl kept 0\nm stats\n",
+    b"a ok 1.0\nb reply ok\nc ok 1.1\nd reply ok\ne busy drain\n\
+    f ok events 4 begun 2 open 2\ng ok\nh busy drain\ni ok\nj ok 2.0\nk refused NotOpen\nl ok 1\n\
+    m ok events 1 begun 1 open 1\n",
+);
+
+/// What is open longer than it may is aborted.
+static CUT_SHORT: (&[u8], &[u8]) = (
+    b"a begin\nb call 1.0 0 inc:1\nc begin\nd call 1.1 1 inc:1\ne begin\nf commit 1.0\ng kept 0\n",
+    b"a ok 1.0\nb reply ok\nc ok 1.1\nd reply ok\ne ok 2.0\nf refused NotOpen\ng ok 0\n",
+);
+
+/// Each line is answered in its order, however many bytes are read at a time, and nothing after the end is done. Where
+/// the output stops, the client gets a beginning.
+fn are_answered<S: NewTrees + Drop, R: Abort + AllocGlobal + Clock>(rt: &R) {
+    let stopped = Err(ServeFault::Output(OutFault::Device));
+    let rows = [
+        (asked(4096, 10_000), ANSWERED, Ok(()), 3),
+        (asked(1, 10_000), ANSWERED, Ok(()), 3),
+        (asked(7, 10_000), ANSWERED, Ok(()), 3),
+        (asked(4096, 20), &ANSWERED[..20], stopped, 3),
+        (short_epochs(DRAINED.0, HOUR), DRAINED.1, Ok(()), 1),
+        (short_epochs(CUT_SHORT.0, 0), CUT_SHORT.1, Ok(()), 1),
+    ];
+    for (how, answers, ended, begun) in &rows {
+        let (said, served, store) = told(rt, new_store::<S, R>(rt), &mut NoArchive, how);
+        let count = store.store().begun();
+        let _ = store.into_trees();
+        assert!(rt; said.as_slice() == *answers && served == *ended && count == *begun);
+    }
 }
 
 /// A commit that is answered, and a transaction that stays open.
-static COMMITTED: &[u8] =
-    b"a begin\nb call 1.0 0 inc:1\nc call 1.0 1 inc:1\nd begin\ne commit 1.0\n";
+static COMMITTED: Service = Service {
+    lines: b"a begin\nb call 1.0 0 inc:1\nc call 1.0 1 inc:1\nd begin\ne commit 1.0\n",
+    piece: 4096,
+    room: 10_000,
+    most_events: u32::MAX,
+    drain: 0,
+};
 
 /// That its answered commit is found after a crash.
-fn is_found<S: Alter + Reopen + Drop>(rt: &(impl Abort + AllocGlobal + Clock), trees: S)
-    requires { IsClean (S.Store.view trees) → IsTrue (S.Store.view trees).is_numbered }
-{
-    let (_, served, store) = told(rt, opened(rt, trees), COMMITTED, 4096, 10_000);
+fn is_found<S: NewTrees + Drop, R: Abort + AllocGlobal + Clock>(rt: &R) {
+    let (_, served, store) = told(rt, new_store::<S, R>(rt), &mut NoArchive, &COMMITTED);
     match served {
         Ok(()) => has(rt, restarted(rt, store), 6, 1),
         Err(_) => {
@@ -177,70 +210,8 @@ fn is_found<S: Alter + Reopen + Drop>(rt: &(impl Abort + AllocGlobal + Clock), t
     }
 }
 
-/// That the client gets this many bytes of the answers.
-fn is_told_a_beginning<S: Alter + Drop>(
-    rt: &(impl Abort + AllocGlobal + Clock),
-    trees: S,
-    room: usize,
-)
-    requires { IsClean (S.Store.view trees) → IsTrue (S.Store.view trees).is_numbered }
-{
-    let (said, served, store) = told(rt, opened(rt, trees), ASKED.as_bytes(), 4096, room);
-    let _ = store.into_trees();
-    let is_beginning = ANSWERED.as_bytes().get(..room) == Some(said.as_slice());
-    assert!(rt; is_beginning && served == Err(ServeFault::Output(OutFault::Device)));
-}
-
-/// What is written from the greeting to the end, where the client has asked for it.
-fn is_served<S: Alter + Drop>(
-    rt: &(impl Abort + AllocGlobal + Clock),
-    trees: S,
-    lines: &[u8],
-    end: &[u8],
-)
-    requires { IsClean (S.Store.view trees) → IsTrue (S.Store.view trees).is_numbered }
-{
-    let alloc = rt.alloc();
-    let mut client = Client::new(output(rt, 10_000));
-    let (mut input, mut buffer) = (lines, [0; 4096]);
-    let store = opened(rt, trees);
-    let limits = EpochLimits {
-        most_events: u32::MAX,
-        drain: Duration::ZERO,
-    };
-    let (store, served) = serve(
-        rt,
-        alloc,
-        limits,
-        store,
-        &mut NoArchive,
-        &mut input,
-        &mut buffer,
-        &mut client,
-    );
-    let said = client.into_out().into_inner().into_inner().held;
-    let life = store.life();
-    has(rt, store, 0, 1);
-    let answers = said.strip_prefix(b"colock 3 1\n".as_slice());
-    let answers = answers.and_then(|rest| rest.strip_suffix(end));
-    let is_told = answers == Some(ANSWERED.as_bytes());
-    assert!(rt; (is_told, served, life) == (true, Ok(()), 2));
-}
-
-/// Each of these at new trees: lines are answered however they come; what was answered is found after a crash, and
-/// what was open is aborted; the client gets a beginning where its output stops; and at the end the file begins
-/// anew at the states that were kept, before the end is answered.
-fn lines_are_served<S: NewTrees + Drop, R: Abort + AllocGlobal + Clock>(rt: &R) {
-    are_answered(rt, S::no_trees(rt), 4096);
-    are_answered(rt, S::no_trees(rt), 1);
-    are_answered(rt, S::no_trees(rt), 7);
-    lines_without_a_request::<S, R>(rt);
-    is_found(rt, S::no_trees(rt));
-    is_told_a_beginning(rt, S::no_trees(rt), 20);
-    is_served(rt, S::no_trees(rt), ASKED.as_bytes(), b"u ok\n");
-}
-
 #[test]
 fn lines_are_answered(rt: HostRuntime) {
-    lines_are_served::<MemStore, HostRuntime>(&rt);
+    are_answered::<MemStore, HostRuntime>(&rt);
+    is_found::<MemStore, HostRuntime>(&rt);
 }

@@ -18,6 +18,7 @@ use sqlite_trees::store::{Alter, Shape};
 use sqlite_value::row::Row;
 use std::alloc::Global;
 use std::process::Abort;
+use std::rt::Clock;
 
 /// How far a store came before its disk stopped.
 #[derive(Clone, Copy)]
@@ -34,6 +35,13 @@ enum Reached {
 pub enum Stops {
     Log,
     Database,
+}
+
+/// How far a store came, and how many events are found after that.
+#[derive(Clone, Copy)]
+struct Renewal {
+    reached: Reached,
+    events: u32,
 }
 
 /// How many calls each file passes on.
@@ -64,6 +72,13 @@ pub trait FoundAgain: Alter {
     /// The trees that are listed there.
     fn found_again<R: Abort + AllocGlobal>(self, rt: &R) -> Self
         ensures { IsTrue (Self.Store.view result).is_numbered };
+}
+
+/// What a store in new trees does until its disk stops, and what is found then.
+pub trait Trial: Sized {
+    /// None where the disk stops too early.
+    fn tried<S: FoundAgain + Drop, R: Abort + AllocGlobal + Clock>(rt: &R, trees: S) -> Option<Self>
+        requires { IsClean (S.Store.view trees) → IsTrue (S.Store.view trees).is_numbered };
 }
 
 impl<D: Crash + Drop> FoundAgain for FileStore<D> {
@@ -112,7 +127,7 @@ fn unopened<D: Disk + Drop>(rt: &(impl Abort + AllocGlobal), files: Files<D>) ->
 }
 
 /// The trees of new files, or none where the disk stops before.
-pub fn new_trees<D: Disk + Drop>(
+fn new_trees<D: Disk + Drop>(
     rt: &(impl Abort + AllocGlobal),
     files: Files<D>,
 ) -> Option<FileStore<D>>
@@ -252,43 +267,45 @@ fn events_found<S: Alter + Drop>(rt: &(impl Abort + AllocGlobal), trees: S) -> u
     events
 }
 
-/// How far a store in these trees comes until the disk stops, and how many events are found after that.
-fn found_in<S: FoundAgain + Drop>(
-    rt: &(impl Abort + AllocGlobal),
-    trees: S,
-) -> Option<(Reached, u32)>
-    requires { IsClean (S.Store.view trees) → IsTrue (S.Store.view trees).is_numbered }
-{
-    let (reached, trees) = played(rt, trees)?;
-    Some((reached, events_found(rt, trees.found_again(rt))))
+impl Trial for Renewal {
+    /// A commit is settled and another epoch begun, until the disk stops. None where it stops before the commit is
+    /// settled.
+    fn tried<S: FoundAgain + Drop, R: Abort + AllocGlobal + Clock>(
+        rt: &R,
+        trees: S,
+    ) -> Option<Renewal> {
+        let (reached, trees) = played(rt, trees)?;
+        let events = events_found(rt, trees.found_again(rt));
+        Some(Renewal { reached, events })
+    }
 }
 
-/// The same of a store in new files, over any disk: where the disk is named, this costs several times as much to prove.
-fn found_over<D: Crash + Drop>(
-    rt: &(impl Abort + AllocGlobal),
+/// A trial over any disk: where the disk is named, this costs several times as much to prove.
+fn tried_over<T: Trial, D: Crash + Drop, R: Abort + AllocGlobal + Clock>(
+    rt: &R,
     files: Files<D>,
-) -> Option<(Reached, u32)>
+) -> Option<T>
     requires log { IsTrue (D.Disk.is_usable files.log) }
     requires db { IsTrue (D.Disk.is_usable files.db) }
 {
-    found_in(rt, new_trees(rt, files)?)
+    T::tried(rt, new_trees(rt, files)?)
 }
 
-/// The same of files in memory: this many calls are passed on, and each one after fails. None where that was too few
+/// A trial in new files in memory: this many calls are passed on, and each one after fails. None where that was too few
 /// for new trees.
-fn found_after(rt: &(impl Abort + AllocGlobal), calls: Calls) -> Option<(Reached, u32)> {
+pub fn tried_after<T: Trial, R: Abort + AllocGlobal + Clock>(rt: &R, calls: Calls) -> Option<T> {
     let files = Files {
         log: Fuse::new(Memory::new(rt.alloc()), calls.log),
         db: Fuse::new(Memory::new(rt.alloc()), calls.db),
     };
-    found_over(rt, files)
+    tried_over(rt, files)
 }
 
 /// The greatest number of calls, below 1,024, after which no commit is settled.
-fn calls_too_few(rt: &(impl Abort + AllocGlobal), stops: Stops) -> u64 {
+fn calls_too_few<R: Abort + AllocGlobal + Clock>(rt: &R, stops: Stops) -> u64 {
     let mut few = 0u64;
     for step in [512u64, 256, 128, 64, 32, 16, 8, 4, 2, 1] {
-        if found_after(rt, stops.behind(few | step)).is_none() {
+        if tried_after::<Renewal, R>(rt, stops.behind(few | step)).is_none() {
             few |= step;
         }
     }
@@ -296,12 +313,23 @@ fn calls_too_few(rt: &(impl Abort + AllocGlobal), stops: Stops) -> u64 {
 }
 
 /// How many stops after these calls leave the old file or the new one, until another epoch has begun.
-fn stops_behind(rt: &(impl Abort + AllocGlobal), stops: Stops, few: u64) -> Option<u32> {
+fn stops_behind<R: Abort + AllocGlobal + Clock>(rt: &R, stops: Stops, few: u64) -> Option<u32> {
     let mut stopped = 0u32;
     for calls in few.saturating_add(1)..few.saturating_add(100) {
-        match found_after(rt, stops.behind(calls)) {
-            Some((Reached::Commit, 4 | 0)) => stopped = stopped.saturating_add(1),
-            Some((Reached::Epoch, 0)) => return Some(stopped),
+        let found = tried_after::<Renewal, R>(rt, stops.behind(calls));
+        match found {
+            Some(
+                Renewal {
+                    reached: Reached::Commit,
+                    events: 4 | 0,
+                },
+            ) => stopped = stopped.saturating_add(1),
+            Some(
+                Renewal {
+                    reached: Reached::Epoch,
+                    events: 0,
+                },
+            ) => return Some(stopped),
             _ => panic!(rt; "neither the old file nor the new one"),
         }
     }

@@ -5,10 +5,9 @@ ghost use Rattle.sqlite_trees.specs.View.{IsClean};
 ghost use Rattle.durable_store.specs.Durable.{IsDurable};
 
 use super::serving_lines::output;
-use super::stops::{Calls, FoundAgain, Stops, new_journal, new_trees};
+use super::stops::{FoundAgain, Stops, Trial, new_journal, tried_after};
 use durable_store::{Durable, open};
 use serving::{Client, EpochLimits, NoArchive, serve};
-use sqlite_disk::{Crash, Files, Fuse, Memory};
 use sqlite_trees::store::Alter;
 use std::process::Abort;
 use std::rt::Clock;
@@ -70,38 +69,17 @@ fn kept_in<S: Alter + Drop>(rt: &(impl Abort + AllocGlobal), trees: S) -> Option
     kept
 }
 
-/// What comes of a client at a new store in these trees, until the disk stops. None where it stops before it is served.
-fn found_in<S: FoundAgain + Drop>(
-    rt: &(impl Abort + AllocGlobal + Clock),
-    trees: S,
-) -> Option<Found>
-    requires { IsClean (S.Store.view trees) → IsTrue (S.Store.view trees).is_numbered }
-{
-    let journal = new_journal(rt, trees)?;
-    let store = open(rt.alloc(), journal.into_store(), &[]).ok()?;
-    let (told, trees) = commits_told(rt, store);
-    let kept = kept_in(rt, trees.found_again(rt));
-    Some(Found { told, kept })
-}
-
-/// The same of a store in new files, over any disk.
-fn found_over<D: Crash + Drop>(
-    rt: &(impl Abort + AllocGlobal + Clock),
-    files: Files<D>,
-) -> Option<Found>
-    requires log { IsTrue (D.Disk.is_usable files.log) }
-    requires db { IsTrue (D.Disk.is_usable files.db) }
-{
-    found_in(rt, new_trees(rt, files)?)
-}
-
-/// The same of files in memory: this many calls are passed on, and each one after fails.
-fn found_after(rt: &(impl Abort + AllocGlobal + Clock), calls: Calls) -> Option<Found> {
-    let files = Files {
-        log: Fuse::new(Memory::new(rt.alloc()), calls.log),
-        db: Fuse::new(Memory::new(rt.alloc()), calls.db),
-    };
-    found_over(rt, files)
+impl Trial for Found {
+    fn tried<S: FoundAgain + Drop, R: Abort + AllocGlobal + Clock>(
+        rt: &R,
+        trees: S,
+    ) -> Option<Found> {
+        let journal = new_journal(rt, trees)?;
+        let store = open(rt.alloc(), journal.into_store(), &[]).ok()?;
+        let (told, trees) = commits_told(rt, store);
+        let kept = kept_in(rt, trees.found_again(rt));
+        Some(Found { told, kept })
+    }
 }
 
 /// Wherever the disk stops, each commit that was answered is found, and nothing that wasn't asked.
@@ -110,7 +88,7 @@ fn a_commit_that_was_told_is_found(rt: HostRuntime) {
     for stops in [Stops::Log, Stops::Database] {
         let mut found = [0u32; 3];
         for calls in 0..100 {
-            if let Some(one) = found_after(&rt, stops.behind(calls)) {
+            if let Some(one) = tried_after::<Found, HostRuntime>(&rt, stops.behind(calls)) {
                 let kept = one.kept.expect(&rt, "no object") as usize;
                 assert!(rt; one.told <= kept && kept <= 2);
                 found[kept] = found[kept].saturating_add(1);

@@ -3,224 +3,335 @@
 use command_words::{Task, read_words};
 use std::alloc::Global;
 
-/// A task's command, the words that it has, and its items.
-type Parts = (
-    &'static str,
-    &'static str,
-    &'static str,
-    &'static [&'static str],
-);
+/// Words, and what they ask for: a command, its names, those of its first list and those of its last one, and its numbers.
+#[derive(Clone, Copy)]
+struct Asked {
+    words: &'static [&'static str],
+    command: &'static str,
+    names: &'static [&'static str],
+    first: &'static [&'static str],
+    last: &'static [&'static str],
+    numbers: &'static [u64],
+}
 
-fn has_parts(task: &Task<'_>, parts: &Parts) -> bool {
-    let (command, first, second, rest) = *parts;
-    match task {
-        Task::Check { kind, path } => {
-            (command == "check") & (first == kind.word()) & (second == *path)
+impl Asked {
+    /// Whether it is this, of names and of its last list.
+    fn is(&self, command: &str, names: &[&str], last: &[&str]) -> bool {
+        self.command == command && self.names == names && self.last == last
+    }
+
+    /// Whether the numbers are these.
+    fn has(&self, numbers: &[u64]) -> bool {
+        self.numbers == numbers
+    }
+
+    /// Whether these are the numbers.
+    fn is_order(&self, order: &[u32]) -> bool {
+        let numbers = order.iter().map(|t| u64::from(*t));
+        self.numbers.iter().copied().eq(numbers)
+    }
+
+    /// Whether it is what a task of one worker or several asks for.
+    fn is_work(&self, command: &str, jobs: &str, types: &[&str], numbers: &[u64]) -> bool {
+        self.is(command, &[jobs], types) && self.has(numbers)
+    }
+
+    /// Whether it is what a service asks for.
+    fn is_service(&self, database: &str, fast: bool, archive: Option<&str>, drain: u32) -> bool {
+        let names = [database, "fast"];
+        let names = &names[..if fast { 2 } else { 1 }];
+        self.is("serve", names, archive.as_slice()) && self.has(&[u64::from(drain)])
+    }
+
+    /// Whether it is what this task asks for.
+    fn is_of(&self, task: &Task<'_>) -> bool {
+        match task {
+            Task::Check { kind, path } => self.is("check", &[kind.word(), *path], &[]),
+            Task::Explain {
+                kind,
+                path,
+                pair: None,
+            } => self.is("explain", &[kind.word(), *path], &[]),
+            Task::Explain {
+                kind,
+                path,
+                pair: Some((p, q)),
+            } => self.is("explain", &[kind.word(), *path], &[*p, *q]),
+            Task::Make {
+                family,
+                size,
+                items,
+            } => self.is("make", &[*family, *size], items),
+            Task::Tables { path } => self.is("tables", &[*path], &[]),
+            Task::Run { script, types } => self.is("run", &[*script], types),
+            Task::Create {
+                database,
+                objects,
+                types,
+            } => self.is("create", &[*database, *objects], types),
+            Task::Serve {
+                database,
+                fast,
+                archive,
+                drain,
+            } => self.is_service(database, *fast, *archive, *drain),
+            Task::History { database } => self.is("history", &[*database], &[]),
+            Task::AuditDatabase { database } => self.is("audit --database", &[*database], &[]),
+            Task::Audit {
+                history,
+                later,
+                types,
+            } => self.first == later.as_slice() && self.is("audit", &[*history], types),
+            Task::AuditOrdered {
+                order,
+                history,
+                types,
+            } => self.is_order(order) && self.is("audit --order", &[*history], types),
+            Task::Work {
+                jobs,
+                types,
+                workers,
+                tries,
+            } => {
+                self.is_work(
+                    "work",
+                    jobs,
+                    types,
+                    &[u64::from(*workers), u64::from(*tries)],
+                )
+            }
+            Task::Stress {
+                jobs,
+                types,
+                workers,
+                tries,
+                seed,
+            } => {
+                self.is_work(
+                    "stress",
+                    jobs,
+                    types,
+                    &[u64::from(*workers), u64::from(*tries), *seed],
+                )
+            }
+            Task::Help { .. } | Task::Version => false,
         }
-        Task::Explain { kind, path, pair } => {
-            (command == "explain")
-                & (first == kind.word())
-                & (second == *path)
-                & are_pair(*pair, rest)
-        }
-        Task::Make {
-            family,
-            size,
-            items,
-        } => {
-            (command == "make")
-                & (first == *family)
-                & (second == *size)
-                & (items.as_slice() == rest)
-        }
-        Task::Tables { path } => (command == "tables") & (first == *path),
-        Task::Run { script, types } => {
-            (command == "run") & (first == *script) & (types.as_slice() == rest)
-        }
-        Task::Create {
-            database,
-            objects,
-            types,
-        } => {
-            (command == "create")
-                & (first == *database)
-                & (second == *objects)
-                & (types.as_slice() == rest)
-        }
-        Task::Serve {
-            database,
-            fast,
-            archive,
-            drain,
-        } => {
-            (command == "serve")
-                & (first == *database)
-                & (second == if *fast { "fast" } else { "" })
-                & (archive.as_slice() == rest)
-                & (*drain == 5)
-        }
-        Task::History { database } => (command == "history") & (first == *database),
-        Task::AuditDatabase { database } => (command == "audit") & (first == *database),
-        _ => false,
     }
 }
 
-/// Whether these are the words of a pair, or none where there is no pair.
-fn are_pair(pair: Option<(&str, &str)>, words: &[&str]) -> bool {
-    match pair {
-        None => words.is_empty(),
-        Some((p, q)) => words == [p, q].as_slice(),
-    }
-}
-
-/// Words, and the task that they ask for.
-static TASKS: [(&[&str], Parts); 25] = [
-    (
-        &["check", "undo", "ctr2.type"],
-        ("check", "undo", "ctr2.type", &[]),
-    ),
-    (
-        &["check", "intentions", "ctr2.type"],
-        ("check", "intentions", "ctr2.type", &[]),
-    ),
-    (
-        &["explain", "undo", "ctr2.type"],
-        ("explain", "undo", "ctr2.type", &[]),
-    ),
-    (
-        &["explain", "escrow", "ctr2.type", "0", "dec:1/ok"],
-        ("explain", "escrow", "ctr2.type", &["0", "dec:1/ok"]),
-    ),
-    (&["make", "account", "2"], ("make", "account", "2", &[])),
-    (
-        &["make", "account", "2", "1"],
-        ("make", "account", "2", &["1"]),
-    ),
-    (
-        &["make", "set", "0", "2", "1", "a-b"],
-        ("make", "set", "0", &["2", "1", "a-b"]),
-    ),
-    (&["tables", "ctr2.type"], ("tables", "ctr2.type", "", &[])),
-    (
-        &["run", "a.script", "a.type"],
-        ("run", "a.script", "", &["a.type"]),
-    ),
-    (
-        &["run", "a.script", "a.type", "b.type", "a.type"],
-        ("run", "a.script", "", &["a.type", "b.type", "a.type"]),
-    ),
-    (
-        &["create", "a.db", "a.objects", "a.type"],
-        ("create", "a.db", "a.objects", &["a.type"]),
-    ),
-    (
-        &["create", "a.db", "a.objects", "a.type", "b.type", "a.type"],
-        (
-            "create",
-            "a.db",
-            "a.objects",
-            &["a.type", "b.type", "a.type"],
-        ),
-    ),
-    (&["serve", "a.db"], ("serve", "a.db", "", &[])),
-    (&["history", "a.db"], ("history", "a.db", "", &[])),
-    (&["audit", "--database", "a.db"], ("audit", "a.db", "", &[])),
-    // Words with hyphens after `--`.
-    (
-        &["run", "a.script", "--", "-x", "--"],
-        ("run", "a.script", "", &["-x", "--"]),
-    ),
-    (
-        &["make", "set", "0", "a", "--", "-b", "--"],
-        ("make", "set", "0", &["a", "-b", "--"]),
-    ),
-    (
-        &["check", "intentions", "--", "-x"],
-        ("check", "intentions", "-x", &[]),
-    ),
-    (
-        &["explain", "undo", "a.type", "--", "-p/ok", "--"],
-        ("explain", "undo", "a.type", &["-p/ok", "--"]),
-    ),
-    (
-        &["create", "--", "-a.db", "--", "-x"],
-        ("create", "-a.db", "--", &["-x"]),
-    ),
-    (&["serve", "--", "-a.db"], ("serve", "-a.db", "", &[])),
-    (&["serve", "--fast", "a.db"], ("serve", "a.db", "fast", &[])),
-    (
-        &["serve", "a.db", "--drain", "5", "--fast"],
-        ("serve", "a.db", "fast", &[]),
-    ),
-    (
-        &["serve", "--archive", "--fast", "a.db"],
-        ("serve", "a.db", "", &["--fast"]),
-    ),
-    (
-        &["audit", "--database", "--help"],
-        ("audit", "--help", "", &[]),
-    ),
-];
-
-/// Whether the words ask for the task of these parts.
-fn asks_for(alloc: Global, words: &[&str], parts: &Parts) -> bool {
-    match read_words(alloc, words) {
-        Ok(task) => has_parts(&task, parts),
-        Err(_) => false,
-    }
-}
-
-#[test]
-fn reads_tasks(rt: HostRuntime) {
-    for (words, parts) in &TASKS {
-        assert!(rt; asks_for(rt.alloc(), words, parts));
-    }
-}
-
-/// What workers are to do: the path of the jobs and those of the types, how many workers there are,
-/// how often a job is tried, and any seed.
-type WorkParts = (&'static str, &'static [&'static str], u8, u8, Option<u64>);
-
-fn has_work(task: &Task<'_>, parts: &WorkParts) -> bool {
-    let (path, paths, most_workers, most_tries, drawn) = *parts;
-    match task {
-        Task::Work {
-            jobs,
-            types,
-            workers,
-            tries,
-        } => {
-            (path == *jobs)
-                & (types.as_slice() == paths)
-                & (most_workers == *workers)
-                & (most_tries == *tries)
-                & drawn.is_none()
-        }
-        Task::Stress {
-            jobs,
-            types,
-            workers,
-            tries,
-            seed,
-        } => {
-            (path == *jobs)
-                & (types.as_slice() == paths)
-                & (most_workers == *workers)
-                & (most_tries == *tries)
-                & (drawn == Some(*seed))
-        }
-        _ => false,
-    }
-}
-
-/// Words, and what workers are to do by them.
-static WORKS: [(&[&str], WorkParts); 12] = [
-    (
-        &["work", "--workers", "2", "a.jobs", "a.type"],
-        ("a.jobs", &["a.type"], 2, 3, None),
-    ),
-    (
-        &[
+/// Words, and what they ask for. The later ones of a command have hyphens after `--`, options in any order, and the
+/// greatest numbers.
+static ROWS: [Asked; 47] = [
+    Asked {
+        words: &["check", "undo", "ctr2.type"],
+        command: "check",
+        names: &["undo", "ctr2.type"],
+        first: &[],
+        last: &[],
+        numbers: &[],
+    },
+    Asked {
+        words: &["check", "intentions", "ctr2.type"],
+        command: "check",
+        names: &["intentions", "ctr2.type"],
+        first: &[],
+        last: &[],
+        numbers: &[],
+    },
+    Asked {
+        words: &["explain", "undo", "ctr2.type"],
+        command: "explain",
+        names: &["undo", "ctr2.type"],
+        first: &[],
+        last: &[],
+        numbers: &[],
+    },
+    Asked {
+        words: &["explain", "escrow", "ctr2.type", "0", "dec:1/ok"],
+        command: "explain",
+        names: &["escrow", "ctr2.type"],
+        first: &[],
+        last: &["0", "dec:1/ok"],
+        numbers: &[],
+    },
+    Asked {
+        words: &["make", "account", "2"],
+        command: "make",
+        names: &["account", "2"],
+        first: &[],
+        last: &[],
+        numbers: &[],
+    },
+    Asked {
+        words: &["make", "account", "2", "1"],
+        command: "make",
+        names: &["account", "2"],
+        first: &[],
+        last: &["1"],
+        numbers: &[],
+    },
+    Asked {
+        words: &["make", "set", "0", "2", "1", "a-b"],
+        command: "make",
+        names: &["set", "0"],
+        first: &[],
+        last: &["2", "1", "a-b"],
+        numbers: &[],
+    },
+    Asked {
+        words: &["tables", "ctr2.type"],
+        command: "tables",
+        names: &["ctr2.type"],
+        first: &[],
+        last: &[],
+        numbers: &[],
+    },
+    Asked {
+        words: &["run", "a.script", "a.type"],
+        command: "run",
+        names: &["a.script"],
+        first: &[],
+        last: &["a.type"],
+        numbers: &[],
+    },
+    Asked {
+        words: &["run", "a.script", "a.type", "b.type", "a.type"],
+        command: "run",
+        names: &["a.script"],
+        first: &[],
+        last: &["a.type", "b.type", "a.type"],
+        numbers: &[],
+    },
+    Asked {
+        words: &["create", "a.db", "a.objects", "a.type"],
+        command: "create",
+        names: &["a.db", "a.objects"],
+        first: &[],
+        last: &["a.type"],
+        numbers: &[],
+    },
+    Asked {
+        words: &["create", "a.db", "a.objects", "a.type", "b.type", "a.type"],
+        command: "create",
+        names: &["a.db", "a.objects"],
+        first: &[],
+        last: &["a.type", "b.type", "a.type"],
+        numbers: &[],
+    },
+    Asked {
+        words: &["serve", "a.db"],
+        command: "serve",
+        names: &["a.db"],
+        first: &[],
+        last: &[],
+        numbers: &[5],
+    },
+    Asked {
+        words: &["history", "a.db"],
+        command: "history",
+        names: &["a.db"],
+        first: &[],
+        last: &[],
+        numbers: &[],
+    },
+    Asked {
+        words: &["audit", "--database", "a.db"],
+        command: "audit --database",
+        names: &["a.db"],
+        first: &[],
+        last: &[],
+        numbers: &[],
+    },
+    Asked {
+        words: &["run", "a.script", "--", "-x", "--"],
+        command: "run",
+        names: &["a.script"],
+        first: &[],
+        last: &["-x", "--"],
+        numbers: &[],
+    },
+    Asked {
+        words: &["make", "set", "0", "a", "--", "-b", "--"],
+        command: "make",
+        names: &["set", "0"],
+        first: &[],
+        last: &["a", "-b", "--"],
+        numbers: &[],
+    },
+    Asked {
+        words: &["check", "intentions", "--", "-x"],
+        command: "check",
+        names: &["intentions", "-x"],
+        first: &[],
+        last: &[],
+        numbers: &[],
+    },
+    Asked {
+        words: &["explain", "undo", "a.type", "--", "-p/ok", "--"],
+        command: "explain",
+        names: &["undo", "a.type"],
+        first: &[],
+        last: &["-p/ok", "--"],
+        numbers: &[],
+    },
+    Asked {
+        words: &["create", "--", "-a.db", "--", "-x"],
+        command: "create",
+        names: &["-a.db", "--"],
+        first: &[],
+        last: &["-x"],
+        numbers: &[],
+    },
+    Asked {
+        words: &["serve", "--", "-a.db"],
+        command: "serve",
+        names: &["-a.db"],
+        first: &[],
+        last: &[],
+        numbers: &[5],
+    },
+    Asked {
+        words: &["serve", "--fast", "a.db"],
+        command: "serve",
+        names: &["a.db", "fast"],
+        first: &[],
+        last: &[],
+        numbers: &[5],
+    },
+    Asked {
+        words: &["serve", "a.db", "--drain", "5", "--fast"],
+        command: "serve",
+        names: &["a.db", "fast"],
+        first: &[],
+        last: &[],
+        numbers: &[5],
+    },
+    Asked {
+        words: &["serve", "--archive", "--fast", "a.db"],
+        command: "serve",
+        names: &["a.db"],
+        first: &[],
+        last: &["--fast"],
+        numbers: &[5],
+    },
+    Asked {
+        words: &["audit", "--database", "--help"],
+        command: "audit --database",
+        names: &["--help"],
+        first: &[],
+        last: &[],
+        numbers: &[],
+    },
+    Asked {
+        words: &["work", "--workers", "2", "a.jobs", "a.type"],
+        command: "work",
+        names: &["a.jobs"],
+        first: &[],
+        last: &["a.type"],
+        numbers: &[2, 3],
+    },
+    Asked {
+        words: &[
             "work",
             "a.jobs",
             "--workers=16",
@@ -229,26 +340,46 @@ static WORKS: [(&[&str], WorkParts); 12] = [
             "100",
             "b.type",
         ],
-        ("a.jobs", &["a.type", "b.type"], 16, 100, None),
-    ),
-    (
-        &["work", "a.jobs", "a.type", "--tries=1", "--workers", "1"],
-        ("a.jobs", &["a.type"], 1, 1, None),
-    ),
-    (
-        &["work", "--workers", "+2", "--tries=005", "2", "3"],
-        ("2", &["3"], 2, 5, None),
-    ),
-    (
-        &["work", "a.jobs", "--workers=2", "--", "-a", "--", "--tries"],
-        ("a.jobs", &["-a", "--", "--tries"], 2, 3, None),
-    ),
-    (
-        &["work", "-", "--workers", "2", "-"],
-        ("-", &["-"], 2, 3, None),
-    ),
-    (
-        &[
+        command: "work",
+        names: &["a.jobs"],
+        first: &[],
+        last: &["a.type", "b.type"],
+        numbers: &[16, 100],
+    },
+    Asked {
+        words: &["work", "a.jobs", "a.type", "--tries=1", "--workers", "1"],
+        command: "work",
+        names: &["a.jobs"],
+        first: &[],
+        last: &["a.type"],
+        numbers: &[1, 1],
+    },
+    Asked {
+        words: &["work", "--workers", "+2", "--tries=005", "2", "3"],
+        command: "work",
+        names: &["2"],
+        first: &[],
+        last: &["3"],
+        numbers: &[2, 5],
+    },
+    Asked {
+        words: &["work", "a.jobs", "--workers=2", "--", "-a", "--", "--tries"],
+        command: "work",
+        names: &["a.jobs"],
+        first: &[],
+        last: &["-a", "--", "--tries"],
+        numbers: &[2, 3],
+    },
+    Asked {
+        words: &["work", "-", "--workers", "2", "-"],
+        command: "work",
+        names: &["-"],
+        first: &[],
+        last: &["-"],
+        numbers: &[2, 3],
+    },
+    Asked {
+        words: &[
             "stress",
             "--seed",
             "7",
@@ -257,14 +388,22 @@ static WORKS: [(&[&str], WorkParts); 12] = [
             "a.jobs",
             "a.type",
         ],
-        ("a.jobs", &["a.type"], 2, 3, Some(7)),
-    ),
-    (
-        &["stress", "a.jobs", "a.type", "--workers=2", "--seed=0"],
-        ("a.jobs", &["a.type"], 2, 3, Some(0)),
-    ),
-    (
-        &[
+        command: "stress",
+        names: &["a.jobs"],
+        first: &[],
+        last: &["a.type"],
+        numbers: &[2, 3, 7],
+    },
+    Asked {
+        words: &["stress", "a.jobs", "a.type", "--workers=2", "--seed=0"],
+        command: "stress",
+        names: &["a.jobs"],
+        first: &[],
+        last: &["a.type"],
+        numbers: &[2, 3, 0],
+    },
+    Asked {
+        words: &[
             "stress",
             "--tries",
             "9",
@@ -276,10 +415,14 @@ static WORKS: [(&[&str], WorkParts); 12] = [
             "-j",
             "-t",
         ],
-        ("-j", &["-t"], 3, 9, Some(18446744073709551615)),
-    ),
-    (
-        &[
+        command: "stress",
+        names: &["-j"],
+        first: &[],
+        last: &["-t"],
+        numbers: &[3, 9, 18446744073709551615],
+    },
+    Asked {
+        words: &[
             "stress",
             "a.jobs",
             "--seed",
@@ -288,10 +431,14 @@ static WORKS: [(&[&str], WorkParts); 12] = [
             "--workers",
             "4",
         ],
-        ("a.jobs", &["a.type"], 4, 3, Some(4294967296)),
-    ),
-    (
-        &[
+        command: "stress",
+        names: &["a.jobs"],
+        first: &[],
+        last: &["a.type"],
+        numbers: &[4, 3, 4294967296],
+    },
+    Asked {
+        words: &[
             "stress",
             "--workers",
             "2",
@@ -300,10 +447,14 @@ static WORKS: [(&[&str], WorkParts); 12] = [
             "--seed=1",
             "help",
         ],
-        ("stress", &["work", "help"], 2, 3, Some(1)),
-    ),
-    (
-        &[
+        command: "stress",
+        names: &["stress"],
+        first: &[],
+        last: &["work", "help"],
+        numbers: &[2, 3, 1],
+    },
+    Asked {
+        words: &[
             "work",
             "--tries",
             "3",
@@ -313,21 +464,115 @@ static WORKS: [(&[&str], WorkParts); 12] = [
             "a.type",
             "a.type",
         ],
-        ("a.jobs", &["a.type", "a.type"], 10, 3, None),
-    ),
+        command: "work",
+        names: &["a.jobs"],
+        first: &[],
+        last: &["a.type", "a.type"],
+        numbers: &[10, 3],
+    },
+    Asked {
+        words: &["audit", "a.history", "a.type", "b.type"],
+        command: "audit",
+        names: &["a.history"],
+        first: &[],
+        last: &["a.type", "b.type"],
+        numbers: &[],
+    },
+    Asked {
+        words: &["audit", "--then", "b.history", "a.history", "a.type"],
+        command: "audit",
+        names: &["a.history"],
+        first: &["b.history"],
+        last: &["a.type"],
+        numbers: &[],
+    },
+    Asked {
+        words: &["audit", "a.history", "a.type", "--then=b.history"],
+        command: "audit",
+        names: &["a.history"],
+        first: &["b.history"],
+        last: &["a.type"],
+        numbers: &[],
+    },
+    Asked {
+        words: &[
+            "audit",
+            "a.history",
+            "--then",
+            "c.history",
+            "a.type",
+            "--then=b.history",
+            "b.type",
+            "--then",
+            "c.history",
+        ],
+        command: "audit",
+        names: &["a.history"],
+        first: &["c.history", "b.history", "c.history"],
+        last: &["a.type", "b.type"],
+        numbers: &[],
+    },
+    Asked {
+        words: &["audit", "a.history", "--then", "b", "--", "--then", "-t"],
+        command: "audit",
+        names: &["a.history"],
+        first: &["b"],
+        last: &["--then", "-t"],
+        numbers: &[],
+    },
+    Asked {
+        words: &["audit", "--then", "run", "audit", "help"],
+        command: "audit",
+        names: &["audit"],
+        first: &["run"],
+        last: &["help"],
+        numbers: &[],
+    },
+    Asked {
+        words: &["audit", "--", "-a", "-b"],
+        command: "audit",
+        names: &["-a"],
+        first: &[],
+        last: &["-b"],
+        numbers: &[],
+    },
+    Asked {
+        words: &["audit", "--order", "2,0,1", "a.history", "a.type", "b.type"],
+        command: "audit --order",
+        names: &["a.history"],
+        first: &[],
+        last: &["a.type", "b.type"],
+        numbers: &[2, 0, 1],
+    },
+    Asked {
+        words: &["audit", "--order", "7", "a.history", "a.type"],
+        command: "audit --order",
+        names: &["a.history"],
+        first: &[],
+        last: &["a.type"],
+        numbers: &[7],
+    },
+    Asked {
+        words: &["audit", "--order", "7,7,+4294967295,007", "audit", "order"],
+        command: "audit --order",
+        names: &["audit"],
+        first: &[],
+        last: &["order"],
+        numbers: &[7, 7, 4294967295, 7],
+    },
 ];
 
-/// Whether the words ask for this of workers.
-fn asks_workers(alloc: Global, words: &[&str], parts: &WorkParts) -> bool {
-    match read_words(alloc, words) {
-        Ok(task) => has_work(&task, parts),
+/// Whether the words ask for what is said of them.
+fn is_asked(alloc: Global, asked: &Asked) -> bool {
+    match read_words(alloc, asked.words) {
+        Ok(task) => asked.is_of(&task),
         Err(_) => false,
     }
 }
 
 #[test]
-fn reads_what_workers_are_to_do(rt: HostRuntime) {
-    for (words, parts) in &WORKS {
-        assert!(rt; asks_workers(rt.alloc(), words, parts));
+fn words_ask_for_tasks(rt: HostRuntime) {
+    for asked in &ROWS {
+        assert!(rt; is_asked(rt.alloc(), asked));
     }
 }

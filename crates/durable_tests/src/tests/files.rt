@@ -1,0 +1,172 @@
+//! Files of stores: which are made, which are opened, and what is said of others.
+
+ghost use Rattle.std.specs.Prelude.{IsTrue};
+ghost use Rattle.sqlite_trees.specs.View.{IsClean};
+
+use super::counters::{NewTrees, TWO, contents, created, has, two_counters};
+use durable_store::{OpenError, create, open};
+use journal::{Journal, JournalError, TypeText};
+use object_trait::EventKind;
+use sqlite_trees::memory::MemStore;
+use sqlite_trees::store::Alter;
+use std::process::Abort;
+use std::test::Fail;
+use store_text::ObjectLine;
+use test_support::printed::are_printed;
+use test_support::type_texts::COUNTER;
+use type_table::Kind;
+
+/// The text of a type with a fault.
+const FAULTY: &str = "type counter\nend\n";
+
+/// Lines of which the second names a text that isn't there.
+const UNPLACED: [ObjectLine; 2] = [
+    ObjectLine {
+        kind: Kind::Undo,
+        file: 0,
+    },
+    ObjectLine {
+        kind: Kind::Undo,
+        file: 1,
+    },
+];
+
+/// A file: the number of its format, the text of its one type, the lines of its objects, at which state they begin;
+/// and why it isn't opened, if it isn't.
+type File = (u32, &'static str, [ObjectLine; 2], u32, Option<OpenError>);
+
+/// A text with a fault; an object that names none, or begins at a state that isn't its type's. A file of a format
+/// before is opened, and one of another format isn't.
+static FILES: [File; 7] = [
+    (3, FAULTY, TWO, 0, Some(OpenError::Text(0))),
+    (3, COUNTER, UNPLACED, 0, Some(OpenError::Untyped(1))),
+    (3, COUNTER, TWO, 3, Some(OpenError::Untyped(0))),
+    (
+        0,
+        COUNTER,
+        TWO,
+        0,
+        Some(OpenError::Journal(JournalError::Foreign)),
+    ),
+    (1, COUNTER, TWO, 0, None),
+    (2, COUNTER, TWO, 0, None),
+    (
+        4,
+        COUNTER,
+        TWO,
+        0,
+        Some(OpenError::Journal(JournalError::Foreign)),
+    ),
+];
+
+/// Why the trees aren't opened.
+fn error_of<S: Alter + Drop>(rt: &(impl Abort + AllocGlobal), trees: S) -> Option<OpenError>
+    requires { IsClean (S.Store.view trees) → IsTrue (S.Store.view trees).is_numbered }
+{
+    match open(rt.alloc(), trees, &[]) {
+        Ok(store) => {
+            let _ = store.into_trees();
+            None
+        }
+        Err((error, _)) => Some(error),
+    }
+}
+
+/// That each file is opened, or why it isn't.
+fn are_opened<S: NewTrees + Drop, R: Abort + AllocGlobal>(rt: &R) {
+    for (format, text, lines, state, error) in &FILES {
+        let mut said = contents(rt, text, lines, *state);
+        said.header.format = *format;
+        let trees = created(rt, S::no_trees(rt), &said);
+        assert!(rt; error_of(rt, trees) == *error);
+    }
+}
+
+/// Adds two events to the file in these trees, of which nothing makes the second: its transaction isn't there.
+fn with_a_stray<S: Alter + Drop>(rt: &(impl Abort + AllocGlobal), trees: S) -> S
+    requires { IsClean (S.Store.view trees) → IsTrue (S.Store.view trees).is_numbered }
+    ensures { IsClean (S.Store.view result) → IsTrue (S.Store.view result).is_numbered }
+{
+    let opened = Journal::open(rt.alloc(), trees).ok();
+    let (mut journal, _) = opened.expect(rt, "the file isn't opened");
+    let first = journal.append(EventKind::Begin { t: 0 });
+    first.expect(rt, "not written");
+    let second = journal.append(EventKind::Commit { t: 1 });
+    second.expect(rt, "not written");
+    journal.commit().expect(rt, "not committed");
+    journal.into_store()
+}
+
+/// That trees without a table are no file of a store, and that an event which nothing makes is told.
+fn strays_are_told<S: NewTrees + Drop, R: Abort + AllocGlobal>(rt: &R) {
+    let foreign = error_of(rt, S::no_trees(rt));
+    assert!(rt; foreign == Some(OpenError::Journal(JournalError::Foreign)));
+    let trees = created(rt, S::no_trees(rt), &two_counters(rt));
+    let stray = error_of(rt, with_a_stray(rt, trees));
+    assert!(rt; stray == Some(OpenError::NotMade(1)));
+}
+
+#[test]
+fn faults_are_told(rt: HostRuntime) {
+    are_opened::<MemStore, HostRuntime>(&rt);
+    strays_are_told::<MemStore, HostRuntime>(&rt);
+}
+
+/// One text.
+fn one_text(rt: &(impl Abort + AllocGlobal), text: &str) -> Vec<TypeText> {
+    let alloc = rt.alloc();
+    let mut texts = Vec::new(alloc);
+    let text = Vec::from_slice(alloc, text.as_bytes()).expect(rt, "no text");
+    texts.push(TypeText::new(text)).expect(rt, "no texts");
+    texts
+}
+
+/// Why no new file is made of one text and these lines. A file that is made is opened: its objects are at the initial
+/// states of their types, and nothing has happened.
+fn error_of_new<S: NewTrees + Drop, R: Abort + AllocGlobal>(
+    rt: &R,
+    text: &str,
+    lines: &[ObjectLine],
+) -> Option<OpenError> {
+    let alloc = rt.alloc();
+    let lines = Vec::from_slice(alloc, lines).expect(rt, "no lines");
+    match create(alloc, S::no_trees(rt), [7; 16], one_text(rt, text), lines) {
+        Ok(trees) => {
+            let store = open(alloc, trees, &[]).ok();
+            has(rt, store.expect(rt, "it isn't opened"), 0, 0);
+            None
+        }
+        Err((error, _)) => Some(error),
+    }
+}
+
+/// That a file is made of two counters, and none of a text with a fault, nor of an object that names none.
+fn are_made<S: NewTrees + Drop, R: Abort + AllocGlobal>(rt: &R) {
+    let rows = [
+        (COUNTER, TWO, None),
+        (FAULTY, TWO, Some(OpenError::Text(0))),
+        (COUNTER, UNPLACED, Some(OpenError::Untyped(1))),
+    ];
+    for (text, lines, error) in &rows {
+        assert!(rt; error_of_new::<S, R>(rt, text, lines) == *error);
+    }
+}
+
+#[test]
+fn new_files_are_made(rt: HostRuntime) {
+    are_made::<MemStore, HostRuntime>(&rt);
+}
+
+/// What each error says.
+#[test]
+fn errors_are_printed(rt: HostRuntime) -> Result<(), Fail> {
+    are_printed(
+        rt.alloc(),
+        &[
+            (OpenError::Text(3), "the text of type 3 has a fault"),
+            (OpenError::Untyped(0), "object 0 has no type"),
+            (OpenError::NotMade(12), "no command makes event 12"),
+            (OpenError::NoMemory, "memory was refused"),
+        ],
+    )
+}
