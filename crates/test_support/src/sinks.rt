@@ -7,7 +7,6 @@ use outputs::Sink;
 use std::alloc::Global;
 use std::io;
 use std::io::{ErrorKind, Write};
-use std::test::Fail;
 
 /// What a full writer answers.
 #[derive(Clone, Copy)]
@@ -44,32 +43,14 @@ impl Write for Narrow {
     }
 }
 
-/// The most bytes that an output of a test takes.
-pub const MOST_BYTES: usize = 32_768;
-
-/// Memory for all that an output takes. Where one allocation is refused, the next try has it.
-pub fn memory(alloc: Global) -> Result<Vec<u8>, Fail> {
-    if let Ok(held) = Vec::with_capacity(alloc, MOST_BYTES) {
-        return Ok(held);
-    }
-    Ok(Vec::with_capacity(alloc, MOST_BYTES)?)
-}
-
-/// An output over memory that takes `width` bytes at a time, and `room` bytes in all.
-pub fn sink_over(held: Vec<u8>, width: usize, room: usize, at_end: AtEnd) -> Sink<Narrow>
+/// An output over new memory that takes `width` bytes at a time, and `room` bytes in all.
+pub fn narrow_sink(alloc: Global, width: usize, room: usize, at_end: AtEnd) -> Sink<Narrow>
     ensures { sink_fault result ≡ None }
 {
     Sink::new(Narrow {
-        held,
+        held: Vec::new(alloc),
         width,
         room,
         at_end,
     })
-}
-
-/// The same over new memory.
-pub fn narrow_sink(alloc: Global, width: usize, room: usize, at_end: AtEnd) -> Sink<Narrow>
-    ensures { sink_fault result ≡ None }
-{
-    sink_over(Vec::new(alloc), width, room, at_end)
 }

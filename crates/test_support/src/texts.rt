@@ -1,7 +1,6 @@
 //! Texts that are put together.
 
 use std::alloc::{AllocError, Global};
-use std::fmt::Write;
 
 /// A text with one part in place of another.
 pub fn changed(alloc: Global, whole: &str, old: &str, new: &[u8]) -> Result<Vec<u8>, AllocError> {
@@ -12,10 +11,4 @@ pub fn changed(alloc: Global, whole: &str, old: &str, new: &[u8]) -> Result<Vec<
         text.extend_from_slice(back.as_bytes())?;
     }
     Ok(text)
-}
-
-/// Adds the line of a step.
-pub fn add_step(text: &mut String, s: u32, k: u32, t: u32) -> Result<(), AllocError> {
-    write!(text, "step {s} {k} {t}\n")?;
-    Ok(())
 }

@@ -17,64 +17,6 @@ conflict intentions 1 1
 end
 ";
 
-/// Its beginning, without the end of its sixth line.
-pub const CUT: &str = "type counter
-states 3
-initial 0
-op inc:1 ok
-op dec:1 ok
-step";
-
-/// The counter after a comment of 200 bytes.
-pub const COMMENTED: &str =
-    "#xxxxxxxxxxxxxxxxxxxxxxxxxxxxxxxxxxxxxxxxxxxxxxxxxxxxxxxxxxxxxxxxxxxxxxxxxxxxxxxxxxxxxxxxxxxxxxxxxxxxxxxxxxxxxxxxxxxxxxxxxxxxxxxxxxxxxxxxxxxxxxxxxxxxxxxxxxxxxxxxxxxxxxxxxxxxxxxxxxxxxxxxxxxxxxxxxxxxxxx
-type counter
-states 3
-initial 0
-op inc:1 ok
-op dec:1 ok
-step 0 0 1
-step 1 0 2
-step 1 1 0
-step 2 1 1
-conflict undo 0 1
-conflict undo 1 0
-conflict intentions 0 0
-conflict intentions 1 1
-end
-";
-
-/// The counter with a comment after each line and two spaces between all words.
-pub const SPACED: &str = "type  counter
-# after line 1
-states  3
-# after line 2
-initial  0
-# after line 3
-op  inc:1  ok
-# after line 4
-op  dec:1  ok
-# after line 5
-step  0  0  1
-# after line 6
-step  1  0  2
-# after line 7
-step  1  1  0
-# after line 8
-step  2  1  1
-# after line 9
-conflict  undo  0  1
-# after line 10
-conflict  undo  1  0
-# after line 11
-conflict  intentions  0  0
-# after line 12
-conflict  intentions  1  1
-# after line 13
-end
-# after line 14
-";
-
 /// Two operations that commute at the one state of the set, and not at state 1.
 pub const IDLE: &str = "type idle
 states 3
@@ -86,43 +28,6 @@ step 0 1 0
 step 1 0 2
 step 1 1 1
 reach 0
-end
-";
-
-/// The same table and set with all pairs of states that look; no conflict is needed.
-pub const MADE_IDLE: &str = "type idle
-states 3
-initial 0
-op p ok
-op q ok
-step 0 0 0
-step 0 1 0
-step 1 0 2
-step 1 1 1
-reach 0
-equi 1 0
-equi 2 0
-equi 2 1
-end
-";
-
-/// The same table at all states, with all pairs of states that look, and all conflicts that are needed.
-pub const MADE_EVERYWHERE: &str = "type idle
-states 3
-initial 0
-op p ok
-op q ok
-step 0 0 0
-step 0 1 0
-step 1 0 2
-step 1 1 1
-equi 1 0
-equi 2 0
-equi 2 1
-conflict undo 0 1
-conflict intentions 0 0
-conflict intentions 0 1
-conflict intentions 1 0
 end
 ";
 
@@ -141,32 +46,6 @@ step 4 2 4
 equi 3 4
 conflict undo 1 0
 conflict undo 2 1
-end
-";
-
-/// The same table with all pairs of states that look, and all conflicts that are needed.
-pub const MADE_ONE_WAY: &str = "type oneway
-states 5
-initial 0
-op p ok
-op q ok
-op r ok
-step 0 0 2
-step 0 1 1
-step 1 0 3
-step 2 1 4
-step 4 2 4
-equi 1 0
-equi 3 0
-equi 3 1
-equi 3 2
-equi 3 4
-conflict undo 1 0
-conflict undo 2 1
-conflict intentions 0 0
-conflict intentions 0 1
-conflict intentions 1 0
-conflict intentions 1 1
 end
 ";
 
@@ -224,57 +103,6 @@ conflict intentions 1 0
 conflict intentions 1 1
 conflict intentions 2 2
 conflict intentions 3 3
-end
-";
-
-/// An account of at most 2, with deposits and withdrawals of 1.
-pub const ACCOUNT: &str = "type account
-states 3
-initial 0
-op deposit:1 ok
-op deposit:1 full
-op withdraw:1 ok
-op withdraw:1 short
-op balance 0
-op balance 1
-op balance 2
-step 0 0 1
-step 0 3 0
-step 0 4 0
-step 1 0 2
-step 1 2 0
-step 1 5 1
-step 2 1 2
-step 2 2 1
-step 2 6 2
-conflict undo 0 2
-conflict undo 0 3
-conflict undo 0 4
-conflict undo 0 5
-conflict undo 1 0
-conflict undo 2 0
-conflict undo 2 1
-conflict undo 2 5
-conflict undo 2 6
-conflict undo 3 2
-conflict undo 4 2
-conflict undo 5 0
-conflict undo 5 2
-conflict undo 6 0
-conflict intentions 0 0
-conflict intentions 0 3
-conflict intentions 0 4
-conflict intentions 0 5
-conflict intentions 1 2
-conflict intentions 2 1
-conflict intentions 2 2
-conflict intentions 2 5
-conflict intentions 2 6
-conflict intentions 3 0
-conflict intentions 4 0
-conflict intentions 5 0
-conflict intentions 5 2
-conflict intentions 6 2
 end
 ";
 
