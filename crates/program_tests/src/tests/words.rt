@@ -20,6 +20,11 @@ impl Asked {
         self.command == command && self.names == names && self.last == last
     }
 
+    /// The same of two names.
+    fn is_of_two<'a>(&self, command: &str, name: &'a str, other: &'a str, last: &[&str]) -> bool {
+        self.is(command, &[name, other], last)
+    }
+
     /// Whether the numbers are these.
     fn has(&self, numbers: &[u64]) -> bool {
         self.numbers == numbers
@@ -46,17 +51,17 @@ impl Asked {
     /// Whether it is what this task asks for.
     fn is_of(&self, task: &Task<'_>) -> bool {
         match task {
-            Task::Check { kind, path } => self.is("check", &[kind.word(), *path], &[]),
+            Task::Check { kind, path } => self.is_of_two("check", kind.word(), path, &[]),
             Task::Explain {
                 kind,
                 path,
                 pair: None,
-            } => self.is("explain", &[kind.word(), *path], &[]),
+            } => self.is_of_two("explain", kind.word(), path, &[]),
             Task::Explain {
                 kind,
                 path,
                 pair: Some((p, q)),
-            } => self.is("explain", &[kind.word(), *path], &[*p, *q]),
+            } => self.is_of_two("explain", kind.word(), path, &[*p, *q]),
             Task::Make {
                 family,
                 size,
