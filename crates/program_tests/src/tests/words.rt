@@ -5,13 +5,13 @@ use std::alloc::Global;
 
 /// Words, and what they ask for: a command, its names, those of its first list and those of its last one, and its numbers.
 #[derive(Clone, Copy)]
-struct Asked {
-    words: &'static [&'static str],
-    command: &'static str,
-    names: &'static [&'static str],
-    first: &'static [&'static str],
-    last: &'static [&'static str],
-    numbers: &'static [u64],
+pub struct Asked {
+    pub words: &'static [&'static str],
+    pub command: &'static str,
+    pub names: &'static [&'static str],
+    pub first: &'static [&'static str],
+    pub last: &'static [&'static str],
+    pub numbers: &'static [u64],
 }
 
 impl Asked {
@@ -124,9 +124,8 @@ impl Asked {
     }
 }
 
-/// Words, and what they ask for. The later ones of a command have hyphens after `--`, options in any order, and the
-/// greatest numbers.
-static ROWS: [Asked; 47] = [
+/// Words of files and of stores.
+static FILES: [Asked; 15] = [
     Asked {
         words: &["check", "undo", "ctr2.type"],
         command: "check",
@@ -247,6 +246,10 @@ static ROWS: [Asked; 47] = [
         last: &[],
         numbers: &[],
     },
+];
+
+/// Words with hyphens after `--`, and options of a service in any order.
+static HYPHENS: [Asked; 10] = [
     Asked {
         words: &["run", "a.script", "--", "-x", "--"],
         command: "run",
@@ -327,6 +330,10 @@ static ROWS: [Asked; 47] = [
         last: &[],
         numbers: &[],
     },
+];
+
+/// What workers are to do: how many there are, how often a job is tried, and any seed.
+static WORKS: [Asked; 12] = [
     Asked {
         words: &["work", "--workers", "2", "a.jobs", "a.type"],
         command: "work",
@@ -475,100 +482,10 @@ static ROWS: [Asked; 47] = [
         last: &["a.type", "a.type"],
         numbers: &[10, 3],
     },
-    Asked {
-        words: &["audit", "a.history", "a.type", "b.type"],
-        command: "audit",
-        names: &["a.history"],
-        first: &[],
-        last: &["a.type", "b.type"],
-        numbers: &[],
-    },
-    Asked {
-        words: &["audit", "--then", "b.history", "a.history", "a.type"],
-        command: "audit",
-        names: &["a.history"],
-        first: &["b.history"],
-        last: &["a.type"],
-        numbers: &[],
-    },
-    Asked {
-        words: &["audit", "a.history", "a.type", "--then=b.history"],
-        command: "audit",
-        names: &["a.history"],
-        first: &["b.history"],
-        last: &["a.type"],
-        numbers: &[],
-    },
-    Asked {
-        words: &[
-            "audit",
-            "a.history",
-            "--then",
-            "c.history",
-            "a.type",
-            "--then=b.history",
-            "b.type",
-            "--then",
-            "c.history",
-        ],
-        command: "audit",
-        names: &["a.history"],
-        first: &["c.history", "b.history", "c.history"],
-        last: &["a.type", "b.type"],
-        numbers: &[],
-    },
-    Asked {
-        words: &["audit", "a.history", "--then", "b", "--", "--then", "-t"],
-        command: "audit",
-        names: &["a.history"],
-        first: &["b"],
-        last: &["--then", "-t"],
-        numbers: &[],
-    },
-    Asked {
-        words: &["audit", "--then", "run", "audit", "help"],
-        command: "audit",
-        names: &["audit"],
-        first: &["run"],
-        last: &["help"],
-        numbers: &[],
-    },
-    Asked {
-        words: &["audit", "--", "-a", "-b"],
-        command: "audit",
-        names: &["-a"],
-        first: &[],
-        last: &["-b"],
-        numbers: &[],
-    },
-    Asked {
-        words: &["audit", "--order", "2,0,1", "a.history", "a.type", "b.type"],
-        command: "audit --order",
-        names: &["a.history"],
-        first: &[],
-        last: &["a.type", "b.type"],
-        numbers: &[2, 0, 1],
-    },
-    Asked {
-        words: &["audit", "--order", "7", "a.history", "a.type"],
-        command: "audit --order",
-        names: &["a.history"],
-        first: &[],
-        last: &["a.type"],
-        numbers: &[7],
-    },
-    Asked {
-        words: &["audit", "--order", "7,7,+4294967295,007", "audit", "order"],
-        command: "audit --order",
-        names: &["audit"],
-        first: &[],
-        last: &["order"],
-        numbers: &[7, 7, 4294967295, 7],
-    },
 ];
 
 /// Whether the words ask for what is said of them.
-fn is_asked(alloc: Global, asked: &Asked) -> bool {
+pub fn is_asked(alloc: Global, asked: &Asked) -> bool {
     match read_words(alloc, asked.words) {
         Ok(task) => asked.is_of(&task),
         Err(_) => false,
@@ -576,8 +493,22 @@ fn is_asked(alloc: Global, asked: &Asked) -> bool {
 }
 
 #[test]
-fn words_ask_for_tasks(rt: HostRuntime) {
-    for asked in &ROWS {
+fn words_of_files_ask_for_tasks(rt: HostRuntime) {
+    for asked in &FILES {
+        assert!(rt; is_asked(rt.alloc(), asked));
+    }
+}
+
+#[test]
+fn words_with_hyphens_ask_for_tasks(rt: HostRuntime) {
+    for asked in &HYPHENS {
+        assert!(rt; is_asked(rt.alloc(), asked));
+    }
+}
+
+#[test]
+fn words_say_what_workers_are_to_do(rt: HostRuntime) {
+    for asked in &WORKS {
         assert!(rt; is_asked(rt.alloc(), asked));
     }
 }
