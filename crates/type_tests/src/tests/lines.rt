@@ -1,6 +1,7 @@
 ghost use Rattle.std.specs.Prelude.{◌≡◌, map};
 ghost use Rattle.line_text.specs.Example.{example, entry_of, with_one, with_two, with_none, size_of, is_twin};
 
+use decimals::number_of;
 use line_text::*;
 use std::alloc::{AllocError, Global};
 use std::process::Abort;

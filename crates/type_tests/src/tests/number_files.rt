@@ -1,6 +1,11 @@
 //! Numbers that are made of their parts or begin elsewhere, and first lines that only the reader of numbers reads.
 
-use number_text::*;
+use number_text::{
+    FaultKind, TextFault, canonical_is_read, read_number, write_number, written_is_read,
+};
+use number_types::{
+    NumberCall, NumberFile, number_has_table, number_tells_bounds, number_with, numbers_answer,
+};
 use outputs::{OutFault, Sink};
 use std::process::Abort;
 use test_support::sinks::{AtEnd, narrow_sink};
