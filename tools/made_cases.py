@@ -98,6 +98,17 @@ def many_begins():
     return Case("large: 1,025 begins", ("run", "the.script", "ctr2.type"), {"the.script": script, **COUNTER}, Expected(out))
 
 
+def full_and_open():
+    """The end of one of 1,024 open transactions lets another begin, as long as the history has room for it and its end."""
+    script = lines("max 2050", "object undo 0", *["begin"] * 1025, "commit 500", "begin", "begin", "abort 1024", "begin", "end")
+    begun, aborted = ([f"{word} 0 {t}" for t in range(1024)] for word in ("begin", "abort"))
+    out = lines("object undo 0", *begun, "# refused 4 TooManyOpen", "commit 0 500", "begin 0 1024", "# refused 4 TooManyOpen",
+                "abort 0 1024", "# refused 5 HistoryFull", *aborted[:500], *aborted[501:], "end", "# kept 0 0", "# audit yes",
+                "# commit 500", "# serial 0 0")
+    return Case("large: as many open as may be, in a history that gets full", ("run", "the.script", "ctr2.type"),
+                {"the.script": script, **COUNTER}, Expected(out))
+
+
 def objects():
     """Of 257 objects the last is refused."""
     for command, front in (("run",), ["max 2"]), (("audit",), []), (("work", "--workers", "1"), ["max 2"]):
@@ -168,6 +179,6 @@ def run_too(case):
 def with_made(cases):
     """The cases, and those that are worked out."""
     many = many_begins()
-    all_there = [*cases, *large_checks(), *large_tables(), many, *objects()]
+    all_there = [*cases, *large_checks(), *large_tables(), many, full_and_open(), *objects()]
     beside = [made for case in all_there for make in (audited, run_too) for made in make(case)]
     return [*all_there, *beside, *beginnings([*cases, dataclasses.replace(many, out=Expected())])]
