@@ -15,8 +15,7 @@ import sys
 import tempfile
 
 # What the names of tests end with that say what comes of refused memory.
-TESTS = ("refused_memory", "memory_is_refused", "runs_are_played", "scenes_are_played_in_place",
-         "scenes_are_played_deferred", "scripts_are_folds_of_their_commands")
+TESTS = ("refused_memory", "memory_is_refused", "runs_are_played")
 
 SHIM = r"""
 #define _GNU_SOURCE

@@ -5,9 +5,7 @@ use Rattle.std.specs.Option.{option_map}
 use Rattle.std.proofs.lemmas.Bool.{true≢false, false≢true, cases_Bool, le-ltb}
 use Rattle.type_table.proofs.Elements.{each-weaker}
 use Rattle.type_table.specs.Operation.{operation_at, place_of}
-use Rattle.type_table.specs.declared.kind.Kind.TheVariants.{Undo}
-use Rattle.object_trait.specs.Meaning.{Meaning, object}
-use Rattle.object_trait.specs.Steps.{IsOfAnotherOpen, stops_by, stopper}
+use Rattle.object_trait.specs.Steps.{IsOfAnotherOpen}
 use Rattle.object_trait.specs.declared.log_entry.LogEntry.{LogEntry}
 
 -- ---- operations of tables
@@ -16,28 +14,6 @@ use Rattle.object_trait.specs.declared.log_entry.LogEntry.{LogEntry}
 pub counted_past : (k ops : ℕ) (amount : Option ℕ) → k ≡ operation_at (place_of k) amount → is_some amount ≡ true → ops < 256 → ltb k ops ≡ false
 counted_past k ops None whole some small = absurd (false≢true some)
 counted_past k ops (Some n) whole some small = le-ltb k ops (omega (arith, whole, small))
-
--- ---- with update in place
-
--- the first open entry that passes
-pub found-open : (test : LogEntry → Bool) (log : List LogEntry) →
-    option_map (λ (e : LogEntry). e.by) (find (λ e. not e.done && test e) log) ≡ option_map (λ (e : LogEntry). e.by) (find test (filter (λ e. not e.done) log))
-found-open test [] = refl
-found-open test (e ∷ log) =
-    elim (cases_Bool e.done) [
-      | inl done ↦ simp done (found-open test log)
-      | inr undone ↦ elim (cases_Bool (test e)) [
-        | inl passes ↦ simp (undone, passes)
-        | inr fails ↦ simp (undone, fails) (found-open test log)
-      ]
-    ]
-
--- is who keeps t from k
-pub stopper-told : (m : Meaning) (t k : ℕ) → m.checked.kind ≡ Undo →
-    option_map (λ (e : LogEntry). e.by) (find (λ e. not e.done && (not (e.by == t) && (object m).conflicts k e.op)) m.log) ≡ stopper m t k
-stopper-told m t k in_place =
-    found-open (λ e. not (e.by == t) && (object m).conflicts k e.op) m.log
-    ∙ sym (ap (λ way. option_map (λ (e : LogEntry). e.by) (find (λ e. not (e.by == t) && stops_by way (object m) m.base m.log t k e) (filter (λ e. not e.done) m.log))) in_place)
 
 -- ---- of any kind of recovery
 

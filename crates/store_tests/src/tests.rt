@@ -7,6 +7,7 @@ mod guide;
 mod histories;
 mod locks;
 pub mod managers;
+mod printed;
 pub mod reports;
 mod stores;
 mod transactions;

@@ -1,8 +1,6 @@
-//! Objects of any kind of recovery, their events, and the laws of them.
+//! Objects of any kind of recovery, their events, and their laws.
 
-pub mod boxed;
 pub mod one_entry;
-pub mod replayed;
 
 use object_trait::{
     Event, EventKind, LogEntry, checked_is_covered, fresh_is_sound, keeps_first, keeps_none,
@@ -10,8 +8,6 @@ use object_trait::{
     sorts_look, sound_after_apply, sound_after_commit, sound_after_strike, struck_log_is_legal,
     struck_part, untouched_shows_the_same, untouched_stays,
 };
-use std::test::Fail;
-use test_support::printed::are_debugged;
 use type_table::Operation;
 
 /// That transaction 1 executed an operation at object 0, as worker 3.
@@ -40,13 +36,6 @@ fn events_are_compared(rt: HostRuntime) {
     for other in &others {
         assert!(rt; listed != *other);
     }
-}
-
-#[test]
-fn events_are_printed(rt: HostRuntime) -> Result<(), Fail> {
-    let text =
-        "Event { worker: 3, kind: Op { k: Operation { place: 2, amount: Some(7) }, t: 1, x: 0 } }";
-    are_debugged(rt.alloc(), &[(event(Operation::with(2, 7)), text)])
 }
 
 #[test]

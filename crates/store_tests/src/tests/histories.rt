@@ -1,15 +1,12 @@
-//! The entries of a history and why a command is refused; the laws of histories.
+//! The entries of a history, and the laws of histories.
 
 use serial_order::{
-    Entry, Refusal, allows_alike, answer_may_follow, beginners_after, blocker_is_held,
-    checked_headline, command_appends, commit_keeps_views, first_op_is_least, fresh_represents,
-    headline, held_after, idle_is_closed, logs_are_counted, machine_may_apply, opens_after,
-    operations_in_run, own_after, replay_runs, replays_join, represents_on, run_goes_on,
-    run_is_history, sorts_into_commit_order, struck_view_is_legal, summary_after, survives_as_read,
-    transactions_in_run, views_are_legal,
+    Entry, allows_alike, answer_may_follow, beginners_after, blocker_is_held, checked_headline,
+    command_appends, commit_keeps_views, first_op_is_least, fresh_represents, headline, held_after,
+    idle_is_closed, logs_are_counted, machine_may_apply, opens_after, operations_in_run, own_after,
+    replay_runs, replays_join, represents_on, run_goes_on, run_is_history, sorts_into_commit_order,
+    struck_view_is_legal, summary_after, survives_as_read, transactions_in_run, views_are_legal,
 };
-use std::test::Fail;
-use test_support::printed::{are_debugged, are_printed};
 use type_table::Operation;
 
 /// That transaction 1 executed operation 2 at object 0.
@@ -38,35 +35,6 @@ fn entries_are_compared(rt: HostRuntime) {
     assert!(rt; entry() == entry());
     for other in &others {
         assert!(rt; entry() != *other);
-    }
-}
-
-#[test]
-fn entries_are_printed(rt: HostRuntime) -> Result<(), Fail> {
-    let text = "Entry { by: 1, at: 0, op: Operation { place: 2, amount: None } }";
-    are_debugged(rt.alloc(), &[(entry(), text)])
-}
-
-static REFUSALS: [(Refusal, &str); 7] = [
-    (Refusal::NotOpen, "NotOpen"),
-    (Refusal::NoObject, "NoObject"),
-    (Refusal::NoCall, "NoCall"),
-    (Refusal::TooManyOpen, "TooManyOpen"),
-    (Refusal::HistoryFull, "HistoryFull"),
-    (Refusal::NoMemory, "NoMemory"),
-    (Refusal::BadRollback, "BadRollback"),
-];
-
-#[test]
-fn refusals_are_printed(rt: HostRuntime) -> Result<(), Fail> {
-    are_printed(rt.alloc(), &REFUSALS)?;
-    are_debugged(rt.alloc(), &REFUSALS)
-}
-
-#[test]
-fn refusals_are_compared(rt: HostRuntime) {
-    for (refusal, word) in &REFUSALS {
-        assert!(rt; (*refusal == Refusal::NoCall) == (*word == "NoCall"));
     }
 }
 

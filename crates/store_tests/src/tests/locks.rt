@@ -3,11 +3,9 @@
 ghost use Rattle.std.specs.Prelude.{◌≡◌, [], ◌∷◌, ◌++◌, IfOk, length};
 ghost use Rattle.op_locks.specs.Examples.{hold, three_held};
 
-use op_locks::{Held, OpLocks};
+use op_locks::OpLocks;
 use std::alloc::{AllocError, Global};
 use std::process::Abort;
-use std::test::Fail;
-use test_support::printed::are_debugged;
 use type_table::ConflictTable;
 
 /// Operation 0, requested, conflicts with operation 1, held, and no other two do.
@@ -80,11 +78,4 @@ fn many_are_held(rt: HostRuntime) {
     assert!(rt; locks.blocker(&table, 6, 0) == Some(1));
     locks.release(1);
     assert!(rt; locks.blocker(&table, 6, 0) == None);
-}
-
-#[test]
-fn held_operations_are_printed(rt: HostRuntime) -> Result<(), Fail> {
-    let held = Held { by: 7, op: 3 };
-    assert!(rt; held == held && held != Held::default());
-    are_debugged(rt.alloc(), &[(held, "Held { by: 7, op: 3 }")])
 }

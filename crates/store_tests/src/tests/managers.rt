@@ -1,10 +1,8 @@
 //! Objects of either kind of recovery, by their managers.
 
-pub mod driven;
-mod scenes;
+mod driven;
 
 use self::driven::apply_next;
-use self::scenes::{DEFERRED, IN_PLACE, plays};
 use crate::tests::checked_types::checked_of;
 use escrow_manager::EscrowManager;
 use intentions_manager::IntentionsManager;
@@ -60,24 +58,6 @@ fn the_wrong_kind_comes_back_deferred(rt: HostRuntime) -> Result<(), Fail> {
     are_printed(rt.alloc(), &[(why, "WrongKind")])
 }
 
-#[test]
-fn scenes_are_played_in_place(rt: HostRuntime) {
-    for scene in &IN_PLACE {
-        let mut object = in_place(&rt, scene.text);
-        assert!(rt; object.log_len() == 0);
-        plays(&rt, &mut object, scene);
-        assert!(rt; object.log_len() == 0);
-    }
-}
-
-#[test]
-fn scenes_are_played_deferred(rt: HostRuntime) {
-    for scene in &DEFERRED {
-        let mut object = deferred(&rt, scene.text);
-        plays(&rt, &mut object, scene);
-    }
-}
-
 /// Executes operation k for t at an object whose log is empty.
 fn apply_alone(
     rt: &(impl Abort + AllocGlobal),
@@ -99,57 +79,68 @@ fn apply_two(rt: &(impl Abort + AllocGlobal), object: &mut UndoManager) -> Resul
 }
 
 /// The log's length in place: a done entry after an open one stays until that ends.
-fn log_is_told(rt: &(impl Abort + AllocGlobal), object: &mut UndoManager) {
-    apply_two(rt, object).expect(rt, "no memory");
-    object.commit(1);
-    assert!(rt; (object.log_len(), object.state()) == (2, 2));
-    object.abort(0);
-    assert!(rt; (object.log_len(), object.state()) == (0, 1));
-}
-
 #[test]
 fn a_done_entry_waits_for_an_open_one(rt: HostRuntime) {
     let mut object = in_place(&rt, COUNTER);
-    log_is_told(&rt, &mut object);
+    apply_two(&rt, &mut object).expect(&rt, "no memory");
+    object.commit(1);
+    assert!(rt; object.log_len() == 2 && object.state() == 2);
+    object.abort(0);
+    assert!(rt; object.log_len() == 0 && object.state() == 1);
 }
 
-/// Transaction 0 gives nine to a purse of 20, up to 100, and 1 asks. From 21 to 29 a take is short now, and isn't after
-/// the gift; from 72 to 80 a gift has room now, and hasn't after it.
-fn asks_beside_a_gift<R: Recovery>(rt: &(impl Abort + AllocGlobal), purse: &mut R) {
-    assert!(rt; purse.is_fresh());
-    let mut log = Vec::new(rt.alloc());
-    apply_next(rt, purse, &mut log, 0, Operation::with(4, 9)).expect(rt, "no memory");
-    assert!(rt; (purse.view(0), purse.view(1), purse.state()) == (29, 20, 20));
-    assert!(rt; matches!(purse.amount_kept(1, 0, 0), Some(21..=29)));
-    assert!(rt; matches!(purse.amount_kept(1, 4, 0), Some(72..=80)));
-    assert!(rt; purse.amount_kept(1, 8, 0) == Some(20));
-    assert!(rt; purse.amount_kept(1, 2, 0).is_none() & purse.amount_kept(1, 0, 2).is_none());
-    let value = call_unreplied(purse, 1, 8, Some(0));
-    assert!(rt; value == Some(Operation::with(8, 0)));
+/// The first place of a line of the purse, who may keep transaction 1 from it, and the least and the greatest amount
+/// that is told: from 21 to 29 a take is short now, and isn't after the gift; from 72 to 80 a gift has room now, and
+/// hasn't after it. The value is 20.
+static AMOUNTS: [(u8, u32, Option<(u32, u32)>); 5] = [
+    (0, 0, Some((21, 29))),
+    (4, 0, Some((72, 80))),
+    (8, 0, Some((20, 20))),
+    (2, 0, None),
+    (0, 2, None),
+];
+
+/// Whether an amount is told from a least to a greatest one, or none is.
+fn is_within(told: Option<u32>, wanted: Option<(u32, u32)>) -> bool {
+    match (told, wanted) {
+        (Some(n), Some((least, greatest))) => least <= n && n <= greatest,
+        (told, wanted) => told.is_none() && wanted.is_none(),
+    }
 }
 
+/// That each of these amounts is kept from transaction 1.
+fn are_kept<R: Recovery>(rt: &impl Abort, object: &R, rows: &[(u8, u32, Option<(u32, u32)>)]) {
+    for (place, u, wanted) in rows {
+        assert!(rt; place % 2 == 0);
+        assert!(rt; is_within(object.amount_kept(1, *place, *u), *wanted));
+    }
+}
+
+/// Transaction 0 gives nine to a purse of 20, up to 100, and 1 asks.
 #[test]
 fn an_amount_is_kept(rt: HostRuntime) {
     let mut purse = in_escrow(&rt, PURSE);
-    asks_beside_a_gift(&rt, &mut purse);
+    assert!(rt; purse.is_fresh());
+    let mut log = Vec::new(rt.alloc());
+    apply_next(&rt, &mut purse, &mut log, 0, Operation::with(4, 9)).expect(&rt, "no memory");
+    assert!(rt; purse.view(0) == 29 && purse.view(1) == 20 && purse.state() == 20);
+    are_kept(&rt, &purse, &AMOUNTS);
+    let value = call_unreplied(&purse, 1, 8, Some(0));
+    assert!(rt; value == Some(Operation::with(8, 0)));
 }
 
 /// How many transactions come one after another.
 const MANY: u32 = 10_000;
 
 /// Transactions one after another, of which each second one takes back what the one before it did.
-fn count_up_and_down(rt: &(impl Abort + AllocGlobal), object: &mut UndoManager) {
-    for t in 0..MANY {
-        let k = (t % 2) as u8;
-        apply_alone(rt, object, t, Operation::listed(k)).expect(rt, "no memory");
-        assert!(rt; object.log_len() == 1);
-        object.commit(t);
-        assert!(rt; (object.log_len(), object.state()) == (0, 1 - u32::from(k)));
-    }
-}
-
 #[test]
 fn a_log_in_place_stays_short(rt: HostRuntime) {
     let mut object = in_place(&rt, COUNTER);
-    count_up_and_down(&rt, &mut object);
+    for t in 0..MANY {
+        let k = (t % 2) as u8;
+        apply_alone(&rt, &mut object, t, Operation::listed(k)).expect(&rt, "no memory");
+        assert!(rt; object.log_len() == 1);
+        object.commit(t);
+        assert!(rt; object.log_len() == 0 && object.state() == 1 - u32::from(k));
+    }
 }

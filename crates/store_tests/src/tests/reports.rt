@@ -3,12 +3,9 @@
 mod limits;
 mod meeting;
 
-use declared_types::DeclaredType;
-use history_audit::audit;
 use jobs_text::{Job, JobsFile, read_jobs};
-use object_trait::{Event, EventKind, Recovery, Renew};
+use object_trait::{Event, Recovery};
 use objects::Object;
-use std::alloc::{AllocError, Global};
 use std::process::Abort;
 use std::sync::Wait;
 use std::thread::Threads;
@@ -68,56 +65,24 @@ pub fn jobs_of(rt: &(impl Abort + AllocGlobal), text: &str, lists: u8) -> Vec<Ve
     jobs
 }
 
-/// That the receipts are the events of worker w from a place of a history on, in order.
-fn are_receipts(rt: &impl Abort, history: &[Event], from: usize, w: usize, receipts: &[Receipt]) {
-    let mut told = receipts.iter();
+/// How many receipts there are.
+fn receipt_count(reports: &[Report]) -> usize {
+    let mut count = 0usize;
+    for report in reports {
+        count = count.wrapping_add(report.receipts.len());
+    }
+    count
+}
+
+/// That each event from a place of a history on is one receipt of its worker, and that there are no other receipts.
+pub fn are_reported(rt: &impl Abort, history: &[Event], from: usize, reports: &[Report]) {
     for position in from..history.len() {
         let event = history[position];
-        if usize::from(event.worker) == w {
-            let receipt = Receipt { position, event };
-            assert!(rt; told.next() == Some(&receipt));
-        }
+        let report = reports.get(usize::from(event.worker));
+        let receipts = report.expect(rt, "no report").receipts.as_slice();
+        assert!(rt; receipts.contains(&Receipt { position, event }));
     }
-    assert!(rt; told.next() == None);
-}
-
-/// The transaction of a job that committed.
-fn committed(outcome: &Outcome) -> Option<u32> {
-    match outcome {
-        Outcome::Committed(t) => Some(*t),
-        _ => None,
-    }
-}
-
-/// That a worker committed the transactions of its outcomes, in order, and no others.
-fn are_commits(rt: &impl Abort, report: &Report) {
-    let mut told = report.outcomes.iter().filter_map(committed);
-    for receipt in &report.receipts {
-        if let EventKind::Commit { t } = receipt.event.kind {
-            assert!(rt; told.next() == Some(t));
-        }
-    }
-    assert!(rt; told.next() == None);
-}
-
-/// That each event from a place of a history on is one receipt of its worker, that there are no other
-/// receipts, and that the jobs that committed are those whose commits are events.
-pub fn are_reported(rt: &impl Abort, history: &[Event], from: usize, reports: &[Report]) {
-    for event in history.iter().skip(from) {
-        assert!(rt; usize::from(event.worker) < reports.len());
-    }
-    for (w, report) in reports.iter().enumerate() {
-        are_receipts(rt, history, from, w, &report.receipts);
-        are_commits(rt, report);
-    }
-}
-
-/// The declared types of objects.
-fn types_of(alloc: Global, objects: &[Object]) -> Result<Vec<&DeclaredType>, AllocError> {
-    objects
-        .iter()
-        .map(|object| object.checked().declared())
-        .collect(alloc)
+    assert!(rt; receipt_count(reports) == history.len().saturating_sub(from));
 }
 
 /// That each object is at the state in its place.
@@ -126,13 +91,6 @@ pub fn are_at<R: Recovery>(rt: &impl Abort, objects: &[R], states: &[u32]) {
     for (object, state) in objects.iter().zip(states) {
         assert!(rt; object.state() == *state);
     }
-}
-
-/// That the audit says yes, and that each object keeps its serial state.
-pub fn is_serial(rt: &(impl Abort + AllocGlobal), done: &Done) {
-    let types = types_of(rt.alloc(), &done.objects).expect(rt, "no memory");
-    let audit = audit(rt.alloc(), &done.history, &types).expect(rt, "no audit");
-    are_at(rt, &done.objects, &audit.finals);
 }
 
 /// That there is a report of each of these lists of outcomes, with them.

@@ -11,7 +11,6 @@ mod made;
 mod numbers;
 mod refused;
 mod renewals;
-mod replayed;
 mod run_scripts;
 mod runs;
 pub mod scripts;

@@ -63,7 +63,7 @@ impl OneEntry {
 }
 
 /// An entry after a commit of t.
-pub fn marked(entry: &LogEntry, t: u32) -> LogEntry
+fn marked(entry: &LogEntry, t: u32) -> LogEntry
     ensures { result ≡ marked t entry.now }
 {
     LogEntry {
@@ -91,7 +91,7 @@ fn conflict(table: &ConflictTable, k: Operation, q: Operation) -> bool
 
 /// Whether an entry keeps t from operation k: it is an open one of another transaction, with which k
 /// conflicts.
-pub fn stops(entry: &LogEntry, table: &ConflictTable, t: u32, k: Operation) -> bool
+fn stops(entry: &LogEntry, table: &ConflictTable, t: u32, k: Operation) -> bool
     ensures { result ≡ (not entry.now.done && (not (entry.now.by == t) && conflicts table.now k entry.now.op)) }
 {
     !entry.done && entry.by != t && conflict(table, k, entry.op)

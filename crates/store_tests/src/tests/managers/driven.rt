@@ -1,7 +1,6 @@
 //! Operations at an object whose log is known.
 
 ghost use Rattle.std.specs.Prelude.{◌≡◌, ◌<◌, true, length};
-ghost use Rattle.object_trait.specs.Meaning.{open_of};
 ghost use Rattle.object_trait.specs.Steps.{MayApply};
 
 use object_trait::{LogEntry, Recovery};
@@ -13,7 +12,7 @@ use type_table::Operation;
 const MOST_ENTRIES: usize = 1000;
 
 /// Whether k is an operation of an object's type.
-pub fn has<R: Recovery>(object: &R, k: Operation) -> bool
+fn has<R: Recovery>(object: &R, k: Operation) -> bool
     ensures { result ≡ true → k < length (R.meaning object.now).checked.file.table.ops }
 {
     object.declared().has_op(k)
@@ -51,28 +50,4 @@ pub fn apply_next<R: Recovery>(
         done: false,
     });
     Ok(())
-}
-
-/// How many entries of t the log has.
-fn own_count(log: &[LogEntry], t: u32) -> usize
-    ensures { result ≡ length (open_of t log.now) }
-{
-    log.iter()
-        .filter(|entry| entry.by == t && !entry.done)
-        .count()
-}
-
-/// Strikes the last m entries of t at an object with this log.
-pub fn strike_last<R: Recovery>(
-    rt: &impl Abort,
-    object: &mut R,
-    log: &Vec<LogEntry>,
-    t: u32,
-    m: u32,
-)
-    requires { (R.meaning object.old).log ≡ log.now.items }
-{
-    let own = own_count(log, t);
-    assert!(rt; m as usize <= own);
-    object.strike(t, m);
 }

@@ -7,7 +7,7 @@ use crate::tests::stores::objects_of;
 use crate::tests::stores::scripts::{
     Happened, Happening, Row, answers, are_events, outcome, store_of,
 };
-use object_trait::{Event, Recovery};
+use object_trait::Recovery;
 use serial_order::Refusal;
 use std::process::Abort;
 use std::sync::Wait;
@@ -16,9 +16,6 @@ use store::Store;
 use test_support::type_texts::{COUNTER, COUNTER_OF_FOUR};
 use type_table::Kind;
 use workers::{Outcome, WorkFault};
-
-/// The ways in which turns come.
-static BOTH: [Turns; 2] = [Turns::SideBySide, Turns::Drawn(7)];
 
 /// Jobs of no worker.
 const NO_JOB: &str = "max 20
@@ -100,6 +97,13 @@ fn is_limited(rt: &impl Abort, limit: &Limit, done: &Done) {
     }
     are_events(rt, &done.history, &WITH_JOB);
     assert!(rt; done.reports.len() == usize::from(lists));
+    let outcomes = done
+        .reports
+        .first()
+        .expect(rt, "no report")
+        .outcomes
+        .as_slice();
+    assert!(rt; outcomes == [Outcome::Committed(2)].as_slice());
     are_reported(rt, done.history.get(..8).unwrap_or(&[]), 5, &done.reports);
 }
 
@@ -140,65 +144,54 @@ fn begin_many<R: Recovery>(rt: &impl Abort, store: &mut Store<R>, count: u32) {
     }
 }
 
-/// What comes of jobs at a store at which this many transactions of worker 7 are open.
-fn done_beside<R: Abort + AllocGlobal + Threads + Wait + Sync>(
-    rt: &R,
-    open: u32,
-    text: &str,
-    lists: u8,
-    turns: Turns,
-) -> Done {
-    let jobs = jobs_of(rt, text, lists);
-    let objects = objects_of(rt, &[(Kind::Undo, COUNTER)]);
-    let mut store = store_of(rt, objects, 3000);
-    begin_many(rt, &mut store, open);
-    do_jobs(rt, store, jobs, 3, turns)
-}
-
 const TOO_MANY: Outcome = Outcome::Refused(Refusal::TooManyOpen);
 
-/// The outcomes of the three jobs, where all are refused.
-static ALL_REFUSED: [&[Outcome]; 2] = [&[TOO_MANY, TOO_MANY], &[TOO_MANY]];
+/// How many transactions of worker 7 are open, the text of jobs, how many lists of them, how many events there are
+/// before the store is closed and after it, and the outcomes.
+type Beside = (
+    u32,
+    &'static str,
+    u8,
+    usize,
+    usize,
+    &'static [&'static [Outcome]],
+);
 
-/// That worker 7 alone made events, this many.
-fn are_of_seven(rt: &impl Abort, history: &[Event], events: usize) {
-    assert!(rt; history.len() == events);
-    for event in history {
-        assert!(rt; event.worker == 7);
-    }
-}
+static MOST: [Beside; 2] = [
+    // All are refused. The begins and their ends are all that happened.
+    (
+        1024,
+        THREE_JOBS,
+        2,
+        1024,
+        2048,
+        &[&[TOO_MANY, TOO_MANY], &[TOO_MANY]],
+    ),
+    // Where one more can be open, the one worker begins.
+    (1023, ONE_JOB, 1, 1026, 2049, &[&[Outcome::Committed(1023)]]),
+];
 
-/// That all jobs were refused. The 1,024 begins and their ends are all that happened.
-fn are_refused(rt: &impl Abort, done: &Done) {
-    assert!(rt; done.fault == None);
-    are_of_seven(rt, &done.history, 2048);
-    are_outcomes(rt, &done.reports, &ALL_REFUSED);
-    for report in &done.reports {
-        assert!(rt; report.receipts.is_empty());
-    }
+/// That jobs have these outcomes at a store at which so many transactions are open.
+fn are_done_beside<R: Abort + AllocGlobal + Threads + Wait + Sync>(
+    rt: &R,
+    beside: &Beside,
+    turns: Turns,
+) {
+    let (open, text, lists, before, events, outcomes) = *beside;
+    let jobs = jobs_of(rt, text, lists);
+    let mut store = store_of(rt, objects_of(rt, &[(Kind::Undo, COUNTER)]), 3000);
+    begin_many(rt, &mut store, open);
+    let done = do_jobs(rt, store, jobs, 3, turns);
+    assert!(rt; done.fault == None && done.history.len() == events);
+    are_outcomes(rt, &done.reports, outcomes);
+    let history = done.history.get(..before).unwrap_or(&[]);
+    are_reported(rt, history, open as usize, &done.reports);
 }
 
 #[test]
-fn too_many_are_open(rt: HostRuntime) {
-    for turns in &BOTH {
-        let done = done_beside(&rt, 1024, THREE_JOBS, 2, *turns);
-        are_refused(&rt, &done);
-    }
-}
-
-/// That the one worker began and committed beside 1,023 others.
-fn has_begun(rt: &impl Abort, done: &Done) {
-    assert!(rt; done.history.len() == 2049);
-    let before = done.history.get(..1026).unwrap_or(&[]);
-    are_reported(rt, before, 1023, &done.reports);
-    are_outcomes(rt, &done.reports, &[&[Outcome::Committed(1023)]]);
-}
-
-/// Where one more can be open, the one worker begins.
-#[test]
-fn one_more_may_be_open(rt: HostRuntime) {
-    for turns in &BOTH {
-        let done = done_beside(&rt, 1023, ONE_JOB, 1, *turns);
-        has_begun(&rt, &done);
+fn so_many_may_be_open(rt: HostRuntime) {
+    for beside in &MOST {
+        are_done_beside(&rt, beside, Turns::SideBySide);
+        are_done_beside(&rt, beside, Turns::Drawn(7));
     }
 }

@@ -2,101 +2,134 @@
 //! own.
 
 use super::scripts::{Happened, Happening, Row, answers, is_closed, store_of};
-use crate::tests::any_objects::boxed::made;
+use crate::tests::any_objects::one_entry::OneEntry;
 use crate::tests::asked::{Ask, Told};
 use crate::tests::managers::{deferred, in_place};
-use crate::tests::reports::are_at;
 use object_trait::{AnyObject, Recovery};
 use serial_order::Refusal;
 use std::process::Abort;
+use table_checker::check;
 use test_support::type_texts::{COUNTER, TWIN};
+use type_table::Kind;
+use type_text::read_type;
 
-/// A new counter, in place, in a box.
-fn counter(rt: &(impl Abort + AllocGlobal)) -> AnyObject {
-    let object = in_place(rt, COUNTER);
-    AnyObject::new(Box::new(rt.alloc(), object).ok().expect(rt, "no memory"))
+/// A new counter that has room for one entry.
+fn one_entry(rt: &(impl Abort + AllocGlobal)) -> OneEntry {
+    let file = read_type(rt.alloc(), COUNTER.as_bytes());
+    match check(file.ok().expect(rt, "no type"), Kind::Undo) {
+        Ok(checked) => OneEntry::new(checked),
+        Err(_) => panic!(rt; "not for update in place"),
+    }
 }
 
-/// A new deferred object of the twin type, in a box.
-fn twin(rt: &(impl Abort + AllocGlobal)) -> AnyObject {
-    let object = deferred(rt, TWIN);
-    AnyObject::new(Box::new(rt.alloc(), object).ok().expect(rt, "no memory"))
-}
-
-/// A new counter in place that has room for one entry, in a box.
-fn one_entry(rt: &(impl Abort + AllocGlobal)) -> AnyObject {
-    let object = made(rt);
-    AnyObject::new(Box::new(rt.alloc(), object).ok().expect(rt, "no memory"))
-}
-
-/// One of each.
+/// A counter in place, a deferred object of the twin type, and a counter with room for one entry.
 fn boxes(rt: &(impl Abort + AllocGlobal)) -> Vec<AnyObject> {
     let mut objects = Vec::with_capacity(rt.alloc(), 3).expect(rt, "no room");
-    objects.push_reserved(counter(rt));
-    objects.push_reserved(twin(rt));
-    objects.push_reserved(one_entry(rt));
+    let object = Box::new(rt.alloc(), in_place(rt, COUNTER)).ok();
+    objects.push_reserved(AnyObject::new(object.expect(rt, "no memory")));
+    let object = Box::new(rt.alloc(), deferred(rt, TWIN)).ok();
+    objects.push_reserved(AnyObject::new(object.expect(rt, "no memory")));
+    let object = Box::new(rt.alloc(), one_entry(rt)).ok();
+    objects.push_reserved(AnyObject::new(object.expect(rt, "no memory")));
     objects
 }
 
-/// Two transactions beside each other, and a third. The deferred object keeps 4, where `p` and then
-/// `q`, in commit order, lead to 3. The object of one entry has no room for a second.
+const NO_MEMORY: Told = Told::Refused(Refusal::NoMemory);
+
+/// One that aborts, two transactions beside each other, and a last one. The deferred object keeps 4, where `p` and
+/// then `q`, in commit order, lead to 3. The object of one entry has no room for a second.
 const ROWS: &[Row] = &[
-    (0, Ask::Begin, Told::Begun(0)),
-    (1, Ask::Begin, Told::Begun(1)),
-    (0, Ask::Call(0, 0, "inc:1"), Told::Reply(0)),
-    (1, Ask::Call(1, 0, "dec:1"), Told::Busy(0)),
-    (0, Ask::Call(0, 1, "p"), Told::Reply(0)),
-    (1, Ask::Call(1, 1, "q"), Told::Reply(1)),
-    (0, Ask::Call(0, 2, "inc:1"), Told::Reply(0)),
-    (
-        1,
-        Ask::Call(1, 2, "inc:1"),
-        Told::Refused(Refusal::NoMemory),
-    ),
-    (0, Ask::Commit(0), Told::Done),
+    (3, Ask::Begin, Told::Begun(0)),
+    (3, Ask::Call(0, 2, "dec:1"), Told::None),
+    (3, Ask::Call(0, 2, "inc:1"), Told::Reply(0)),
+    (3, Ask::Call(0, 2, "dec:1"), NO_MEMORY),
+    (3, Ask::Abort(0), Told::Done),
+    (3, Ask::Kept(2), Told::Kept(Some(0))),
+    (0, Ask::Begin, Told::Begun(1)),
+    (1, Ask::Begin, Told::Begun(2)),
+    (0, Ask::Call(1, 0, "inc:1"), Told::Reply(0)),
+    (1, Ask::Call(2, 0, "dec:1"), Told::Busy(1)),
+    (0, Ask::Call(1, 1, "p"), Told::Reply(0)),
+    (1, Ask::Call(2, 1, "q"), Told::Reply(1)),
+    (0, Ask::Call(1, 2, "inc:1"), Told::Reply(0)),
+    (0, Ask::Rollback(1, 1), Told::Done),
+    (0, Ask::Kept(2), Told::Kept(Some(0))),
+    (0, Ask::Call(1, 2, "inc:1"), Told::Reply(0)),
+    (1, Ask::Call(2, 2, "dec:1"), Told::Busy(1)),
+    (1, Ask::Call(2, 2, "inc:1"), NO_MEMORY),
+    (0, Ask::Commit(1), Told::Done),
     (0, Ask::Kept(0), Told::Kept(Some(1))),
     (0, Ask::Kept(1), Told::Kept(Some(1))),
-    (1, Ask::Commit(1), Told::Done),
+    (1, Ask::Commit(2), Told::Done),
     (0, Ask::Kept(1), Told::Kept(Some(4))),
     (0, Ask::Kept(2), Told::Kept(Some(1))),
-    (2, Ask::Begin, Told::Begun(2)),
-    (2, Ask::Call(2, 0, "dec:1"), Told::Reply(1)),
+    (2, Ask::Begin, Told::Begun(3)),
+    (2, Ask::Call(3, 0, "dec:1"), Told::Reply(1)),
     (2, Ask::Kept(0), Told::Kept(Some(0))),
 ];
 
-/// What happened, with the end of the third.
+/// What happened, with the end of the last.
 const HISTORY: &[Happened] = &[
-    (0, Happening::Begin { t: 0 }),
-    (1, Happening::Begin { t: 1 }),
-    (0, Happening::Op { t: 0, x: 0, k: 0 }),
+    (3, Happening::Begin { t: 0 }),
+    (3, Happening::None { t: 0, x: 2, c: 1 }),
+    (3, Happening::Op { t: 0, x: 2, k: 0 }),
+    (3, Happening::Abort { t: 0 }),
+    (0, Happening::Begin { t: 1 }),
+    (1, Happening::Begin { t: 2 }),
+    (0, Happening::Op { t: 1, x: 0, k: 0 }),
     (
         1,
         Happening::Busy {
             c: 1,
-            t: 1,
+            t: 2,
             x: 0,
-            u: 0,
+            u: 1,
         },
     ),
-    (0, Happening::Op { t: 0, x: 1, k: 0 }),
-    (1, Happening::Op { t: 1, x: 1, k: 1 }),
-    (0, Happening::Op { t: 0, x: 2, k: 0 }),
-    (0, Happening::Commit { t: 0 }),
-    (1, Happening::Commit { t: 1 }),
-    (2, Happening::Begin { t: 2 }),
-    (2, Happening::Op { t: 2, x: 0, k: 1 }),
-    (2, Happening::Abort { t: 2 }),
+    (0, Happening::Op { t: 1, x: 1, k: 0 }),
+    (1, Happening::Op { t: 2, x: 1, k: 1 }),
+    (0, Happening::Op { t: 1, x: 2, k: 0 }),
+    (0, Happening::Rollback { t: 1, n: 1 }),
+    (0, Happening::Op { t: 1, x: 2, k: 0 }),
+    (
+        1,
+        Happening::Busy {
+            c: 1,
+            t: 2,
+            x: 2,
+            u: 1,
+        },
+    ),
+    (0, Happening::Commit { t: 1 }),
+    (1, Happening::Commit { t: 2 }),
+    (2, Happening::Begin { t: 3 }),
+    (2, Happening::Op { t: 3, x: 0, k: 1 }),
+    (2, Happening::Abort { t: 3 }),
 ];
 
-/// A store of these objects does what the rows say, and hands them back with these states.
-fn is_played<R: Recovery>(rt: &(impl Abort + AllocGlobal), objects: Vec<R>, kept: &[u32]) {
+/// What each object is at in the end.
+const KEPT: [u32; 3] = [1, 4, 1];
+
+/// That each object is at the state in its place, whoever looks, and keeps no amount.
+fn are_seen(rt: &impl Abort, objects: &[AnyObject]) {
+    assert!(rt; objects.len() == KEPT.len());
+    for (object, state) in objects.iter().zip(&KEPT) {
+        assert!(rt; object.state() == *state && object.view(7) == *state);
+        assert!(rt; object.amount_kept(7, 0, 0).is_none());
+    }
+}
+
+/// A store of these objects does what the rows say, and hands them back.
+fn played<R: Recovery>(rt: &(impl Abort + AllocGlobal), objects: Vec<R>) -> Vec<R> {
     let mut store = store_of(rt, objects, 20);
     answers(rt, &mut store, ROWS);
-    let objects = is_closed(rt, store, HISTORY);
-    are_at(rt, &objects, kept);
+    is_closed(rt, store, HISTORY)
 }
 
 #[test]
 fn a_store_of_boxes_answers(rt: HostRuntime) {
-    is_played(&rt, boxes(&rt), &[1, 4, 1]);
+    let mut objects = played(&rt, boxes(&rt));
+    are_seen(&rt, &objects);
+    let last = objects.pop().expect(&rt, "no object");
+    assert!(rt; last.into_inner().state() == 1);
 }

@@ -7,8 +7,6 @@ use crate::tests::checked_types::checked_of;
 use declared_types::DeclaredType;
 use object_calls::{Call, CallTable};
 use std::process::Abort;
-use std::test::Fail;
-use test_support::printed::are_debugged;
 use test_support::type_texts::{PURSE, SEMIQUEUE};
 use type_table::{Kind, Operation};
 
@@ -74,14 +72,4 @@ fn are_found(rt: &(impl Abort + AllocGlobal), text: &str, kind: Kind, rows: &[Ro
 fn calls_are_found(rt: HostRuntime) {
     are_found(&rt, SEMIQUEUE, Kind::Undo, &OF_A_TABLE);
     are_found(&rt, PURSE, Kind::Escrow, &OF_A_NUMBER);
-}
-
-#[test]
-fn calls_are_printed(rt: HostRuntime) -> Result<(), Fail> {
-    let call = Call {
-        first: Operation::listed(1),
-        operations: 2,
-    };
-    let text = "Call { first: Operation { place: 1, amount: None }, operations: 2 }";
-    are_debugged(rt.alloc(), &[(call, text)])
 }

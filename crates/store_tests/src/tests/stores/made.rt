@@ -1,33 +1,16 @@
 //! Of which objects a store is made, and in which order they come back.
 
-use super::scripts::{is_closed, store_of};
-use super::types_of;
+use super::scripts::{Row, answers, is_closed, store_of};
+use super::{objects_of, types_of};
+use crate::tests::asked::{Ask, Told};
 use crate::tests::checked_types::Sort;
-use crate::tests::managers::driven::apply_next;
 use object_trait::{Recovery, Renew};
 use objects::Object;
-use std::alloc::Global;
 use std::process::Abort;
 use std::sync::Arc;
-use std::test::Fail;
 use store::{NewRefusal, Store};
-use test_support::printed::{are_debugged, are_printed};
 use test_support::type_texts::COUNTER;
-use type_table::{Kind, Operation};
-
-static REFUSALS: [(NewRefusal, &str); 5] = [
-    (NewRefusal::NoObjects, "NoObjects"),
-    (NewRefusal::TooManyObjects, "TooManyObjects"),
-    (NewRefusal::NotFresh, "NotFresh"),
-    (NewRefusal::BadMax, "BadMax"),
-    (NewRefusal::NoMemory, "NoMemory"),
-];
-
-#[test]
-fn refusals_are_printed(rt: HostRuntime) -> Result<(), Fail> {
-    are_printed(rt.alloc(), &REFUSALS)?;
-    are_debugged(rt.alloc(), &REFUSALS)
-}
+use type_table::Kind;
 
 /// The counter for each kind of object, in turn.
 static COUNTERS: [Sort; 3] = [
@@ -36,37 +19,32 @@ static COUNTERS: [Sort; 3] = [
     (Kind::Escrow, COUNTER),
 ];
 
-/// The kind of the object at this place.
-fn kind_at(x: usize) -> Kind {
-    COUNTERS[x % 3].0
-}
+/// What a counter is asked before it is offered again.
+static UP: [Row; 3] = [
+    (0, Ask::Begin, Told::Begun(0)),
+    (0, Ask::Call(0, 0, "inc:1"), Told::Reply(0)),
+    (0, Ask::Commit(0), Told::Done),
+];
 
-/// This many new objects.
-fn made(rt: &(impl Abort + AllocGlobal), count: usize) -> Vec<Object> {
-    let types = types_of(rt, &COUNTERS);
-    let mut objects = Vec::new(rt.alloc());
-    for x in 0..count {
-        let checked = types.get(x % 3).expect(rt, "no type");
-        let copy = Arc::try_clone(checked).expect(rt, "too many");
-        let object = Object::new(rt.alloc(), copy);
-        objects.push(object).ok().expect(rt, "no room");
-    }
-    objects
-}
-
-/// Executes an operation at an object that is as it was made.
-fn touch(rt: &(impl Abort + AllocGlobal), object: &mut Object) {
-    assert!(rt; object.is_fresh());
-    let mut log = Vec::new(rt.alloc());
-    apply_next(rt, object, &mut log, 0, Operation::listed(0)).expect(rt, "no memory");
+/// The object at this place, counted up.
+fn touched_at(rt: &(impl Abort + AllocGlobal), x: usize) -> Object {
+    let mut store = store_of(rt, objects_of(rt, &[COUNTERS[x % 3]]), 20);
+    answers(rt, &mut store, &UP);
+    store.close().1.pop().expect(rt, "no object")
 }
 
 /// This many objects, of which one may have been touched.
 fn offered(rt: &(impl Abort + AllocGlobal), count: usize, touched: Option<usize>) -> Vec<Object> {
-    let mut objects = made(rt, count);
-    if let Some(x) = touched {
-        assert!(rt; x < objects.len());
-        touch(rt, &mut objects[x]);
+    let types = types_of(rt, &COUNTERS);
+    let mut objects = Vec::new(rt.alloc());
+    for x in 0..count {
+        let checked = types.get(x % 3).expect(rt, "no type");
+        let object = if touched == Some(x) {
+            touched_at(rt, x)
+        } else {
+            Object::new(rt.alloc(), Arc::try_clone(checked).expect(rt, "too many"))
+        };
+        objects.push(object).ok().expect(rt, "no room");
     }
     objects
 }
@@ -75,7 +53,7 @@ fn offered(rt: &(impl Abort + AllocGlobal), count: usize, touched: Option<usize>
 fn are_in_place(rt: &impl Abort, objects: &[Object], count: usize, touched: Option<usize>) {
     assert!(rt; objects.len() == count);
     for (x, object) in objects.iter().enumerate() {
-        assert!(rt; object.checked().kind() == kind_at(x));
+        assert!(rt; object.checked().kind() == COUNTERS[x % 3].0);
         assert!(rt; object.is_fresh() == (touched != Some(x)));
     }
 }
@@ -101,19 +79,13 @@ static OFFERS: [Offer; 15] = [
     (256, Some(255), 20, Some(NewRefusal::NotFresh)),
 ];
 
-/// The objects, and why there is no store of them. One that is made is closed.
-fn tried(alloc: Global, objects: Vec<Object>, max: u32) -> (Vec<Object>, Option<NewRefusal>) {
-    match Store::new(alloc, objects, max) {
-        Ok(store) => (store.close().1, None),
-        Err((objects, refusal)) => (objects, Some(refusal)),
-    }
-}
-
-/// That a store is made or refused as in a row.
+/// That a store is made or refused as in a row. One that is made is closed.
 fn is_tried(rt: &(impl Abort + AllocGlobal), offer: &Offer) {
     let (count, touched, max, refusal) = *offer;
-    let objects = offered(rt, count, touched);
-    let (objects, got) = tried(rt.alloc(), objects, max);
+    let (objects, got) = match Store::new(rt.alloc(), offered(rt, count, touched), max) {
+        Ok(store) => (store.close().1, None),
+        Err((objects, refusal)) => (objects, Some(refusal)),
+    };
     assert!(rt; got == refusal, "{count} {max}");
     are_in_place(rt, &objects, count, touched);
 }
@@ -128,7 +100,7 @@ fn stores_are_made_of_new_objects(rt: HostRuntime) {
 /// A store is empty at first.
 #[test]
 fn a_new_store_is_empty(rt: HostRuntime) {
-    let store = store_of(&rt, made(&rt, 2), 20);
+    let store = store_of(&rt, offered(&rt, 2, None), 20);
     let seen = (store.history().len(), store.kept(1), store.kept(2));
     assert!(rt; seen == (0, Some(0), None));
     let _ = is_closed(&rt, store, &[]);

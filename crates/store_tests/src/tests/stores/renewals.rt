@@ -40,16 +40,17 @@ static BOTH_NEXT: [Row; 3] = [
 
 /// That no epoch begins while a transaction is open, which is then aborted.
 fn still_open(rt: &(impl Abort + AllocGlobal), store: Store<Object>) -> Store<Object> {
-    let mut store = match renewed(rt, store) {
-        Ok((store, _)) => store,
-        Err((store, refusal)) => {
-            assert!(rt; refusal == RenewRefusal::StillOpen);
+    match renewed(rt, store) {
+        Ok((store, _)) => {
+            let _ = store.close();
+            panic!(rt; "an epoch began with a transaction open")
+        }
+        Err((mut store, refusal)) => {
+            assert!(rt; refusal == RenewRefusal::StillOpen && store.event_count() == 5);
+            store.abort_all();
             store
         }
-    };
-    assert!(rt; store.event_count() == 5);
-    store.abort_all();
-    store
+    }
 }
 
 #[test]

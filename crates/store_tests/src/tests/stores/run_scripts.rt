@@ -4,8 +4,7 @@ ghost use Rattle.std.specs.Prelude.{◌≡◌, true, [], length};
 
 use super::objects_of;
 use super::scripts::{Happened, Happening, are_closed, are_events, store_of};
-use crate::tests::checked_types::Sort;
-use object_trait::{Event, Recovery};
+use object_trait::Recovery;
 use objects::Object;
 use outputs::OutFault;
 use script_run::run_script;
@@ -23,25 +22,6 @@ fn is_ready<R: Recovery>(store: &Store<R>, script: &Script) -> bool
     ensures objects { result ≡ true → length store.now.types ≡ length script.now.objects.items }
 {
     store.event_count() == 0 && store.object_count() as usize == script.objects.len()
-}
-
-/// What is left of a run: the store, what the output holds, and what stopped it.
-type Left = (Store<Object>, Vec<u8>, Result<(), OutFault>);
-
-/// Runs a script on a new store of these objects, with an output of this many bytes.
-fn run_with_room(
-    rt: &(impl Abort + AllocGlobal),
-    sorts: &[Sort],
-    text: &[u8],
-    room: usize,
-    at_end: AtEnd,
-) -> Left {
-    let script = read_script(rt.alloc(), text).ok().expect(rt, "no script");
-    let store = store_of(rt, objects_of(rt, sorts), script.max);
-    let mut out = narrow_sink(rt.alloc(), usize::MAX, room, at_end);
-    assert!(rt; is_ready(&store, &script));
-    let (store, result) = run_script(store, &script, &mut out);
-    (store, out.into_inner().held, result)
 }
 
 /// One transaction aborts, and another commits.
@@ -97,46 +77,38 @@ static CLOSING: [&[Happened]; 7] = [
 /// failed, and those before it.
 fn asked_at(room: usize) -> usize {
     let text = KEEPS_OTHERS_TEXT.as_bytes();
-    let ended = line_count(text.get(..room).unwrap_or(text));
-    ended.min(EVENTS.len())
-}
-
-/// The events of the first commands, this many.
-fn asked_events(asked: usize) -> &'static [Happened] {
-    EVENTS.get(..asked).unwrap_or(&[])
-}
-
-/// That a history has the events of this many commands, and after them what `close` appends.
-fn is_ended(rt: &impl Abort, history: &[Event], asked: usize) {
-    are_events(rt, history.get(..asked).unwrap_or(&[]), asked_events(asked));
-    let closing = CLOSING.get(asked).copied().unwrap_or(&[]);
-    are_events(rt, history.get(asked..).unwrap_or(&[]), closing);
+    let ended = text.get(..room).unwrap_or(text);
+    let lines = ended.iter().filter(|b| **b == b'\n').count();
+    lines.min(EVENTS.len())
 }
 
 /// That a store whose script asked this many commands has their events, and `close` aborts what is open.
 fn is_left(rt: &impl Abort, store: Store<Object>, asked: usize) {
-    are_events(rt, store.history(), asked_events(asked));
+    let events = EVENTS.get(..asked).unwrap_or(&[]);
+    are_events(rt, store.history(), events);
     let (history, objects) = store.close();
-    is_ended(rt, &history, asked);
+    are_events(rt, history.get(..asked).unwrap_or(&[]), events);
+    let closing = CLOSING.get(asked).copied().unwrap_or(&[]);
+    are_events(rt, history.get(asked..).unwrap_or(&[]), closing);
     are_closed(rt, &objects);
 }
 
-/// That a run stops after this many bytes, by this fault.
+/// That a run on a new counter stops after this many bytes, by this fault.
 fn stops_at(
     rt: &(impl Abort + AllocGlobal),
     room: usize,
     at_end: AtEnd,
     wanted: Result<(), OutFault>,
 ) {
-    let sorts = [(Kind::Undo, COUNTER)];
-    let text = KEEPS_OTHERS.as_bytes();
-    let (store, held, result) = run_with_room(rt, &sorts, text, room, at_end);
+    let script = read_script(rt.alloc(), KEEPS_OTHERS.as_bytes());
+    let script = script.ok().expect(rt, "no script");
+    let store = store_of(rt, objects_of(rt, &[(Kind::Undo, COUNTER)]), script.max);
+    let mut out = narrow_sink(rt.alloc(), usize::MAX, room, at_end);
+    assert!(rt; is_ready(&store, &script));
+    let (store, result) = run_script(store, &script, &mut out);
     assert!(rt; result == wanted);
+    let held = out.into_inner().held;
     assert!(rt; KEEPS_OTHERS_TEXT.as_bytes().get(..room) == Some(held.as_slice()));
-    if room == 40 {
-        assert!(rt; held.ends_with(b"\nop 0 0"));
-        assert!(rt; store.kept(0) == Some(1));
-    }
     is_left(rt, store, asked_at(room));
 }
 
@@ -149,9 +121,4 @@ fn a_stopped_output_has_a_beginning(rt: HostRuntime) {
         stops_at(&rt, room, AtEnd::TakesNothing, Err(OutFault::WroteNothing));
     }
     stops_at(&rt, whole, AtEnd::Fails, Ok(()));
-}
-
-/// How many lines a text has.
-fn line_count(text: &[u8]) -> usize {
-    text.iter().filter(|b| **b == b'\n').count()
 }

@@ -1,7 +1,7 @@
 //! Calls of a store, one after another, and what each answers.
 
 use super::objects_of;
-use crate::tests::asked::{Ask, Told, as_number, as_told};
+use crate::tests::asked::{Ask, Told, as_number, as_reply};
 use crate::tests::checked_types::Sort;
 use object_trait::{Event, EventKind, Recovery};
 use serial_order::Refusal;
@@ -31,8 +31,16 @@ impl Happening {
     pub fn kind(self) -> EventKind {
         match self {
             Happening::Begin { t } => EventKind::Begin { t },
-            Happening::Op { t, x, k } => op_of(t, x, Operation::listed(k)),
-            Happening::OpWith { t, x, k, n } => op_of(t, x, Operation::with(k, n)),
+            Happening::Op { t, x, k } => EventKind::Op {
+                t,
+                x,
+                k: Operation::listed(k),
+            },
+            Happening::OpWith { t, x, k, n } => EventKind::Op {
+                t,
+                x,
+                k: Operation::with(k, n),
+            },
             Happening::Busy { c, t, x, u } => EventKind::Busy { c, t, x, u },
             Happening::None { t, x, c } => EventKind::None { t, x, c },
             Happening::Commit { t } => EventKind::Commit { t },
@@ -40,11 +48,6 @@ impl Happening {
             Happening::Rollback { t, n } => EventKind::Rollback { t, n },
         }
     }
-}
-
-/// That t executed operation k at object x.
-fn op_of(t: u32, x: u32, k: Operation) -> EventKind {
-    EventKind::Op { t, x, k }
 }
 
 /// What happened: the worker of an event, and what that says.
@@ -67,21 +70,17 @@ pub struct Script {
     pub history: &'static [Happened],
 }
 
-fn begin<R: Recovery>(store: &mut Store<R>, w: u8) -> Told {
-    match store.begin(w) {
-        Ok(t) => Told::Begun(t),
-        Err(refusal) => Told::Refused(refusal),
-    }
-}
-
 /// What comes of a call that is answered so.
-pub fn called(answer: Result<Answer, Refusal>) -> Told {
+fn called(answer: Result<Answer, Refusal>) -> Told {
     match answer {
-        Ok(answer) => as_told(answer),
+        Ok(Answer::Reply(k)) => as_reply(k),
+        Ok(Answer::Busy(u)) => Told::Busy(u),
+        Ok(Answer::None) => Told::None,
         Err(refusal) => Told::Refused(refusal),
     }
 }
 
+/// What comes of an end or a rollback.
 fn ended(end: Result<(), Refusal>) -> Told {
     match end {
         Ok(()) => Told::Done,
@@ -92,7 +91,10 @@ fn ended(end: Result<(), Refusal>) -> Told {
 /// What comes of a call.
 pub fn outcome<R: Recovery>(store: &mut Store<R>, w: u8, ask: Ask) -> Told {
     match ask {
-        Ask::Begin => begin(store, w),
+        Ask::Begin => match store.begin(w) {
+            Ok(t) => Told::Begun(t),
+            Err(refusal) => Told::Refused(refusal),
+        },
         Ask::Call(t, x, name) => called(store.call(w, t, x, name)),
         Ask::Number(t, x, c) => called(store.call_op(w, t, x, Operation::listed(c))),
         Ask::NumberWith(t, x, c, n) => called(store.call_op(w, t, x, Operation::with(c, n))),
@@ -172,17 +174,12 @@ pub fn is_closed<R: Recovery>(rt: &impl Abort, store: Store<R>, wanted: &[Happen
     objects
 }
 
-/// Plays a script at a new store, and closes that.
-pub fn plays(rt: &(impl Abort + AllocGlobal), script: &Script) {
-    let mut store = store_of(rt, objects_of(rt, script.objects), script.max);
-    answers(rt, &mut store, script.rows);
-    let objects = is_closed(rt, store, script.history);
-    assert!(rt; objects.len() == script.objects.len());
-}
-
-/// Plays each script.
+/// Plays each script at a new store, and closes that.
 pub fn are_played(rt: &(impl Abort + AllocGlobal), scripts: &[Script]) {
     for script in scripts {
-        plays(rt, script);
+        let mut store = store_of(rt, objects_of(rt, script.objects), script.max);
+        answers(rt, &mut store, script.rows);
+        let objects = is_closed(rt, store, script.history);
+        assert!(rt; objects.len() == script.objects.len());
     }
 }

@@ -123,59 +123,68 @@ fn at_every_second(rt: &impl Abort, store: &mut Store<Counted>, call: &'static s
     assert!(rt; outcome(store, 0, Ask::Commit(0)) == Told::Done);
 }
 
-/// The next epoch of the store.
-fn next_epoch(rt: &(impl Abort + AllocGlobal), store: Store<Counted>) -> Store<Counted> {
-    next_of(rt, store.renew(rt.alloc())).0
-}
-
-/// How many owners the type of the first counter had, and those of the last two, when they were made of
-/// them. One owner of each is the list of the types that were made.
-fn owners_in(rt: &impl Abort, store: Store<Counted>) -> (usize, usize, usize) {
-    let (_, counters) = store.close();
-    assert!(rt; counters.len() == COUNT as usize);
-    (
-        counters[0].owners,
-        counters[COUNT as usize - 2].owners,
-        counters[COUNT as usize - 1].owners,
-    )
-}
-
-/// The states at which the types of the first two counters begin.
-fn begins_in(store: &Store<Counted>) -> (Option<u32>, Option<u32>) {
-    (begin_of(store, 0), begin_of(store, 1))
-}
-
 /// The state at which the type of this object begins.
 fn begin_of(store: &Store<Counted>, x: u32) -> Option<u32> {
     let checked = store.checked(x)?;
     Some(checked.initial())
 }
 
+/// What every second counter is asked in each epoch, with its reply; the states at which the types of the first two
+/// counters then begin; and how many owners the type of the first counter had, and those of the last two, when they
+/// were made of them. One owner of each is the list of the types that were made.
+struct Life {
+    asked: &'static [Option<(&'static str, u8)>],
+    begins: [u32; 2],
+    owners: [usize; 3],
+}
+
+static LIVES: [Life; 3] = [
+    // counters at one state share a type
+    Life {
+        asked: &[None],
+        begins: [0, 0],
+        owners: [2, 256, 257],
+    },
+    // counters at two states share two
+    Life {
+        asked: &[Some(("inc:1", 0))],
+        begins: [0, 1],
+        owners: [2, 129, 129],
+    },
+    // types that began at other states are one where the same state is kept
+    Life {
+        asked: &[Some(("inc:1", 0)), Some(("dec:1", 1))],
+        begins: [0, 0],
+        owners: [2, 256, 257],
+    },
+];
+
+/// That the types of the first counter and of the last two had so many owners.
+fn had_owners(rt: &impl Abort, store: Store<Counted>, owners: &[usize; 3]) {
+    let (_, counters) = store.close();
+    assert!(rt; counters.len() == COUNT as usize);
+    assert!(rt; counters[0].owners == owners[0]);
+    assert!(rt; counters[COUNT as usize - 2].owners == owners[1]);
+    assert!(rt; counters[COUNT as usize - 1].owners == owners[2]);
+}
+
+/// That counters share their types so.
+fn is_lived(rt: &(impl Abort + AllocGlobal), life: &Life) {
+    let mut store = store_of_counters(rt);
+    for asked in life.asked {
+        if let Some((call, k)) = asked {
+            at_every_second(rt, &mut store, call, Told::Reply(*k));
+        }
+        store = next_of(rt, store.renew(rt.alloc())).0;
+    }
+    assert!(rt; begin_of(&store, 0) == Some(life.begins[0]));
+    assert!(rt; begin_of(&store, 1) == Some(life.begins[1]) && begin_of(&store, COUNT).is_none());
+    had_owners(rt, store, &life.owners);
+}
+
 #[test]
 fn counters_at_one_state_share_a_type(rt: HostRuntime) {
-    let store = next_epoch(&rt, store_of_counters(&rt));
-    assert!(rt; begins_in(&store) == (Some(0), Some(0)));
-    assert!(rt; begin_of(&store, COUNT).is_none());
-    assert!(rt; owners_in(&rt, store) == (2, 256, 257));
-}
-
-#[test]
-fn counters_at_two_states_share_two_types(rt: HostRuntime) {
-    let mut store = store_of_counters(&rt);
-    at_every_second(&rt, &mut store, "inc:1", Told::Reply(0));
-    let store = next_epoch(&rt, store);
-    assert!(rt; begins_in(&store) == (Some(0), Some(1)));
-    assert!(rt; owners_in(&rt, store) == (2, 129, 129));
-}
-
-/// Types that began at other states are one where the same state is kept.
-#[test]
-fn counters_that_meet_again_share_a_type(rt: HostRuntime) {
-    let mut store = store_of_counters(&rt);
-    at_every_second(&rt, &mut store, "inc:1", Told::Reply(0));
-    let mut store = next_epoch(&rt, store);
-    at_every_second(&rt, &mut store, "dec:1", Told::Reply(1));
-    let store = next_epoch(&rt, store);
-    assert!(rt; begins_in(&store) == (Some(0), Some(0)));
-    assert!(rt; owners_in(&rt, store) == (2, 256, 257));
+    for life in &LIVES {
+        is_lived(&rt, life);
+    }
 }

@@ -1,0 +1,74 @@
+//! How values are printed.
+
+use object_calls::Call;
+use object_trait::{Event, EventKind};
+use op_locks::Held;
+use serial_order::{Entry, Refusal};
+use std::test::Fail;
+use store::NewRefusal;
+use test_support::printed::{are_debugged, are_printed};
+use type_table::Operation;
+
+static REFUSALS: [(Refusal, &str); 7] = [
+    (Refusal::NotOpen, "NotOpen"),
+    (Refusal::NoObject, "NoObject"),
+    (Refusal::NoCall, "NoCall"),
+    (Refusal::TooManyOpen, "TooManyOpen"),
+    (Refusal::HistoryFull, "HistoryFull"),
+    (Refusal::NoMemory, "NoMemory"),
+    (Refusal::BadRollback, "BadRollback"),
+];
+
+static NEW_REFUSALS: [(NewRefusal, &str); 5] = [
+    (NewRefusal::NoObjects, "NoObjects"),
+    (NewRefusal::TooManyObjects, "TooManyObjects"),
+    (NewRefusal::NotFresh, "NotFresh"),
+    (NewRefusal::BadMax, "BadMax"),
+    (NewRefusal::NoMemory, "NoMemory"),
+];
+
+#[test]
+fn refusals_are_printed(rt: HostRuntime) -> Result<(), Fail> {
+    are_printed(rt.alloc(), &REFUSALS)?;
+    are_debugged(rt.alloc(), &REFUSALS)?;
+    are_printed(rt.alloc(), &NEW_REFUSALS)?;
+    are_debugged(rt.alloc(), &NEW_REFUSALS)
+}
+
+#[test]
+fn refusals_are_compared(rt: HostRuntime) {
+    for (refusal, word) in &REFUSALS {
+        assert!(rt; (*refusal == Refusal::NoCall) == (*word == "NoCall"));
+    }
+}
+
+#[test]
+fn records_are_printed(rt: HostRuntime) -> Result<(), Fail> {
+    let event = Event {
+        worker: 3,
+        kind: EventKind::Op {
+            t: 1,
+            x: 0,
+            k: Operation::with(2, 7),
+        },
+    };
+    let text =
+        "Event { worker: 3, kind: Op { k: Operation { place: 2, amount: Some(7) }, t: 1, x: 0 } }";
+    are_debugged(rt.alloc(), &[(event, text)])?;
+    let entry = Entry {
+        by: 1,
+        at: 0,
+        op: Operation::listed(2),
+    };
+    let text = "Entry { by: 1, at: 0, op: Operation { place: 2, amount: None } }";
+    are_debugged(rt.alloc(), &[(entry, text)])?;
+    let held = Held { by: 7, op: 3 };
+    assert!(rt; held == held && held != Held::default());
+    are_debugged(rt.alloc(), &[(held, "Held { by: 7, op: 3 }")])?;
+    let call = Call {
+        first: Operation::listed(1),
+        operations: 2,
+    };
+    let text = "Call { first: Operation { place: 1, amount: None }, operations: 2 }";
+    are_debugged(rt.alloc(), &[(call, text)])
+}
