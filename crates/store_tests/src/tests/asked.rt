@@ -1,6 +1,7 @@
 //! Calls of a store, and what each answers.
 
 use serial_order::Refusal;
+use store::Answer;
 use type_table::Operation;
 
 /// A call of a store. A call at an object names its call or gives its number: a place, and an amount where
@@ -34,8 +35,17 @@ pub enum Told {
     NumberWith(u8, u32),
 }
 
+/// An answer, as what comes of a call.
+pub fn as_told(answer: Answer) -> Told {
+    match answer {
+        Answer::Reply(k) => as_reply(k),
+        Answer::Busy(u) => Told::Busy(u),
+        Answer::None => Told::None,
+    }
+}
+
 /// The operation of a reply, as what comes of a call.
-pub fn as_reply(k: Operation) -> Told {
+fn as_reply(k: Operation) -> Told {
     match k.amount() {
         Some(n) => Told::ReplyWith(k.place(), n),
         None => Told::Reply(k.place()),

@@ -103,7 +103,7 @@ fn is_limited(rt: &impl Abort, limit: &Limit, done: &Done) {
         .expect(rt, "no report")
         .outcomes
         .as_slice();
-    assert!(rt; outcomes == [Outcome::Committed(2)].as_slice());
+    assert!(rt; matches!(outcomes, [Outcome::Committed(2)]));
     are_reported(rt, done.history.get(..8).unwrap_or(&[]), 5, &done.reports);
 }
 

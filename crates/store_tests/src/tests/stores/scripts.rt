@@ -1,7 +1,7 @@
 //! Calls of a store, one after another, and what each answers.
 
 use super::objects_of;
-use crate::tests::asked::{Ask, Told, as_number, as_reply};
+use crate::tests::asked::{Ask, Told, as_number, as_told};
 use crate::tests::checked_types::Sort;
 use object_trait::{Event, EventKind, Recovery};
 use serial_order::Refusal;
@@ -73,9 +73,7 @@ pub struct Script {
 /// What comes of a call that is answered so.
 fn called(answer: Result<Answer, Refusal>) -> Told {
     match answer {
-        Ok(Answer::Reply(k)) => as_reply(k),
-        Ok(Answer::Busy(u)) => Told::Busy(u),
-        Ok(Answer::None) => Told::None,
+        Ok(answer) => as_told(answer),
         Err(refusal) => Told::Refused(refusal),
     }
 }
