@@ -2,7 +2,7 @@
 
 ghost use Rattle.exact_tables.specs.Distances.{AreDistances};
 
-use crate::tests::relations::ONE_WAY;
+use crate::tests::relations::{ONE_WAY, has};
 use crate::tests::types::{Parts, good_table};
 use exact_tables::{Distances, distinguish};
 use std::process::Abort;
@@ -103,19 +103,12 @@ fn are_told(rt: &(impl Abort + AllocGlobal), table: &TypeTable, cases: &[Case]) 
     for (s, t, list) in cases {
         let told = told(rt, table, &distances, *s, *t);
         assert!(rt; told.as_slice() == *list);
-        assert!(rt; *s < relation.states() && *t < relation.states());
-        assert!(rt; relation.has(*s, *t) == list.is_empty());
+        assert!(rt; has(&relation, *s, *t) == list.is_empty());
     }
 }
 
 #[test]
-fn states_of_the_one_way_type_are_told_apart(rt: HostRuntime) {
-    let table = good_table(&rt, "oneway", &ONE_WAY);
-    are_told(&rt, &table, &ONE_WAY_CASES);
-}
-
-#[test]
-fn states_of_a_semiqueue_are_told_apart(rt: HostRuntime) {
-    let table = good_table(&rt, "semiqueue", &TWO_ITEMS);
-    are_told(&rt, &table, &TWO_ITEMS_CASES);
+fn states_are_told_apart(rt: HostRuntime) {
+    are_told(&rt, &good_table(&rt, &ONE_WAY), &ONE_WAY_CASES);
+    are_told(&rt, &good_table(&rt, &TWO_ITEMS), &TWO_ITEMS_CASES);
 }

@@ -79,3 +79,26 @@ fn calls_have_the_number_of_their_first(rt: HostRuntime) {
         assert!(rt; purse.is_first(operation_of(*numbered)) == *is_first);
     }
 }
+
+/// Operations of the purse, which lists to give 7 beside any amount; the least and the greatest number at which each is
+/// legal, and what it gives and takes. To give 7 of any amount is legal nowhere: it is done as that line's.
+static OF_ANY: [(u8, u32, (u32, u32, u32, u32)); 7] = [
+    (0, 1, (1, 100, 0, 1)),
+    (0, 100, (100, 100, 0, 100)),
+    (1, 100, (0, 99, 0, 0)),
+    (4, 8, (0, 92, 8, 0)),
+    (5, 8, (93, 100, 0, 0)),
+    (4, 7, (1, 0, 0, 0)),
+    (8, 20, (20, 20, 0, 0)),
+];
+
+#[test]
+fn any_amounts_have_bounds(rt: HostRuntime) {
+    let purse = number_of(&rt, PURSE.as_bytes());
+    for (place, amount, wanted) in &OF_ANY {
+        let k = Operation::with(*place, *amount);
+        assert!(rt; purse.has_op(k));
+        let bounds = purse.bounded(k);
+        assert!(rt; (bounds.low, bounds.high, bounds.gives, bounds.takes) == *wanted);
+    }
+}

@@ -44,7 +44,7 @@ fn relation_of(rt: &(impl Abort + AllocGlobal), states: u16, pairs: &[(u16, u16)
     relation
 }
 
-fn has(relation: &Relation, s: u16, t: u16) -> bool {
+pub fn has(relation: &Relation, s: u16, t: u16) -> bool {
     let states = relation.states();
     s < states && t < states && relation.has(s, t)
 }
@@ -55,11 +55,11 @@ fn relations_begin_with_the_equal_pairs(rt: HostRuntime) {
     assert!(rt; relation.states() == 9 && has_equal_pairs_alone(&relation));
 }
 
-/// Whether of the pairs of nine states the equal ones are there, and no other.
-fn has_equal_pairs_alone(relation: &Relation) -> bool {
+/// Whether of the pairs of its states the equal ones are there, and no other.
+pub fn has_equal_pairs_alone(relation: &Relation) -> bool {
     let mut is_same = true;
-    for s in 0..9 {
-        for t in 0..9 {
+    for s in 0..relation.states() {
+        for t in 0..relation.states() {
             is_same &= has(relation, s, t) == (s == t);
         }
     }

@@ -1,5 +1,7 @@
 //! Type files whose text an output stops, and whole sets.
 
+use crate::tests::relations::has_equal_pairs_alone;
+use crate::tests::types::{RUNS, are_told, runs_lead};
 use declared_types::{TypeFile, is_whole};
 use outputs::{OutFault, Sink};
 use std::process::Abort;
@@ -25,6 +27,31 @@ fn is_copied(rt: &(impl Abort + AllocGlobal), file: &TypeFile) {
     let copy = file.copy(rt.alloc()).expect(rt, "no memory");
     assert!(rt; copy.is_same(file) && copy.table.is_same(&file.table));
     is_written(rt, &copy, COUNTER.as_bytes());
+}
+
+/// Operations of the counter, and whether they conflict with update in place and with deferred update.
+static CONFLICTS: [(u8, u8, bool, bool); 4] = [
+    (0, 0, false, true),
+    (0, 1, true, false),
+    (1, 0, true, false),
+    (1, 1, false, true),
+];
+
+/// That this is the file of the counter.
+fn is_counter(rt: &impl Abort, file: &TypeFile) {
+    runs_lead(rt, &file.table, &RUNS);
+    assert!(rt; file.table.states() == 3 && file.table.initial() == 0);
+    assert!(rt; file.reach.has(0) && file.reach.has(1) && file.reach.has(2));
+    assert!(rt; has_equal_pairs_alone(&file.relation));
+    for (p, q, in_place, deferred) in &CONFLICTS {
+        assert!(rt; are_told(&file.undo, *p, *q, *in_place));
+        assert!(rt; are_told(&file.intentions, *p, *q, *deferred));
+    }
+}
+
+#[test]
+fn reads_the_counter(rt: HostRuntime) {
+    is_counter(&rt, &file_of(&rt, COUNTER.as_bytes()));
 }
 
 #[test]

@@ -26,31 +26,22 @@ fn name_of(rt: &impl Abort, text: &str) -> Name {
     Name::new(text).expect(rt, "no name")
 }
 
-fn op_of(rt: &impl Abort, call: &str, reply: &str) -> Op {
-    Op {
-        call: name_of(rt, call),
-        reply: name_of(rt, reply),
-    }
-}
-
 fn ops_of(rt: &(impl Abort + AllocGlobal), rows: &[(&str, &str)]) -> Vec<Op> {
     let mut ops = Vec::new(rt.alloc());
     for (call, reply) in rows {
-        ops.push(op_of(rt, call, reply)).expect(rt, "no memory");
+        let call = name_of(rt, call);
+        let reply = name_of(rt, reply);
+        ops.push(Op { call, reply }).expect(rt, "no memory");
     }
     ops
 }
 
 /// The table of these parts, or what is wrong with them.
-fn table_of(
-    rt: &(impl Abort + AllocGlobal),
-    name: &str,
-    parts: &Parts,
-) -> Result<TypeTable, TableError> {
+fn table_of(rt: &(impl Abort + AllocGlobal), parts: &Parts) -> Result<TypeTable, TableError> {
     let (states, initial, ops, steps) = *parts;
     let ops = ops_of(rt, ops);
     let steps = Vec::from_slice(rt.alloc(), steps).expect(rt, "no memory");
-    TypeTable::new(name_of(rt, name), states, initial, ops, steps)
+    TypeTable::new(name_of(rt, "made"), states, initial, ops, steps)
 }
 
 /// Texts, and which of them are names.
@@ -88,12 +79,12 @@ fn names_are_of_few_bytes(rt: HostRuntime) {
 }
 
 /// The table of these parts.
-pub fn good_table(rt: &(impl Abort + AllocGlobal), name: &str, parts: &Parts) -> TypeTable {
-    table_of(rt, name, parts).expect(rt, "no table")
+pub fn good_table(rt: &(impl Abort + AllocGlobal), parts: &Parts) -> TypeTable {
+    table_of(rt, parts).expect(rt, "no table")
 }
 
 /// A state, operations that are run from it in turn, and where they lead.
-static RUNS: [(u16, &[u8], Option<u16>); 5] = [
+pub static RUNS: [(u16, &[u8], Option<u16>); 5] = [
     (1, &[], Some(1)),
     (0, &[0, 0], Some(2)),
     (0, &[0, 0, 1, 1, 0], Some(1)),
@@ -102,7 +93,7 @@ static RUNS: [(u16, &[u8], Option<u16>); 5] = [
 ];
 
 /// That each of these runs leads there.
-fn runs_lead(rt: &impl Abort, table: &TypeTable, rows: &[(u16, &[u8], Option<u16>)]) {
+pub fn runs_lead(rt: &impl Abort, table: &TypeTable, rows: &[(u16, &[u8], Option<u16>)]) {
     for (s, ops, wanted) in rows {
         let are_there = *s < table.states() && ops.iter().all(|k| *k < table.op_count());
         assert!(rt; are_there && table.run(*s, ops) == *wanted);
@@ -111,8 +102,28 @@ fn runs_lead(rt: &impl Abort, table: &TypeTable, rows: &[(u16, &[u8], Option<u16
 
 #[test]
 fn counter_runs(rt: HostRuntime) {
-    let table = good_table(&rt, "counter", &COUNTER);
+    let table = good_table(&rt, &COUNTER);
     runs_lead(&rt, &table, &RUNS);
+}
+
+/// A queue of one state, of which two operations have one call.
+static QUEUE: Parts = (
+    1,
+    0,
+    &[("enq", "ok"), ("deq", "a"), ("deq", "b")],
+    &[Some(0), Some(0), None],
+);
+
+/// Operations of the queue, and whether they are of one call.
+static CALLS: [(u8, u8, bool); 4] = [(1, 2, true), (2, 1, true), (0, 0, true), (0, 1, false)];
+
+#[test]
+fn operations_of_one_call_are_told(rt: HostRuntime) {
+    let queue = good_table(&rt, &QUEUE);
+    for (k, c, is_same) in &CALLS {
+        let are_there = *k < queue.op_count() && *c < queue.op_count();
+        assert!(rt; are_there && queue.same_call(*k, *c) == *is_same);
+    }
 }
 
 /// Parts of a table, and what is wrong with them. Of two faults the earlier one is named.
@@ -152,7 +163,7 @@ static FAULTS: [(Parts, Option<TableError>); 12] = [
 /// That each of these parts have their fault.
 fn have_faults(rt: &(impl Abort + AllocGlobal), rows: &[(Parts, Option<TableError>)]) {
     for (parts, fault) in rows {
-        assert!(rt; table_of(rt, "made", parts).err() == *fault);
+        assert!(rt; table_of(rt, parts).err() == *fault);
     }
 }
 
@@ -187,7 +198,7 @@ static PAIRS: [(u8, u8, bool); 6] = [
 ];
 
 /// Whether two operations conflict, or don't, by themselves and by the row of the first.
-fn are_told(table: &ConflictTable, p: u8, q: u8, is_there: bool) -> bool {
+pub fn are_told(table: &ConflictTable, p: u8, q: u8, is_there: bool) -> bool {
     p < table.ops()
         && q < table.ops()
         && q < 64
