@@ -1,5 +1,6 @@
 //! Objects of any kind of recovery, their events, and their laws.
 
+pub mod boxed;
 pub mod one_entry;
 
 use object_trait::{

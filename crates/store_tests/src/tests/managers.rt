@@ -1,6 +1,6 @@
 //! Objects of either kind of recovery, by their managers.
 
-mod driven;
+pub mod driven;
 
 use self::driven::apply_next;
 use crate::tests::checked_types::checked_of;

@@ -12,7 +12,7 @@ use type_table::Operation;
 const MOST_ENTRIES: usize = 1000;
 
 /// Whether k is an operation of an object's type.
-fn has<R: Recovery>(object: &R, k: Operation) -> bool
+pub fn has<R: Recovery>(object: &R, k: Operation) -> bool
     ensures { result ≡ true → k < length (R.meaning object.now).checked.file.table.ops }
 {
     object.declared().has_op(k)

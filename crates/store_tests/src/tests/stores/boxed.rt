@@ -2,25 +2,13 @@
 //! own.
 
 use super::scripts::{Happened, Happening, Row, answers, is_closed, store_of};
-use crate::tests::any_objects::one_entry::OneEntry;
+use crate::tests::any_objects::boxed::made;
 use crate::tests::asked::{Ask, Told};
 use crate::tests::managers::{deferred, in_place};
 use object_trait::{AnyObject, Recovery};
 use serial_order::Refusal;
 use std::process::Abort;
-use table_checker::check;
 use test_support::type_texts::{COUNTER, TWIN};
-use type_table::Kind;
-use type_text::read_type;
-
-/// A new counter that has room for one entry.
-fn one_entry(rt: &(impl Abort + AllocGlobal)) -> OneEntry {
-    let file = read_type(rt.alloc(), COUNTER.as_bytes());
-    match check(file.ok().expect(rt, "no type"), Kind::Undo) {
-        Ok(checked) => OneEntry::new(checked),
-        Err(_) => panic!(rt; "not for update in place"),
-    }
-}
 
 /// A counter in place, a deferred object of the twin type, and a counter with room for one entry.
 fn boxes(rt: &(impl Abort + AllocGlobal)) -> Vec<AnyObject> {
@@ -29,7 +17,7 @@ fn boxes(rt: &(impl Abort + AllocGlobal)) -> Vec<AnyObject> {
     objects.push_reserved(AnyObject::new(object.expect(rt, "no memory")));
     let object = Box::new(rt.alloc(), deferred(rt, TWIN)).ok();
     objects.push_reserved(AnyObject::new(object.expect(rt, "no memory")));
-    let object = Box::new(rt.alloc(), one_entry(rt)).ok();
+    let object = Box::new(rt.alloc(), made(rt)).ok();
     objects.push_reserved(AnyObject::new(object.expect(rt, "no memory")));
     objects
 }
