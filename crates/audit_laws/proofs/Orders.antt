@@ -13,7 +13,7 @@ use Rattle.serial_order.specs.Operations.{is_among, ops, serial}
 use Rattle.serial_order.specs.History.{commits}
 use Rattle.serial_order.specs.Serial.{surviving_at}
 use Rattle.dynamic_atomicity.specs.Dynamic.{AreOnce, Dated, ComesAfterCommitted, IsOrderOf, KeepsLiving, RunsAreAtomicLiving, comes_first, dated}
-use Rattle.history_audit.specs.Audit.{AreLegal}
+use Rattle.history_judge.specs.Audit.{AreLegal}
 use Rattle.history_audit.specs.InOrder.{KeepsPrecedes, LegalOrdersPass, Precedes}
 use Rattle.history_audit.specs.Laws.{tables_of}
 use Rattle.audit_laws.specs.Laws.{KeptOrdersPass, LivingPrecedes}

@@ -9,7 +9,7 @@ use Rattle.dynamic_atomicity.specs.Dynamic.{Dated, dated}
 use Rattle.history_audit.specs.InOrder.{AuditsInOrder, KeepsPrecedes, PassesInOrder, Precedes}
 use Rattle.history_audit.specs.Laws.{tables_of}
 use Rattle.history_audit.specs.declared.in_order_fault.InOrderFault.{InOrderFault}
-use Rattle.history_audit.specs.declared.outcome.Audit.{Audit}
+use Rattle.history_judge.specs.declared.outcome.Audit.{Audit}
 
 -- what had committed when an operation that survives was executed precedes its transaction
 abbrev pub LivingPrecedes : Type 0

@@ -5,11 +5,11 @@ use Rattle.type_table.specs.Table.{Table}
 use Rattle.table_checker.specs.Checked.{Checked}
 use Rattle.object_trait.specs.declared.event.Event.{Event}
 use Rattle.object_types.specs.Types.{value_of}
-use Rattle.history_audit.specs.Audit as history
+use Rattle.history_judge.specs.Audit as history
 use Rattle.history_audit.specs.Text.{audit_text}
-use Rattle.history_audit.specs.declared.outcome.Audit.{Audit}
-use Rattle.history_audit.specs.declared.outcome.AuditFault.{AuditFault}
-use Rattle.history_audit.specs.declared.outcome.AuditFault.TheVariants.{BadEvent, IllegalOp, NoMemory}
+use Rattle.history_judge.specs.declared.outcome.Audit.{Audit}
+use Rattle.history_judge.specs.declared.outcome.AuditFault.{AuditFault}
+use Rattle.history_judge.specs.declared.outcome.AuditFault.TheVariants.{BadEvent, IllegalOp, NoMemory}
 use Rattle.sqlite_trees.specs.Tree.{Trees}
 use Rattle.journal.specs.Contents.{Contents}
 use Rattle.durable_store.specs.Types.{HasTypes}

@@ -3,11 +3,11 @@ use Rattle.std.specs.Prelude.{◌≡◌, ◌≢◌, ⊤, ℕ, List, map, Option,
 use Rattle.sqlite_trees.specs.Tree.{Trees}
 use Rattle.type_table.specs.Table.{Table}
 use Rattle.table_checker.specs.Checked.{Checked}
-use Rattle.history_audit.specs.Audit as history
+use Rattle.history_judge.specs.Audit as history
 use Rattle.history_audit.specs.Text.{audit_text}
-use Rattle.history_audit.specs.declared.outcome.Audit.{Audit}
-use Rattle.history_audit.specs.declared.outcome.AuditFault.{AuditFault}
-use Rattle.history_audit.specs.declared.outcome.AuditFault.TheVariants.{BadEvent, IllegalOp, NoMemory}
+use Rattle.history_judge.specs.declared.outcome.Audit.{Audit}
+use Rattle.history_judge.specs.declared.outcome.AuditFault.{AuditFault}
+use Rattle.history_judge.specs.declared.outcome.AuditFault.TheVariants.{BadEvent, IllegalOp, NoMemory}
 use Rattle.journal.specs.Contents.{Contents, contents_of}
 use Rattle.durable_store.specs.Types.{HasTypes}
 use Rattle.durable_store.specs.Durable.{events_of_kinds}

@@ -5,11 +5,11 @@ use Rattle.type_table.specs.Table.{Table}
 use Rattle.type_table.specs.Laws.{RunsAlong}
 use Rattle.object_trait.specs.declared.event.Event.{Event}
 use Rattle.serial_order.specs.History.{commits, summary, ContinuesHistory, AllContinue}
-use Rattle.history_audit.specs.Audit.{LeadToStates, IsFirstBad, ComesBefore, IsFirstIllegal}
+use Rattle.history_judge.specs.Audit.{LeadToStates, IsFirstBad, ComesBefore, IsFirstIllegal}
 use Rattle.history_audit.specs.Laws.{AuditsAgree, AlikeIsWritten}
 use Rattle.history_audit.specs.Text.{audit_text}
-use Rattle.history_audit.specs.declared.outcome.AuditFault.{AuditFault}
-use Rattle.history_audit.specs.declared.outcome.AuditFault.TheVariants.{BadEvent, IllegalOp, NoMemory}
+use Rattle.history_judge.specs.declared.outcome.AuditFault.{AuditFault}
+use Rattle.history_judge.specs.declared.outcome.AuditFault.TheVariants.{BadEvent, IllegalOp, NoMemory}
 use Rattle.history_audit.proofs.Serials.{leads-legal, serial-each, never-bad, continues-at}
 
 -- ---- lists

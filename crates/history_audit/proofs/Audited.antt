@@ -13,21 +13,21 @@ use Rattle.serial_order.specs.Operations.{of}
 use Rattle.serial_order.specs.History.{Summary, summary, commits, committed_by, surviving, IsHistory}
 use Rattle.serial_order.specs.After.{summary_next, SummaryAfter}
 use Rattle.serial_order.specs.Held.{OwnAfter}
-use Rattle.history_audit.specs.Judged.{IsHanded, StopsJudge, committed_as}
-use Rattle.history_audit.specs.Rows.{executed_of, operations_of}
-use Rattle.history_audit.specs.declared.committed.Committed.{Committed}
-use Rattle.history_audit.specs.Audit.{Audits}
-use Rattle.history_audit.specs.Replay.{AreStates}
-use Rattle.history_audit.specs.SerialRun.{AreInitial, IsSerialRunOf, RunsTo, ReplaysFrom}
+use Rattle.history_judge.specs.Judged.{IsHanded, StopsJudge, committed_as}
+use Rattle.history_judge.specs.Rows.{executed_of, operations_of}
+use Rattle.history_judge.specs.declared.committed.Committed.{Committed}
+use Rattle.history_judge.specs.Audit.{Audits}
+use Rattle.history_judge.specs.Replay.{AreStates}
+use Rattle.history_judge.specs.SerialRun.{AreInitial, IsSerialRunOf, RunsTo, ReplaysFrom}
 use Rattle.history_audit.specs.Auditor.{IsAuditing}
 use Rattle.history_audit.specs.declared.auditor.Auditor.{Auditor}
-use Rattle.history_audit.specs.declared.serial_run.Illegal.{Illegal}
-use Rattle.history_audit.specs.declared.serial_run.SerialRun.{SerialRun}
-use Rattle.history_audit.specs.declared.outcome.Audit.{Audit}
-use Rattle.history_audit.specs.declared.outcome.AuditFault.{AuditFault}
-use Rattle.history_audit.specs.declared.outcome.AuditFault.TheVariants.{BadEvent, IllegalOp, NoMemory}
+use Rattle.history_judge.specs.declared.serial_run.Illegal.{Illegal}
+use Rattle.history_judge.specs.declared.serial_run.SerialRun.{SerialRun}
+use Rattle.history_judge.specs.declared.outcome.Audit.{Audit}
+use Rattle.history_judge.specs.declared.outcome.AuditFault.{AuditFault}
+use Rattle.history_judge.specs.declared.outcome.AuditFault.TheVariants.{BadEvent, IllegalOp, NoMemory}
 use Rattle.history_audit.proofs.RunOn.{run-taken}
-use Rattle.history_audit.proofs.Kept.{KeepsCommitted, keeps-committed, run-kept}
+use Rattle.history_judge.proofs.Kept.{KeepsCommitted, keeps-committed, run-kept}
 
 -- ---- before the first event
 

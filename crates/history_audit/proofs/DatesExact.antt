@@ -11,7 +11,7 @@ use Rattle.serial_order.specs.History.{commits, committed_by, aborts, aborted_by
 use Rattle.serial_order.specs.Readings.{is_op_of, is_rolled_back, stays}
 use Rattle.history_audit.specs.OrderTests.{IsDate}
 use Rattle.history_audit.specs.Dates.{date_from}
-use Rattle.history_audit.proofs.Lists.{among-rest}
+use Rattle.history_judge.proofs.Lists.{among-rest}
 
 -- ---- the first of some transactions
 

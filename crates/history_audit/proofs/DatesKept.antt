@@ -18,7 +18,7 @@ use Rattle.history_audit.specs.Dates.{AreDatesFrom, date_from, taken_before}
 use Rattle.history_audit.specs.declared.dates.Dates.{Dates}
 use Rattle.history_audit.specs.OrderTests.{IsDate}
 use Rattle.history_audit.proofs.DatesExact.{dated}
-use Rattle.history_audit.proofs.Lists.{apart}
+use Rattle.history_judge.proofs.Lists.{apart}
 
 -- ---- what these events take back
 

@@ -22,10 +22,10 @@ use Rattle.serial_order.specs.Epochs as epochs
 use Rattle.serial_order.proofs.EpochTypes.{length-types_at}
 use Rattle.history_audit.specs.Laws.{tables_of}
 use Rattle.history_audit.specs.Epochs.{AreHistories, AreSerialOver, EpochsDecide, EpochsPass, PassEpochs, serial_over_histories}
-use Rattle.history_audit.specs.declared.outcome.Audit.{Audit}
-use Rattle.history_audit.specs.declared.outcome.AuditFault.{AuditFault}
-use Rattle.history_audit.specs.declared.outcome.AuditFault.TheVariants.{BadEvent, IllegalOp, NoMemory}
-use Rattle.history_audit.specs.declared.outcome.EpochFault.{EpochFault}
+use Rattle.history_judge.specs.declared.outcome.Audit.{Audit}
+use Rattle.history_judge.specs.declared.outcome.AuditFault.{AuditFault}
+use Rattle.history_judge.specs.declared.outcome.AuditFault.TheVariants.{BadEvent, IllegalOp, NoMemory}
+use Rattle.history_audit.specs.declared.epoch_fault.EpochFault.{EpochFault}
 
 -- the tables of checked types
 abbrev tables : List Checked → List Table

@@ -9,8 +9,8 @@ use Rattle.serial_order.specs.Operations.{ops}
 use Rattle.serial_order.specs.History.{commits}
 use Rattle.serial_order.specs.Serial.{serial_at}
 use Rattle.serial_order.specs.Examples.{one_way_history, unlocked_history, two_objects_history}
-use Rattle.history_audit.specs.Audit.{IsAudit, IsIllegalAt, IsFirstIllegal, ComesBefore}
-use Rattle.history_audit.specs.Examples.{two_counters}
+use Rattle.history_judge.specs.Audit.{IsAudit, IsIllegalAt, IsFirstIllegal, ComesBefore}
+use Rattle.history_judge.specs.Examples.{two_counters}
 
 -- the state at an object of a known table
 pub state-at : (H : List Event) (x : ℕ) (known T : Table) (before s : ℕ) → run known (Some known.initial) (ops (serial_at x H)) ≡ Some before

@@ -11,14 +11,14 @@ use Rattle.serial_order.specs.History.{commits, committed_by, is_begin, summary}
 use Rattle.serial_order.specs.After.{SummaryAfter}
 use Rattle.serial_order.specs.Held.{OwnAfter}
 use Rattle.history_audit.specs.Commits.{AreCommits, IsCommittedOf, numbers}
-use Rattle.history_audit.specs.Judged.{IsJudged, IsHanded}
-use Rattle.history_audit.specs.Rows.{executed_of, operations_of}
-use Rattle.history_audit.specs.Replay.{AreOperations}
-use Rattle.history_audit.specs.declared.committed.Committed.{Committed}
-use Rattle.history_audit.specs.declared.executed.Executed.{Executed}
+use Rattle.history_judge.specs.Judged.{IsJudged, IsHanded}
+use Rattle.history_judge.specs.Rows.{executed_of, operations_of}
+use Rattle.history_judge.specs.Replay.{AreOperations}
+use Rattle.history_judge.specs.declared.committed.Committed.{Committed}
+use Rattle.history_judge.specs.declared.executed.Executed.{Executed}
 use Rattle.history_audit.proofs.Audited.{commit-of, kept-at, lives-on, none-of}
-use Rattle.history_audit.proofs.Kept.{same-own}
-use Rattle.history_audit.proofs.Lists.{among-at}
+use Rattle.history_judge.proofs.Kept.{same-own}
+use Rattle.history_judge.proofs.Lists.{among-at}
 
 -- what is at a place of the transactions is, by its number, among the committed ones
 number-among : (tables : List Table) (H : List Event) (them : List Committed) (n : ℕ) (c : Committed) → AreCommits tables H them → slice_get them n ≡ Some c → is_among (commits H) c.number ≡ true

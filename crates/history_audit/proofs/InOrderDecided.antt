@@ -5,10 +5,10 @@ use Rattle.type_table.specs.Table.{Table}
 use Rattle.type_table.specs.Laws.{RunsAlong}
 use Rattle.object_trait.specs.declared.event.Event.{Event}
 use Rattle.serial_order.specs.History.{IsHistory}
-use Rattle.history_audit.specs.Audit.{AreLegal}
+use Rattle.history_judge.specs.Audit.{AreLegal}
 use Rattle.history_audit.specs.InOrder.{AuditsInOrder, HasOrderFault, InOrderDecides, KeepsPrecedes, LegalOrdersPass, PassesInOrder}
-use Rattle.history_audit.specs.declared.outcome.Audit.{Audit}
-use Rattle.history_audit.specs.declared.outcome.AuditFault.TheVariants.{BadEvent, IllegalOp, NoMemory}
+use Rattle.history_judge.specs.declared.outcome.Audit.{Audit}
+use Rattle.history_judge.specs.declared.outcome.AuditFault.TheVariants.{BadEvent, IllegalOp, NoMemory}
 use Rattle.history_audit.specs.declared.in_order_fault.InOrderFault.{InOrderFault}
 use Rattle.history_audit.specs.declared.in_order_fault.InOrderFault.TheVariants as no
 use Rattle.history_audit.specs.declared.in_order_fault.OrderFault.{OrderFault}

@@ -1,5 +1,3 @@
-pub mod Rows
-pub mod Judged
 pub mod PlacedTexts
 pub mod Serials
 pub mod Said
@@ -7,11 +5,7 @@ pub mod EpochTables
 pub mod EpochAudits
 pub mod SerialsOver
 pub mod EpochsPassed
-pub mod Lists
-pub mod Replayed
-pub mod Kept
 pub mod RunOn
-pub mod Taken
 pub mod Audited
 pub mod Gathered
 pub mod DatesExact

@@ -15,15 +15,15 @@ use Rattle.serial_order.proofs.Lists.{is_among-none_more, is_among-one_more, is_
 use Rattle.history_audit.specs.Commits.{AreIndexes, IsIndexOf, numbers, index_in}
 use Rattle.history_audit.specs.InOrder.{AreCommitted, AuditsInOrder, HasAll, IsLeastAbsent, IsMissing, IsNotCommitted, IsTwice, KeepsPrecedes, KeepsPrecedesAt}
 use Rattle.history_audit.specs.OrderTests.{AllMarked, AreDates, AreMarked, IsLeastUnmarked, KeepsDatesAt, RunsInOrder, StopsOrder}
-use Rattle.history_audit.specs.declared.committed.Committed.{Committed}
+use Rattle.history_judge.specs.declared.committed.Committed.{Committed}
 use Rattle.history_audit.specs.declared.in_order_fault.InOrderFault.{InOrderFault}
 use Rattle.history_audit.specs.declared.in_order_fault.InOrderFault.TheVariants as no
 use Rattle.history_audit.specs.declared.in_order_fault.OrderFault.TheVariants as order
-use Rattle.history_audit.specs.declared.outcome.Audit.{Audit}
-use Rattle.history_audit.specs.declared.outcome.AuditFault.{AuditFault}
-use Rattle.history_audit.specs.declared.outcome.AuditFault.TheVariants.{BadEvent, IllegalOp, NoMemory}
+use Rattle.history_judge.specs.declared.outcome.Audit.{Audit}
+use Rattle.history_judge.specs.declared.outcome.AuditFault.{AuditFault}
+use Rattle.history_judge.specs.declared.outcome.AuditFault.TheVariants.{BadEvent, IllegalOp, NoMemory}
 use Rattle.history_audit.proofs.DatesExact.{among-more}
-use Rattle.history_audit.proofs.Lists.{among-at, among-take, apart}
+use Rattle.history_judge.proofs.Lists.{among-at, among-take, apart}
 
 -- ---- the numbers of transactions
 

@@ -14,8 +14,8 @@ use Rattle.object_trait.specs.declared.event.EventKind.TheVariants as kind
 use Rattle.serial_order.specs.Operations.{ops}
 use Rattle.serial_order.specs.History.{commits, IsHistory}
 use Rattle.serial_order.specs.Serial.{serial_at}
-use Rattle.history_audit.specs.Audit.{IsAudit, IsIllegalAt, IsFirstIllegal}
-use Rattle.history_audit.specs.Examples.{one_purse, purse_history, early_history, give_any, take_any, purse_value, IsBadFirst}
+use Rattle.history_judge.specs.Audit.{IsAudit, IsIllegalAt, IsFirstIllegal}
+use Rattle.history_judge.specs.Examples.{one_purse, purse_history, early_history, give_any, take_any, purse_value, IsBadFirst}
 use Rattle.history_audit.proofs.Examples.{state-at, none-before}
 
 -- what the purse has an operation for

@@ -15,17 +15,17 @@ use Rattle.serial_order.specs.Operations.{ops, of, serial}
 use Rattle.serial_order.specs.History.{summary, surviving}
 use Rattle.serial_order.specs.Serial.{surviving_at}
 use Rattle.serial_order.specs.declared.entry.Entry.{Entry}
-use Rattle.history_audit.specs.Rows.{operations_of}
-use Rattle.history_audit.specs.declared.executed.Executed.{Executed}
-use Rattle.history_audit.specs.Audit.{LeadToStates, IsIllegalAt, IsFirstIllegal, serial_up_to}
-use Rattle.history_audit.specs.Replay.{ops_at, AreStates, is_stopped_at, StopsReplayAt, AreReplayed}
-use Rattle.history_audit.specs.SerialRun.{IsSerialRunOf, RunsTo, ReplaysFrom, illegal_at}
-use Rattle.history_audit.specs.declared.serial_run.Illegal.{Illegal}
-use Rattle.history_audit.specs.declared.serial_run.SerialRun.{SerialRun}
-use Rattle.history_audit.specs.declared.replay.Stop.{Stop}
-use Rattle.history_audit.proofs.Kept.{first-more, illegal-front}
-use Rattle.history_audit.proofs.Lists.{take-and_next, own-ops, ops_at-split}
-use Rattle.history_audit.proofs.Serials.{found, stuck-along, leads-legal, serial-each}
+use Rattle.history_judge.specs.Rows.{operations_of}
+use Rattle.history_judge.specs.declared.executed.Executed.{Executed}
+use Rattle.history_judge.specs.Audit.{LeadToStates, IsIllegalAt, IsFirstIllegal, serial_up_to}
+use Rattle.history_judge.specs.Replay.{ops_at, AreStates, is_stopped_at, StopsReplayAt, AreReplayed}
+use Rattle.history_judge.specs.SerialRun.{IsSerialRunOf, RunsTo, ReplaysFrom, illegal_at}
+use Rattle.history_judge.specs.declared.serial_run.Illegal.{Illegal}
+use Rattle.history_judge.specs.declared.serial_run.SerialRun.{SerialRun}
+use Rattle.history_judge.specs.declared.replay.Stop.{Stop}
+use Rattle.history_judge.proofs.Kept.{first-more, illegal-front}
+use Rattle.history_judge.proofs.Lists.{found, take-and_next, own-ops, ops_at-split}
+use Rattle.history_audit.proofs.Serials.{stuck-along, leads-legal, serial-each}
 
 module _ (along : RunsAlong) (tables : List Table) (H : List Event) (ts : List ℕ) (t : ℕ) (its : List Executed) (are : its ≡ operations_of t (summary H))
     (old : List ℕ) (known : LeadToStates tables H ts old) where

@@ -6,11 +6,11 @@ use Rattle.type_table.specs.Laws.{RunsAlong}
 use Rattle.object_trait.specs.declared.event.Event.{Event}
 use Rattle.serial_order.specs.History.{commits, IsHistory}
 use Rattle.serial_order.specs.Laws.{RunIsHistory, Headline}
-use Rattle.history_audit.specs.Audit.{Audits, AreSerial}
+use Rattle.history_judge.specs.Audit.{Audits, AreSerial}
 use Rattle.history_audit.specs.Laws.{tables_of, YesIsSerial, Passes, SerialHistoriesPass, RunsPass, AuditDecides}
-use Rattle.history_audit.specs.declared.outcome.Audit.{Audit}
-use Rattle.history_audit.specs.declared.outcome.AuditFault.{AuditFault}
-use Rattle.history_audit.specs.declared.outcome.AuditFault.TheVariants.{BadEvent, IllegalOp, NoMemory}
+use Rattle.history_judge.specs.declared.outcome.Audit.{Audit}
+use Rattle.history_judge.specs.declared.outcome.AuditFault.{AuditFault}
+use Rattle.history_judge.specs.declared.outcome.AuditFault.TheVariants.{BadEvent, IllegalOp, NoMemory}
 use Rattle.history_audit.proofs.Serials.{leads-legal, of_tables, of_objects, serial-each, never-bad}
 
 pub yes_is_serial : YesIsSerial

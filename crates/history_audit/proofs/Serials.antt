@@ -1,5 +1,5 @@
 -- When the serial order is legal at each object: by tables and by objects, and what it says of each operation.
-use Rattle.std.proofs.Common.{◌≡◌, ℕ, zero, suc, List, [], ◌∷◌, ◌++◌, length, take, drop, Option, Some, None, option_map, slice_get, refl, sym, ap, subst, ◌∙◌, append_assoc, append-nil, arith}
+use Rattle.std.proofs.Common.{◌≡◌, ℕ, zero, suc, List, [], ◌∷◌, ◌++◌, take, drop, Option, Some, None, option_map, slice_get, refl, sym, ap, subst, ◌∙◌, append_assoc, append-nil}
 use Rattle.std.proofs.lemmas.Bool.{false≢true}
 use Rattle.std.proofs.lemmas.List.{map-append, take-append-drop}
 use Rattle.std.proofs.lemmas.Option.{none-some, same_Some, slice_get-map}
@@ -13,17 +13,11 @@ use Rattle.serial_order.specs.Operations.{ops, of, serial}
 use Rattle.serial_order.specs.History.{summary, ContinuesHistory, AllContinue, IsHistory}
 use Rattle.serial_order.specs.Serial.{surviving_at, serial_at, IsSerial}
 use Rattle.serial_order.specs.declared.entry.Entry.{Entry}
-use Rattle.history_audit.specs.Audit.{LeadToStates, IsFirstBad, IsIllegalAt, AreLegal, AreSerial}
+use Rattle.history_judge.proofs.Lists.{found}
+use Rattle.history_judge.specs.Audit.{LeadToStates, IsFirstBad, IsIllegalAt, AreLegal, AreSerial}
 use Rattle.history_audit.specs.Laws.{tables_of}
 
 -- ---- a yes
-
--- what is at a place of a list that is as long
-pub found : {A B : Type 0} (xs : List A) (ys : List B) (x : ℕ) (a : A) → length ys ≡ length xs → slice_get xs x ≡ Some a → (b : B) × (slice_get ys x ≡ Some b)
-found [] ys x a same at = absurd (none-some a at)
-found (z ∷ xs) [] x a same at = absurd (omega (arith, same))
-found (z ∷ xs) (b ∷ ys) zero a same at = (b, refl)
-found (z ∷ xs) (b ∷ ys) (suc x) a same at = found xs ys x a (omega (arith, same)) at
 
 -- where an order leads to a state at each object, it is legal there
 pub leads-legal : (tables : List Table) (H : List Event) (ts finals : List ℕ) → LeadToStates tables H ts finals → AreLegal tables H ts

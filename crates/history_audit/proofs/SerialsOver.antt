@@ -13,14 +13,15 @@ use Rattle.object_trait.specs.declared.event.EventKind.TheVariants.{Begin, Op, B
 use Rattle.serial_order.specs.Operations.{ops}
 use Rattle.serial_order.specs.History.{Summary, commits, summary, IsOperation, IsOperationPlace, ContinuesHistory, AllContinue, IsHistory}
 use Rattle.serial_order.specs.Serial.{serial_at}
-use Rattle.history_audit.specs.Audit.{AreSerial}
+use Rattle.history_judge.specs.Audit.{AreSerial}
 use Rattle.history_audit.specs.Epochs.{tables_at, tables_after, AreAudits, HasEpochFault, AuditsEpochs, serial_over_histories, AreSerialOver, AreHistories, YesIsSerialOver, EpochsDecide}
-use Rattle.history_audit.specs.declared.outcome.Audit.{Audit}
-use Rattle.history_audit.specs.declared.outcome.AuditFault.{AuditFault}
-use Rattle.history_audit.specs.declared.outcome.AuditFault.TheVariants.{BadEvent, IllegalOp, NoMemory}
-use Rattle.history_audit.specs.declared.outcome.EpochFault.{EpochFault}
+use Rattle.history_judge.specs.declared.outcome.Audit.{Audit}
+use Rattle.history_judge.specs.declared.outcome.AuditFault.{AuditFault}
+use Rattle.history_judge.specs.declared.outcome.AuditFault.TheVariants.{BadEvent, IllegalOp, NoMemory}
+use Rattle.history_audit.specs.declared.epoch_fault.EpochFault.{EpochFault}
 use Rattle.type_table.proofs.Legal.{legal-front, legal-behind}
-use Rattle.history_audit.proofs.Serials.{found, serial-each, never-bad}
+use Rattle.history_audit.proofs.Serials.{serial-each, never-bad}
+use Rattle.history_judge.proofs.Lists.{found}
 
 -- ---- tables that begin at other states
 

@@ -3,8 +3,8 @@ use Rattle.std.specs.Prelude.{List}
 use Rattle.type_table.specs.Table.{Table}
 use Rattle.object_trait.specs.declared.event.Event.{Event}
 use Rattle.serial_order.specs.History.{commits}
-use Rattle.history_audit.specs.Judged.{IsJudged}
-use Rattle.history_audit.specs.SerialRun.{IsSerialRunOf}
+use Rattle.history_judge.specs.Judged.{IsJudged}
+use Rattle.history_judge.specs.SerialRun.{IsSerialRunOf}
 use Rattle.history_audit.specs.declared.auditor.Auditor.{Auditor}
 
 -- the events are a history, whose committed transactions were run in commit order

@@ -5,9 +5,9 @@ use Rattle.type_table.specs.Table.{Table}
 use Rattle.object_trait.specs.declared.event.Event.{Event}
 use Rattle.serial_order.specs.Operations.{is_among}
 use Rattle.serial_order.specs.History.{aborts, commits, summary}
-use Rattle.history_audit.specs.Rows.{operations_of}
-use Rattle.history_audit.specs.Replay.{AreOperations}
-use Rattle.history_audit.specs.declared.committed.Committed.{Committed}
+use Rattle.history_judge.specs.Rows.{operations_of}
+use Rattle.history_judge.specs.Replay.{AreOperations}
+use Rattle.history_judge.specs.declared.committed.Committed.{Committed}
 
 abbrev pub numbers : List Committed → List ℕ
 numbers them = map (λ (c : Committed). c.number) them

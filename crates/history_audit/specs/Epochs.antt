@@ -11,11 +11,11 @@ use Rattle.serial_order.specs.History.{IsHistory}
 use Rattle.serial_order.specs.Laws.{AreChecked}
 use Rattle.serial_order.specs.Serial.{serial_at}
 use Rattle.serial_order.specs.Epochs.{AreEpochs, Epoch}
-use Rattle.history_audit.specs.Audit.{Audits}
-use Rattle.history_audit.specs.declared.outcome.Audit.{Audit}
-use Rattle.history_audit.specs.declared.outcome.AuditFault.{AuditFault}
-use Rattle.history_audit.specs.declared.outcome.AuditFault.TheVariants.{NoMemory}
-use Rattle.history_audit.specs.declared.outcome.EpochFault.{EpochFault}
+use Rattle.history_judge.specs.Audit.{Audits}
+use Rattle.history_judge.specs.declared.outcome.Audit.{Audit}
+use Rattle.history_judge.specs.declared.outcome.AuditFault.{AuditFault}
+use Rattle.history_judge.specs.declared.outcome.AuditFault.TheVariants.{NoMemory}
+use Rattle.history_audit.specs.declared.epoch_fault.EpochFault.{EpochFault}
 
 -- each table, beginning at the state that is given for it
 abbrev pub tables_at : List Table → List ℕ → List Table

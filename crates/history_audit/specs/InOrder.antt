@@ -5,9 +5,9 @@ use Rattle.object_trait.specs.declared.event.Event.{Event}
 use Rattle.serial_order.specs.Operations.{is_among}
 use Rattle.serial_order.specs.History.{commits, IsHistory}
 use Rattle.serial_order.specs.Readings.{is_op_of, stays}
-use Rattle.history_audit.specs.Audit.{AreLegal, LeadToStates, IsFirstBad, IsFirstIllegal}
-use Rattle.history_audit.specs.declared.outcome.Audit.{Audit}
-use Rattle.history_audit.specs.declared.outcome.AuditFault.TheVariants.{BadEvent, IllegalOp, NoMemory}
+use Rattle.history_judge.specs.Audit.{AreLegal, LeadToStates, IsFirstBad, IsFirstIllegal}
+use Rattle.history_judge.specs.declared.outcome.Audit.{Audit}
+use Rattle.history_judge.specs.declared.outcome.AuditFault.TheVariants.{BadEvent, IllegalOp, NoMemory}
 use Rattle.history_audit.specs.declared.in_order_fault.InOrderFault.{InOrderFault}
 use Rattle.history_audit.specs.declared.in_order_fault.InOrderFault.TheVariants as no
 use Rattle.history_audit.specs.declared.in_order_fault.OrderFault.{OrderFault}

@@ -6,11 +6,11 @@ use Rattle.object_trait.specs.declared.event.Event.{Event}
 use Rattle.serial_order.specs.History.{IsHistory}
 use Rattle.serial_order.specs.Machine.{IsRun, AreCovered}
 use Rattle.serial_order.specs.Serial.{IsSerial}
-use Rattle.history_audit.specs.Audit.{Audits, AreSerial}
+use Rattle.history_judge.specs.Audit.{Audits, AreSerial}
 use Rattle.history_audit.specs.Text.{audit_text}
-use Rattle.history_audit.specs.declared.outcome.Audit.{Audit}
-use Rattle.history_audit.specs.declared.outcome.AuditFault.{AuditFault}
-use Rattle.history_audit.specs.declared.outcome.AuditFault.TheVariants.{NoMemory}
+use Rattle.history_judge.specs.declared.outcome.Audit.{Audit}
+use Rattle.history_judge.specs.declared.outcome.AuditFault.{AuditFault}
+use Rattle.history_judge.specs.declared.outcome.AuditFault.TheVariants.{NoMemory}
 
 -- the tables of objects
 abbrev pub tables_of : List Object → List Table

@@ -1,13 +1,5 @@
-pub mod Rows
-pub mod Moves
-pub mod Slots
-pub mod Judges
-pub mod Audit
 pub mod InOrder
 pub mod Epochs
-pub mod Replay
-pub mod Judged
-pub mod SerialRun
 pub mod Auditor
 pub mod Commits
 pub mod OrderTests
@@ -15,4 +7,3 @@ pub mod Dates
 pub mod Text
 pub mod EpochText
 pub mod Laws
-pub mod Examples

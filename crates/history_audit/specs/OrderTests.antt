@@ -4,13 +4,13 @@ use Rattle.type_table.specs.Table.{Table}
 use Rattle.object_trait.specs.declared.event.Event.{Event}
 use Rattle.serial_order.specs.Operations.{is_among}
 use Rattle.serial_order.specs.History.{commits}
-use Rattle.history_audit.specs.Audit.{LeadToStates, IsFirstIllegal}
+use Rattle.history_judge.specs.Audit.{LeadToStates, IsFirstIllegal}
 use Rattle.history_audit.specs.InOrder.{HasOrderFault, Precedes}
 use Rattle.history_audit.specs.declared.in_order_fault.InOrderFault.{InOrderFault}
 use Rattle.history_audit.specs.declared.in_order_fault.InOrderFault.TheVariants as no
-use Rattle.history_audit.specs.declared.outcome.Audit.{Audit}
-use Rattle.history_audit.specs.declared.outcome.AuditFault.{AuditFault}
-use Rattle.history_audit.specs.declared.outcome.AuditFault.TheVariants.{BadEvent, IllegalOp, NoMemory}
+use Rattle.history_judge.specs.declared.outcome.Audit.{Audit}
+use Rattle.history_judge.specs.declared.outcome.AuditFault.{AuditFault}
+use Rattle.history_judge.specs.declared.outcome.AuditFault.TheVariants.{BadEvent, IllegalOp, NoMemory}
 
 -- why a test stops: the order may not be asked for, or memory was refused
 abbrev pub StopsOrder : List Event → List ℕ → InOrderFault → Type 0

@@ -3,15 +3,12 @@
 ghost use Rattle.std.specs.Prelude.{◌≡◌, ◌+◌, ◌<◌, [], map, length, take, Err, IfOk, MatchResult, MatchOption};
 ghost use Rattle.std.specs.Result.{IsOkAnd};
 ghost use Rattle.declared_types.specs.Declarations.{table_of};
-ghost use Rattle.history_audit.specs.Audit.{Audits};
+ghost use Rattle.history_judge.specs.Audit.{Audits};
 ghost use Rattle.history_audit.specs.Auditor.{IsAuditing};
-ghost use Rattle.history_audit.specs.Replay.{AreStates};
+ghost use Rattle.history_judge.specs.Replay.{AreStates};
 
-use crate::judge::Judge;
-use crate::laws::nothing_began;
-use crate::outcome::{Audit, AuditFault};
-use crate::serial_run::SerialRun;
 use declared_types::DeclaredType;
+use history_judge::{Audit, AuditFault, Judge, SerialRun, nothing_began};
 use object_trait::Event;
 use serial_order::{own_after, summary_after};
 use std::alloc::{AllocError, Global};

@@ -5,13 +5,10 @@ ghost use Rattle.std.specs.List.{AllByRecursion};
 ghost use Rattle.declared_types.specs.Declarations.{table_of};
 ghost use Rattle.serial_order.specs.History.{IsHistory};
 ghost use Rattle.history_audit.specs.Commits.{AreCommits, AreIndexes, IsIndexOf, NoneAborts, numbers};
-ghost use Rattle.history_audit.specs.Judged.{StopsJudge};
+ghost use Rattle.history_judge.specs.Judged.{StopsJudge};
 
-use crate::committed::Committed;
-use crate::judge::Judge;
-use crate::laws::nothing_began;
-use crate::outcome::AuditFault;
 use declared_types::DeclaredType;
+use history_judge::{AuditFault, Committed, Judge, nothing_began};
 use object_trait::Event;
 use serial_order::{own_after, summary_after};
 use std::alloc::{AllocError, Global};
@@ -29,7 +26,7 @@ impl Model for Commits {
     ghost use Rattle.std.specs.Prelude.{List, length};
     ghost use Rattle.std.specs.List.{AllByRecursion};
     ghost use Rattle.history_audit.specs.Commits.{AreIndexed};
-    ghost use Rattle.history_audit.specs.declared.committed.Committed.{Committed};
+    ghost use Rattle.history_judge.specs.declared.committed.Committed.{Committed};
 
     ghost Value = { List Committed };
 

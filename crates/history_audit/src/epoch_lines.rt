@@ -5,10 +5,11 @@ ghost use Rattle.std.specs.List.{flat_map, enumerate_from};
 ghost use Rattle.outputs.specs.Out.{Puts};
 ghost use Rattle.history_audit.specs.EpochText.{commit_line_in, epochs_text, epoch_fault_line, finals_of, order_lines};
 ghost use Rattle.history_audit.specs.Text.{serial_line};
-ghost use Rattle.history_audit.specs.declared.outcome.AuditFault.TheVariants.{BadEvent, IllegalOp};
+ghost use Rattle.history_judge.specs.declared.outcome.AuditFault.TheVariants.{BadEvent, IllegalOp};
 
-use crate::outcome::{Audit, AuditFault, EpochFault};
+use crate::epoch_fault::EpochFault;
 use crate::write::write_finals;
+use history_judge::{Audit, AuditFault};
 use itoa::Buffer;
 use outputs::{Out, OutFault, items_in_turn, put_all, put_line, texts_in_turn};
 

@@ -2,9 +2,9 @@
 
 ghost use Rattle.std.specs.Prelude.{◌≡◌};
 ghost use Rattle.history_audit.specs.declared.in_order_fault.InOrderFault.TheVariants.{Audit};
-ghost use Rattle.history_audit.specs.declared.outcome.AuditFault.TheVariants.{NoMemory};
+ghost use Rattle.history_judge.specs.declared.outcome.AuditFault.TheVariants.{NoMemory};
 
-use crate::outcome::AuditFault;
+use history_judge::AuditFault;
 use std::alloc::{AllocError, AllocFailed};
 
 /// Why an order of transactions may not be asked for.

@@ -2,13 +2,14 @@
 
 ghost use Rattle.std.specs.Prelude.{◌≡◌, Ok, Err, map, IfOk, MatchResult};
 ghost use Rattle.declared_types.specs.Declarations.{table_of};
-ghost use Rattle.history_audit.specs.Audit.{Audits};
+ghost use Rattle.history_judge.specs.Audit.{Audits};
 ghost use Rattle.history_audit.specs.Epochs.{AuditsEpochs, tables_at};
-ghost use Rattle.history_audit.specs.Replay.{AreStates};
+ghost use Rattle.history_judge.specs.Replay.{AreStates};
 
 use crate::auditor::audit;
-use crate::outcome::{Audit, AuditFault, EpochFault};
+use crate::epoch_fault::EpochFault;
 use declared_types::DeclaredType;
+use history_judge::{Audit, AuditFault};
 use object_trait::Event;
 use std::alloc::{AllocError, Global};
 

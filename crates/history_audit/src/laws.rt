@@ -1,11 +1,7 @@
 //! Laws of the audit: each is a function that does nothing, whose contract is the law.
 
-ghost use Rattle.std.specs.Prelude.{[]};
-ghost use Rattle.serial_order.specs.History.{summary};
-ghost use Rattle.history_audit.specs.Rows.{AreRowsOf};
 ghost use Rattle.history_audit.specs.Epochs.{EpochsDecide, EpochsPass, YesIsSerialOver};
 ghost use Rattle.history_audit.specs.InOrder.{InOrderDecides, LegalOrdersPass};
-ghost use Rattle.history_audit.specs.Moves.{MovedRowsAgree};
 ghost use Rattle.history_audit.specs.Laws.{YesIsSerial, SerialHistoriesPass, RunsPass, AuditDecides, AuditsAgree, AlikeIsWritten};
 
 use serial_order::{
@@ -60,20 +56,6 @@ pub fn in_order_decides()
     ensures { InOrderDecides }
 {
     runs_along();
-}
-
-/// Before the first event there are no rows.
-pub fn nothing_began()
-    ensures { AreRowsOf [] (summary []) }
-{}
-
-/// Where rows agree with some events, the rows to which one more leads agree with these and it.
-pub fn moved_rows_agree()
-    ensures { MovedRowsAgree }
-{
-    summary_after();
-    history_opens_after();
-    own_after();
 }
 
 /// Two audits of the same events over the same tables say the same, and have the same lines, where

@@ -4,26 +4,20 @@
 
 mod auditor;
 mod commits;
-mod committed;
 mod dates;
+mod epoch_fault;
 mod epoch_lines;
-mod event_fault;
-mod executed;
 mod in_order;
 mod in_order_fault;
 mod in_turn;
-mod judge;
 mod laws;
-mod operations;
 mod order_tests;
-mod outcome;
-mod replay;
-mod serial_run;
-mod slots;
 mod write;
 
 pub use auditor::audit;
+pub use epoch_fault::EpochFault;
 pub use epoch_lines::write_epochs;
+pub use history_judge::{Audit, AuditFault};
 pub use in_order::audit_in_order;
 pub use in_order_fault::{InOrderFault, OrderFault};
 pub use in_turn::audit_epochs;
@@ -31,7 +25,6 @@ pub use laws::{
     audit_decides, audits_agree, epochs_decide, epochs_pass, in_order_decides, legal_orders_pass,
     runs_pass, serial_histories_pass, yes_is_serial, yes_is_serial_over,
 };
-pub use outcome::{Audit, AuditFault, EpochFault};
 pub use outputs::{Out, OutFault};
 pub use write::write_audit;
 

@@ -10,8 +10,8 @@ ghost use Rattle.history_audit.specs.InOrder.{AreCommitted, HasAll};
 ghost use Rattle.history_audit.specs.OrderTests.{AllMarked, AreDates, AreMarked, IsLeastUnmarked, KeepsDatesAt, StopsOrder};
 
 use crate::commits::Commits;
-use crate::committed::Committed;
 use crate::in_order_fault::{InOrderFault, OrderFault};
+use history_judge::Committed;
 use std::alloc::Global;
 
 /// Whether each of these committed, and none is there twice. Hands out which are there, by their numbers.

@@ -7,8 +7,8 @@ ghost use Rattle.type_table.specs.Examples.{counter_table};
 ghost use Rattle.type_table.specs.Operation.{operation_at};
 ghost use Rattle.object_trait.specs.declared.event.EventKind.TheVariants as kind;
 ghost use Rattle.serial_order.specs.History.{commits, IsHistory};
-ghost use Rattle.history_audit.specs.Audit.{IsAudit, IsFirstBad, IsFirstIllegal};
-ghost use Rattle.history_audit.specs.Examples.{one_purse, purse_history, early_history, amount_history, IsBadFirst, give_any, take_any, purse_value};
+ghost use Rattle.history_judge.specs.Audit.{IsAudit, IsFirstBad, IsFirstIllegal};
+ghost use Rattle.history_judge.specs.Examples.{one_purse, purse_history, early_history, amount_history, IsBadFirst, give_any, take_any, purse_value};
 
 use number_types::number_has_table;
 

@@ -5,7 +5,7 @@ ghost use Rattle.std.specs.List.{flat_map, enumerate_from};
 ghost use Rattle.outputs.specs.Out.{Puts};
 ghost use Rattle.history_audit.specs.Text.{committed_line, serial_line, audit_text};
 
-use crate::outcome::{Audit, AuditFault};
+use history_judge::{Audit, AuditFault};
 use itoa::Buffer;
 use outputs::{Out, OutFault, items_in_turn, put_line, texts_in_turn};
 

@@ -10,8 +10,8 @@ use Rattle.history_audit.specs.InOrder.{AuditsInOrder}
 use Rattle.history_audit.specs.declared.in_order_fault.InOrderFault.{InOrderFault}
 use Rattle.history_audit.specs.declared.in_order_fault.InOrderFault.TheVariants as no
 use Rattle.history_audit.specs.declared.in_order_fault.OrderFault.{OrderFault}
-use Rattle.history_audit.specs.declared.outcome.Audit.{Audit}
-use Rattle.history_audit.specs.declared.outcome.AuditFault.{AuditFault}
+use Rattle.history_judge.specs.declared.outcome.Audit.{Audit}
+use Rattle.history_judge.specs.declared.outcome.AuditFault.{AuditFault}
 use Rattle.command_files.specs.declared.status.Verdict.{Verdict}
 use Rattle.store_files.specs.Histories.{DescribesHistory}
 use Rattle.store_files.specs.Types.{AreDeclaredAt, AreTablesOf, Held}

@@ -5,11 +5,11 @@ use Rattle.type_table.specs.Table.{Table}
 use Rattle.table_checker.specs.Checked.{Checked}
 use Rattle.object_trait.specs.Object.{Object, object_of}
 use Rattle.store_laws.specs.Stored.{Stored}
-use Rattle.history_audit.specs.Audit.{Audits}
+use Rattle.history_judge.specs.Audit.{Audits}
 use Rattle.history_audit.specs.Laws.{Passes}
-use Rattle.history_audit.specs.declared.outcome.Audit.{Audit}
-use Rattle.history_audit.specs.declared.outcome.AuditFault.{AuditFault}
-use Rattle.history_audit.specs.declared.outcome.AuditFault.TheVariants.{BadEvent, IllegalOp, NoMemory}
+use Rattle.history_judge.specs.declared.outcome.Audit.{Audit}
+use Rattle.history_judge.specs.declared.outcome.AuditFault.{AuditFault}
+use Rattle.history_judge.specs.declared.outcome.AuditFault.TheVariants.{BadEvent, IllegalOp, NoMemory}
 use Rattle.object_types.specs.Types.{value_of}
 use Rattle.store_commands.specs.StoreAudit.{HasSerialRun, IsPassed, table_of_checked, tables}
 

@@ -24,8 +24,8 @@ use Rattle.serial_order.specs.History.{commits, committed_by}
 use Rattle.serial_order.specs.Operations.{ops}
 use Rattle.serial_order.specs.Serial.{serial_at}
 use Rattle.store_laws.specs.Stored.{Stored, objects}
-use Rattle.history_audit.specs.Audit.{Audits, IsAudit}
-use Rattle.history_audit.specs.declared.outcome.Audit.{Audit}
+use Rattle.history_judge.specs.Audit.{Audits, IsAudit}
+use Rattle.history_judge.specs.declared.outcome.Audit.{Audit}
 use Rattle.work_text.specs.TextHistory.{IsShortYes}
 use Rattle.store_commands.specs.StoreAudit.{HasSerialRun, tables}
 

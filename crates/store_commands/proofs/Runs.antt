@@ -10,7 +10,7 @@ use Rattle.script_text.specs.declared.script.Script.{Script}
 use Rattle.script_run.specs.Runs.{RunsScript}
 use Rattle.script_run.specs.Turns.{line_of, script_turns, text_of_turns}
 use Rattle.history_audit.specs.Text.{audit_text}
-use Rattle.history_audit.specs.declared.outcome.AuditFault.TheVariants as none
+use Rattle.history_judge.specs.declared.outcome.AuditFault.TheVariants as none
 use Rattle.command_files.specs.Answers.{ComesOr, IsThis}
 use Rattle.command_files.proofs.Comes.{comes_or}
 use Rattle.command_files.specs.declared.fault.Fault.{Fault}

@@ -22,10 +22,10 @@ use Rattle.history_text.specs.Events.{event_in_line, history_body}
 use Rattle.script_run.specs.Laws.{AreOpsInRange, RunIsInRange, ScriptIsByOne, ScriptIsRead}
 use Rattle.script_run.specs.Runs.{AreKept}
 use Rattle.script_run.specs.Turns.{history_after, script_turns, text_of_turns}
-use Rattle.history_audit.specs.Audit.{Audits}
+use Rattle.history_judge.specs.Audit.{Audits}
 use Rattle.history_audit.specs.Laws.{AlikeIsWritten, AuditsAgree}
 use Rattle.history_audit.specs.Text.{audit_text}
-use Rattle.history_audit.specs.declared.outcome.Audit.{Audit}
+use Rattle.history_judge.specs.declared.outcome.Audit.{Audit}
 use Rattle.work_text.proofs.Comments.{audit_comments}
 use Rattle.store_commands.specs.StoreAudit.{new_store, tables}
 use Rattle.store_commands.specs.HistoryTexts.{IsAuditedAs, IsReadAs}

@@ -8,8 +8,8 @@ use Rattle.store_text.specs.declared.line.ObjectLine.{ObjectLine}
 use Rattle.history_text.specs.declared.history_file.HistoryFile.{HistoryFile}
 use Rattle.history_audit.specs.Epochs.{AuditsEpochs}
 use Rattle.history_audit.specs.EpochText.{epochs_text}
-use Rattle.history_audit.specs.declared.outcome.Audit.{Audit}
-use Rattle.history_audit.specs.declared.outcome.EpochFault.{EpochFault}
+use Rattle.history_judge.specs.declared.outcome.Audit.{Audit}
+use Rattle.history_audit.specs.declared.epoch_fault.EpochFault.{EpochFault}
 use Rattle.command_files.specs.Answers.{IsThis}
 use Rattle.command_files.specs.declared.status.Verdict.{Verdict}
 use Rattle.command_files.specs.declared.status.Verdict.TheVariants.{Yes, No}

@@ -7,8 +7,8 @@ use Rattle.jobs_text.specs.declared.jobs_file.JobsFile.{JobsFile}
 use Rattle.table_checker.specs.Checked.{Checked}
 use Rattle.store_laws.specs.Stored.{Stored}
 use Rattle.store_text.specs.declared.line.ObjectLine.{ObjectLine}
-use Rattle.history_audit.specs.declared.outcome.Audit.{Audit}
-use Rattle.history_audit.specs.declared.outcome.AuditFault.{AuditFault}
+use Rattle.history_judge.specs.declared.outcome.Audit.{Audit}
+use Rattle.history_judge.specs.declared.outcome.AuditFault.{AuditFault}
 use Rattle.worker_turns.specs.declared.outcome.Report.{Report}
 use Rattle.workers.specs.SharedState.{Start}
 use Rattle.workers.specs.Worked.{Works}

@@ -6,14 +6,14 @@ use Rattle.type_table.specs.Table.{Table}
 use Rattle.declared_types.specs.declared.declared_type.Declaration.{Declaration}
 use Rattle.history_text.specs.declared.history_file.HistoryFile.{HistoryFile}
 use Rattle.object_trait.specs.declared.event.Event.{Event}
-use Rattle.history_audit.specs.Audit.{Audits}
+use Rattle.history_judge.specs.Audit.{Audits}
 use Rattle.history_audit.specs.Epochs.{AuditsEpochs}
 use Rattle.history_audit.specs.EpochText.{epochs_text}
 use Rattle.history_audit.specs.Text.{audit_text}
-use Rattle.history_audit.specs.declared.outcome.Audit.{Audit}
-use Rattle.history_audit.specs.declared.outcome.AuditFault.{AuditFault}
-use Rattle.history_audit.specs.declared.outcome.AuditFault.TheVariants.{NoMemory}
-use Rattle.history_audit.specs.declared.outcome.EpochFault.{EpochFault}
+use Rattle.history_judge.specs.declared.outcome.Audit.{Audit}
+use Rattle.history_judge.specs.declared.outcome.AuditFault.{AuditFault}
+use Rattle.history_judge.specs.declared.outcome.AuditFault.TheVariants.{NoMemory}
+use Rattle.history_audit.specs.declared.epoch_fault.EpochFault.{EpochFault}
 use Rattle.command_files.specs.Answers.{Answers}
 use Rattle.command_files.specs.declared.status.Verdict.TheVariants.{Yes, No}
 use Rattle.store_files.specs.Histories.{AreHistoriesAt, DescribesHistory, IsFaultyHistory, IsFirstFaultyHistory}

@@ -13,11 +13,11 @@ use Rattle.history_text.specs.Canonical.{IsFileWith, canonical_lines}
 use Rattle.history_text.specs.Events.{history_body}
 use Rattle.history_text.specs.History.{IsHistoryOf}
 use Rattle.history_text.specs.declared.history_file.HistoryFile.{HistoryFile}
-use Rattle.history_audit.specs.Audit.{Audits}
+use Rattle.history_judge.specs.Audit.{Audits}
 use Rattle.history_audit.specs.Text.{audit_text}
-use Rattle.history_audit.specs.declared.outcome.Audit.{Audit}
-use Rattle.history_audit.specs.declared.outcome.AuditFault.{AuditFault}
-use Rattle.history_audit.specs.declared.outcome.AuditFault.TheVariants.{NoMemory}
+use Rattle.history_judge.specs.declared.outcome.Audit.{Audit}
+use Rattle.history_judge.specs.declared.outcome.AuditFault.{AuditFault}
+use Rattle.history_judge.specs.declared.outcome.AuditFault.TheVariants.{NoMemory}
 use Rattle.store_files.specs.ObjectTypes.{AreTypesAt}
 use Rattle.store_files.specs.Types.{Held}
 use Rattle.store_commands.specs.StoreAudit.{tables}

@@ -7,8 +7,8 @@ use Rattle.history_audit.specs.InOrder.{AuditsInOrder}
 use Rattle.history_audit.specs.declared.in_order_fault.InOrderFault.{InOrderFault}
 use Rattle.history_audit.specs.declared.in_order_fault.InOrderFault.TheVariants as no
 use Rattle.history_audit.specs.declared.in_order_fault.OrderFault.{OrderFault}
-use Rattle.history_audit.specs.declared.outcome.Audit.{Audit}
-use Rattle.history_audit.specs.declared.outcome.AuditFault.{AuditFault}
+use Rattle.history_judge.specs.declared.outcome.Audit.{Audit}
+use Rattle.history_judge.specs.declared.outcome.AuditFault.{AuditFault}
 use Rattle.command_files.specs.Answers.{Answers}
 use Rattle.store_files.specs.Histories.{IsFaultyHistory}
 use Rattle.object_types.specs.Types.{IsUnplaced}

@@ -6,10 +6,10 @@ use Rattle.store_laws.specs.Stored.{Stored}
 use Rattle.script_text.specs.Script.{IsFit}
 use Rattle.script_text.specs.declared.script.Script.{Script}
 use Rattle.script_run.specs.Runs.{RunsScript}
-use Rattle.history_audit.specs.Audit.{Audits}
+use Rattle.history_judge.specs.Audit.{Audits}
 use Rattle.history_audit.specs.Text.{audit_text}
-use Rattle.history_audit.specs.declared.outcome.Audit.{Audit}
-use Rattle.history_audit.specs.declared.outcome.AuditFault.{AuditFault}
+use Rattle.history_judge.specs.declared.outcome.Audit.{Audit}
+use Rattle.history_judge.specs.declared.outcome.AuditFault.{AuditFault}
 use Rattle.command_files.specs.Answers.{Answers}
 use Rattle.command_files.specs.declared.status.Verdict.TheVariants.{Yes, No}
 use Rattle.store_files.specs.ObjectTypes.{AreTypesAt, HasFault, SaysRefused}

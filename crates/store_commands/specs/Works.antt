@@ -6,9 +6,9 @@ use Rattle.jobs_text.specs.declared.jobs_file.JobsFile.{JobsFile}
 use Rattle.table_checker.specs.Checked.{Checked}
 use Rattle.store_text.specs.declared.line.ObjectLine.{ObjectLine}
 use Rattle.store_laws.specs.Stored.{Stored}
-use Rattle.history_audit.specs.Audit.{Audits}
-use Rattle.history_audit.specs.declared.outcome.Audit.{Audit}
-use Rattle.history_audit.specs.declared.outcome.AuditFault.{AuditFault}
+use Rattle.history_judge.specs.Audit.{Audits}
+use Rattle.history_judge.specs.declared.outcome.Audit.{Audit}
+use Rattle.history_judge.specs.declared.outcome.AuditFault.{AuditFault}
 use Rattle.script_run.specs.Runs.{AreKept}
 use Rattle.work_text.specs.Text.{work_text}
 use Rattle.worker_turns.specs.declared.outcome.Report.{Report}

@@ -1,7 +1,7 @@
 //! The audit of a store's history.
 
 ghost use Rattle.std.specs.Prelude.{◌≡◌, None, map, IfOk};
-ghost use Rattle.history_audit.specs.Audit.{Audits};
+ghost use Rattle.history_judge.specs.Audit.{Audits};
 ghost use Rattle.declared_types.specs.Declarations.{table_of as declared_table};
 ghost use Rattle.object_types.specs.Types.{value_of};
 ghost use Rattle.store_commands.specs.StoreAudit.{IsPassed, TellsAudit, table_of_checked};

@@ -5,9 +5,9 @@ use Rattle.std.specs.Fmt.{decimal}
 use Rattle.line_text.specs.Spelling.{spaced}
 use Rattle.line_text.proofs.CommentLines.{AreComments, IsText, both_comments, each_comments, line_comment, no_comments, number_text, placed_comments}
 use Rattle.history_audit.specs.Text.{audit_text, committed_line, serial_line}
-use Rattle.history_audit.specs.declared.outcome.Audit.{Audit}
-use Rattle.history_audit.specs.declared.outcome.AuditFault.{AuditFault}
-use Rattle.history_audit.specs.declared.outcome.AuditFault.TheVariants as fault
+use Rattle.history_judge.specs.declared.outcome.Audit.{Audit}
+use Rattle.history_judge.specs.declared.outcome.AuditFault.{AuditFault}
+use Rattle.history_judge.specs.declared.outcome.AuditFault.TheVariants as fault
 use Rattle.script_run.specs.Lines.{refusal_number}
 use Rattle.script_run.proofs.LongNumbers.{long_number_text}
 use Rattle.script_run.proofs.HistoryLines.{one_digit, refusal_text}

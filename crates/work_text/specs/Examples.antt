@@ -5,7 +5,7 @@ use Rattle.type_table.specs.declared.kind.Kind.TheVariants.{Undo}
 use Rattle.object_trait.specs.declared.event.Event.{Event}
 use Rattle.object_trait.specs.declared.event.EventKind.TheVariants.{Begin, Op, Commit}
 use Rattle.store_text.specs.declared.line.ObjectLine.{ObjectLine}
-use Rattle.history_audit.specs.declared.outcome.Audit.{Audit}
+use Rattle.history_judge.specs.declared.outcome.Audit.{Audit}
 use Rattle.worker_turns.specs.declared.outcome.Outcome.{Outcome}
 use Rattle.worker_turns.specs.declared.outcome.Report.{Report}
 

@@ -3,8 +3,8 @@
 
 ghost use Rattle.std.specs.Prelude.{◌≡◌, [], ◌∷◌, Ok, Err, codes};
 ghost use Rattle.serial_order.specs.declared.refusal.Refusal.TheVariants.{NoObject, HistoryFull};
-ghost use Rattle.history_audit.specs.declared.outcome.Audit.{Audit as AuditValue};
-ghost use Rattle.history_audit.specs.declared.outcome.AuditFault.TheVariants.{NoMemory};
+ghost use Rattle.history_judge.specs.declared.outcome.Audit.{Audit as AuditValue};
+ghost use Rattle.history_judge.specs.declared.outcome.AuditFault.TheVariants.{NoMemory};
 ghost use Rattle.worker_turns.specs.declared.outcome.Outcome.TheVariants.{Committed, GaveUp, Refused, NotRun};
 ghost use Rattle.worker_turns.specs.declared.outcome.Report.{Report as ReportValue};
 ghost use Rattle.work_text.specs.Examples.{ended, one_line, one_up_by_one, HasOutcomes, IsYesWith};

@@ -1,5 +1,5 @@
 use Rattle.std.proofs.Common.{◌∙◌, ap, map, subst}
-use Rattle.history_audit.specs.Audit as history
+use Rattle.history_judge.specs.Audit as history
 use Rattle.journal.specs.Said.{contents}
 use Rattle.durable_store.specs.Durable.{events_of_kinds}
 use Rattle.store_commands.specs.StoreAudit.{table_of_checked}

@@ -1,7 +1,7 @@
 use Rattle.std.proofs.Common.{map, subst}
 use Rattle.std.proofs.lemmas.List.{take_all}
 use Rattle.declared_types.specs.Declarations.{table_of}
-use Rattle.history_audit.specs.Judged.{IsHanded}
+use Rattle.history_judge.specs.Judged.{IsHanded}
 use Rattle.history_audit.proofs.Gathered.{gathered-none, gathered-some, numbers-below}
 use Rattle.history_audit.proofs.commits.gather.Goals.{in-Some+in_ok-push, in_default}
 use Rattle.history_audit.proofs.commits.gather.Goals as goal

@@ -2,7 +2,7 @@
 use Rattle.std.proofs.Common.{map, take}
 use Rattle.declared_types.specs.Declarations.{table_of}
 use Rattle.history_audit.specs.Commits.{AreCommits}
-use Rattle.history_audit.specs.Judged.{IsJudged}
+use Rattle.history_judge.specs.Judged.{IsJudged}
 use Rattle.history_audit.proofs.commits.gather.Given as goal
 
 abbrev pub invariant-loop-at : goal.invariant-loop-at

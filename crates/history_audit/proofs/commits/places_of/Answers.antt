@@ -3,7 +3,7 @@ use Rattle.std.proofs.lemmas.List.{length-set}
 use Rattle.std.proofs.lemmas.Option.{slice_get-get_or, slice_get-map}
 use Rattle.type_table.proofs.Elements.{each-found}
 use Rattle.history_audit.specs.Commits.{numbers}
-use Rattle.history_audit.specs.declared.committed.Committed.{Committed}
+use Rattle.history_judge.specs.declared.committed.Committed.{Committed}
 use Rattle.history_audit.proofs.Ordered.{places-more}
 use Rattle.history_audit.proofs.commits.places_of.Goals as goal
 

@@ -3,8 +3,8 @@ use Rattle.std.proofs.Common.{List, map, take}
 use Rattle.declared_types.specs.Declarations.{table_of}
 use Rattle.object_trait.specs.declared.event.Event.{Event}
 use Rattle.history_audit.specs.Commits.{AreCommits}
-use Rattle.history_audit.specs.Replay.{AreStates}
-use Rattle.history_audit.specs.SerialRun.{IsSerialRunOf}
+use Rattle.history_judge.specs.Replay.{AreStates}
+use Rattle.history_judge.specs.SerialRun.{IsSerialRunOf}
 use Rattle.history_audit.proofs.in_order.run_in_order.Given as goal
 
 abbrev pub invariant-loop-t : goal.invariant-loop-t

@@ -1,6 +1,6 @@
 use Rattle.std.proofs.Common.{◌≡◌, List, map, get_or, subst, ◌∙◌}
 use Rattle.declared_types.specs.Declarations.{table_of}
-use Rattle.history_audit.specs.declared.committed.Committed.{Committed}
+use Rattle.history_judge.specs.declared.committed.Committed.{Committed}
 use Rattle.history_audit.proofs.Gathered.{placed-operations}
 use Rattle.history_audit.proofs.RunOn.{run-taken}
 use Rattle.history_audit.proofs.in_order.take_one.Goals as goal

@@ -4,7 +4,7 @@ use Rattle.serial_order.specs.Operations.{is_among}
 use Rattle.history_audit.specs.Commits.{numbers}
 use Rattle.history_audit.specs.InOrder.{HasAll}
 use Rattle.history_audit.specs.OrderTests.{AreDates}
-use Rattle.history_audit.specs.declared.committed.Committed.{Committed}
+use Rattle.history_judge.specs.declared.committed.Committed.{Committed}
 use Rattle.history_audit.proofs.Ordered.{number-below, tested}
 use Rattle.history_audit.proofs.in_order.test_order.Goals as goal
 

@@ -1,7 +1,7 @@
 use Rattle.std.proofs.Common.{map, ap, subst, ◌∙◌, IfOk}
 use Rattle.declared_types.specs.Declarations.{table_of}
-use Rattle.history_audit.specs.Audit.{Audits}
-use Rattle.history_audit.specs.Replay.{AreStates}
+use Rattle.history_judge.specs.Audit.{Audits}
+use Rattle.history_judge.specs.Replay.{AreStates}
 use Rattle.history_audit.proofs.EpochTables.{tables-shown}
 use Rattle.history_audit.proofs.in_turn.audit_at.Goals as goal
 

@@ -7,7 +7,7 @@ use Rattle.type_table.proofs.Elements.{each-take}
 use Rattle.serial_order.specs.Operations.{is_among}
 use Rattle.history_audit.specs.Commits.{numbers}
 use Rattle.history_audit.specs.OrderTests.{AllMarked, IsLeastUnmarked, KeepsDatesAt}
-use Rattle.history_audit.specs.declared.committed.Committed.{Committed}
+use Rattle.history_judge.specs.declared.committed.Committed.{Committed}
 use Rattle.history_audit.proofs.Ordered.{dates-front, dates-kept, marked-more, number-below, out-of-order}
 use Rattle.history_audit.proofs.order_tests.each_after.Goals.{then-date-front+in_default, else-date-front}
 use Rattle.history_audit.proofs.order_tests.each_after.Goals as goal

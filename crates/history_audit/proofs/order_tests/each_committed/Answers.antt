@@ -3,7 +3,7 @@ use Rattle.std.proofs.lemmas.List.{get_or_read, length-set}
 use Rattle.std.proofs.lemmas.Option.{slice_get-get_or}
 use Rattle.std.specs.List.{AllByRecursion}
 use Rattle.history_audit.specs.Commits.{numbers}
-use Rattle.history_audit.specs.declared.committed.Committed.{Committed}
+use Rattle.history_judge.specs.declared.committed.Committed.{Committed}
 use Rattle.history_audit.proofs.Ordered.{committed-more, has-place, marked-more, number-below, twice}
 use Rattle.history_audit.proofs.order_tests.each_committed.Goals as goal
 

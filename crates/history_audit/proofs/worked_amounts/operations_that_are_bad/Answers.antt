@@ -2,7 +2,7 @@ use Rattle.std.proofs.Common.{Some, refl}
 use Rattle.std.proofs.lemmas.Bool.{false≢true}
 use Rattle.type_table.specs.Operation.{operation_at}
 use Rattle.object_trait.specs.declared.event.EventKind.TheVariants as kind
-use Rattle.history_audit.specs.Examples.{give_any, take_any, purse_value}
+use Rattle.history_judge.specs.Examples.{give_any, take_any, purse_value}
 use Rattle.history_audit.proofs.Purse.{bad}
 use Rattle.history_audit.proofs.worked_amounts.operations_that_are_bad.Goals as goal
 

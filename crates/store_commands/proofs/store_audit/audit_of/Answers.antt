@@ -3,7 +3,7 @@ use Rattle.type_table.specs.Table.{Table}
 use Rattle.table_checker.specs.Checked.{Checked}
 use Rattle.object_trait.specs.declared.event.Event.{Event}
 use Rattle.store_laws.specs.Stored.{objects}
-use Rattle.history_audit.specs.Audit.{Audits}
+use Rattle.history_judge.specs.Audit.{Audits}
 use Rattle.store_commands.specs.StoreAudit.{table_of_checked, tables}
 use Rattle.store_commands.proofs.Passed.{passed, tables_of_objects, tables_of_types}
 use Rattle.store_commands.proofs.store_audit.audit_of.Goals as goal

@@ -1,7 +1,7 @@
 use Rattle.std.proofs.Common.{Result, subst}
 use Rattle.history_audit.specs.Text.{audit_text}
-use Rattle.history_audit.specs.declared.outcome.Audit.{Audit}
-use Rattle.history_audit.specs.declared.outcome.AuditFault.{AuditFault}
+use Rattle.history_judge.specs.declared.outcome.Audit.{Audit}
+use Rattle.history_judge.specs.declared.outcome.AuditFault.{AuditFault}
 use Rattle.std.specs.Io.KnownBytes.{Appends}
 use Rattle.store_commands.specs.StoreAudit.{IsPassed}
 use Rattle.store_commands.proofs.store_audit.tell_audit.Goals as goal

@@ -1,6 +1,6 @@
 use Rattle.std.proofs.Common.{◌≡◌, ◌∙◌, Result, Ok, false, inr, rules, subst, sym}
-use Rattle.history_audit.specs.declared.outcome.Audit.{Audit}
-use Rattle.history_audit.specs.declared.outcome.AuditFault.{AuditFault}
+use Rattle.history_judge.specs.declared.outcome.Audit.{Audit}
+use Rattle.history_judge.specs.declared.outcome.AuditFault.{AuditFault}
 use Rattle.work_text.specs.Text.{PutsWork}
 use Rattle.store_commands.specs.StoreAudit.{IsPassed}
 use Rattle.store_commands.proofs.Works.{whole_text}

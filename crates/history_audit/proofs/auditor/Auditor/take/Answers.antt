@@ -1,8 +1,8 @@
 use Rattle.std.proofs.Common.{List, map, subst}
 use Rattle.declared_types.specs.Declarations.{table_of}
-use Rattle.history_audit.specs.Judged.{IsHanded}
-use Rattle.history_audit.specs.SerialRun.{ReplaysFrom}
-use Rattle.history_audit.specs.declared.executed.Executed.{Executed}
+use Rattle.history_judge.specs.Judged.{IsHanded}
+use Rattle.history_judge.specs.SerialRun.{ReplaysFrom}
+use Rattle.history_judge.specs.declared.executed.Executed.{Executed}
 use Rattle.history_audit.proofs.Audited.{other-run, commit-run}
 use Rattle.history_audit.proofs.auditor.Auditor.take.Goals as goal
 

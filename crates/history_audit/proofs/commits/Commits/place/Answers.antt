@@ -1,7 +1,7 @@
 use Rattle.std.proofs.Common.{◌≡◌, List, false, subst}
 use Rattle.serial_order.specs.Operations.{is_among}
 use Rattle.history_audit.specs.Commits.{numbers}
-use Rattle.history_audit.specs.declared.committed.Committed.{Committed}
+use Rattle.history_judge.specs.declared.committed.Committed.{Committed}
 use Rattle.history_audit.proofs.Ordered.{no-place}
 use Rattle.history_audit.proofs.commits.Commits.place.Goals as goal
 

@@ -1,8 +1,0 @@
-use Rattle.std.proofs.Common.{None, set, ap, ◌∙◌, sym}
-use Rattle.history_audit.proofs.Judged.{there, abort_taken}
-use Rattle.history_audit.proofs.judge.Judge.abort.Goals as goal
-
-pub returns-clause-judged : goal.returns-clause-judged
-returns-clause-judged c =
-    λ tables. abort_taken c.moved_rows_agree.ensures tables c.args.self.now c.end.new.self c.args.t _
-    (there c.self.inside.rows c.args.self.now c.args.t c.self.view_is (sym c.if-not-is_open.ensures)) (c.end.ensures.rows ∙ ap (λ rows. set rows c.args.t None) c.self.view_is)

@@ -1,5 +1,0 @@
-use Rattle.history_audit.proofs.Rows.{moved_rows_agree}
-use Rattle.history_audit.proofs.laws.moved_rows_agree.Goals as goal
-
-pub returns : goal.returns
-returns c = moved_rows_agree c.summary_after.ensures c.history_opens_after.ensures c.own_after.ensures

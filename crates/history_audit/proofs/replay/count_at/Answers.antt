@@ -1,8 +1,0 @@
-use Rattle.std.proofs.Common.{arith}
-use Rattle.history_audit.proofs.Lists.{ops_at-few}
-use Rattle.history_audit.proofs.replay.count_at.Goals as goal
-
-pub overflow_add-count : goal.overflow_add-count
-overflow_add-count c =
-    let few = ops_at-few c.args.object c.args.operations.now c.loop-operation.operation-index in
-    omega (arith, few)

@@ -1,0 +1,9 @@
+pub mod Rows
+pub mod Moves
+pub mod Slots
+pub mod Judges
+pub mod Audit
+pub mod Replay
+pub mod Judged
+pub mod SerialRun
+pub mod Examples
