@@ -1,34 +1,6 @@
 /* Each allocation of a run refused in turn: refused TRANSACTIONS. Linked with --wrap of malloc, realloc and free. */
+#include "refusing.h"
 #include "want.h"
-
-static long left = -1; /* how many are granted before one is refused; below 0, all */
-static long live = 0;
-
-void *__real_malloc(size_t n);
-void *__real_realloc(void *p, size_t n);
-void __real_free(void *p);
-
-static bool is_refused(void) {
-    return left >= 0 && left-- == 0;
-}
-
-void *__wrap_malloc(size_t n) {
-    void *p = is_refused() ? NULL : __real_malloc(n);
-    live += p != NULL;
-    return p;
-}
-
-void *__wrap_realloc(void *p, size_t n) {
-    if (is_refused()) return NULL;
-    void *q = __real_realloc(p, n);
-    live += p == NULL && q != NULL;
-    return q;
-}
-
-void __wrap_free(void *p) {
-    live -= p != NULL;
-    __real_free(p);
-}
 
 /* Does a call. Memory that is refused is the one code but that of success, and the same call is done then. */
 static long refusals = 0;
