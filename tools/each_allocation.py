@@ -15,7 +15,7 @@ import sys
 import tempfile
 
 # What the names of tests end with that say what comes of refused memory.
-TESTS = ("refused_memory", "memory_is_refused", "runs_are_played")
+TESTS = ("refused_memory", "memory_is_refused")
 
 SHIM = r"""
 #define _GNU_SOURCE

@@ -16,20 +16,12 @@ fn number_of(alloc: Global, text: &str) -> Option<CheckedType> {
     Some(check_number(number))
 }
 
-/// The type of this text, checked for this kind of recovery.
-fn checked_once(alloc: Global, text: &str, kind: Kind) -> Option<Arc<CheckedType>> {
+/// The type of this text, checked for this kind of recovery, where it is accepted.
+pub fn checked_of(alloc: Global, text: &str, kind: Kind) -> Option<Arc<CheckedType>> {
     if kind == Kind::Escrow && text.starts_with("number ") {
         return Arc::new(alloc, number_of(alloc, text)?).ok();
     }
     let file = read_type(alloc, text.as_bytes()).ok()?;
     let checked = check(file, kind).ok()?;
     Arc::new(alloc, checked).ok()
-}
-
-/// The same, where the text is of a type that is accepted. Where one allocation is refused, the next try has it.
-pub fn checked_of(alloc: Global, text: &str, kind: Kind) -> Option<Arc<CheckedType>> {
-    match checked_once(alloc, text, kind) {
-        Some(checked) => Some(checked),
-        None => checked_once(alloc, text, kind),
-    }
 }

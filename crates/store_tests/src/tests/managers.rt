@@ -8,7 +8,6 @@ use escrow_manager::EscrowManager;
 use intentions_manager::IntentionsManager;
 use object_calls::call_unreplied;
 use object_trait::Recovery;
-use std::alloc::AllocError;
 use std::process::Abort;
 use std::test::Fail;
 use test_support::printed::are_printed;
@@ -32,14 +31,6 @@ pub fn deferred(rt: &(impl Abort + AllocGlobal), text: &str) -> IntentionsManage
         .expect(rt, "wrong kind")
 }
 
-/// A new number in escrow.
-fn in_escrow(rt: &(impl Abort + AllocGlobal), text: &str) -> EscrowManager {
-    let checked = checked_of(rt.alloc(), text, Kind::Escrow).expect(rt, "no type");
-    EscrowManager::new(rt.alloc(), checked)
-        .ok()
-        .expect(rt, "wrong kind")
-}
-
 #[test]
 fn the_wrong_kind_comes_back_in_place(rt: HostRuntime) -> Result<(), Fail> {
     let checked = checked_of(rt.alloc(), COUNTER, Kind::Intentions).expect(&rt, "no type");
@@ -58,89 +49,79 @@ fn the_wrong_kind_comes_back_deferred(rt: HostRuntime) -> Result<(), Fail> {
     are_printed(rt.alloc(), &[(why, "WrongKind")])
 }
 
-/// Executes operation k for t at an object whose log is empty.
-fn apply_alone(
-    rt: &(impl Abort + AllocGlobal),
-    object: &mut UndoManager,
-    t: u32,
-    k: Operation,
-) -> Result<(), AllocError> {
-    assert!(rt; object.log_len() == 0);
-    let mut log = Vec::new(rt.alloc());
-    apply_next(rt, object, &mut log, t, k)
-}
-
-/// Executes operation 0 for each of two transactions at an object whose log is empty.
-fn apply_two(rt: &(impl Abort + AllocGlobal), object: &mut UndoManager) -> Result<(), AllocError> {
-    assert!(rt; object.log_len() == 0);
-    let mut log = Vec::new(rt.alloc());
-    apply_next(rt, object, &mut log, 0, Operation::listed(0))?;
-    apply_next(rt, object, &mut log, 1, Operation::listed(0))
-}
-
 /// The log's length in place: a done entry after an open one stays until that ends.
 #[test]
 fn a_done_entry_waits_for_an_open_one(rt: HostRuntime) {
     let mut object = in_place(&rt, COUNTER);
-    apply_two(&rt, &mut object).expect(&rt, "no memory");
+    assert!(rt; object.log_len() == 0);
+    let mut log = Vec::new(rt.alloc());
+    apply_next(&rt, &mut object, &mut log, 0, Operation::listed(0));
+    apply_next(&rt, &mut object, &mut log, 1, Operation::listed(0));
     object.commit(1);
     assert!(rt; object.log_len() == 2 && object.state() == 2);
     object.abort(0);
     assert!(rt; object.log_len() == 0 && object.state() == 1);
 }
 
-/// The first place of a line of the purse, who may keep transaction 1 from it, and the least and the greatest amount
-/// that is told: from 21 to 29 a take is short now, and isn't after the gift; from 72 to 80 a gift has room now, and
-/// hasn't after it. The value is 20.
-static AMOUNTS: [(u8, u32, Option<(u32, u32)>); 5] = [
-    (0, 0, Some((21, 29))),
-    (4, 0, Some((72, 80))),
-    (8, 0, Some((20, 20))),
-    (2, 0, None),
-    (0, 2, None),
-];
+/// A transaction comes alone, executes operation k, and commits: the log is short, and the state is this one.
+fn comes_alone(
+    rt: &(impl Abort + AllocGlobal),
+    object: &mut UndoManager,
+    t: u32,
+    k: Operation,
+    state: u32,
+) {
+    assert!(rt; object.log_len() == 0);
+    let mut log = Vec::new(rt.alloc());
+    apply_next(rt, object, &mut log, t, k);
+    assert!(rt; object.log_len() == 1);
+    object.commit(t);
+    assert!(rt; object.log_len() == 0 && object.state() == state);
+}
 
-/// Whether an amount is told from a least to a greatest one, or none is.
-fn is_within(told: Option<u32>, wanted: Option<(u32, u32)>) -> bool {
-    match (told, wanted) {
-        (Some(n), Some((least, greatest))) => least <= n && n <= greatest,
-        (told, wanted) => told.is_none() && wanted.is_none(),
+/// Ten thousand transactions one after another, of which each second one takes back what the one before it did.
+#[test]
+fn a_log_in_place_stays_short(rt: HostRuntime) {
+    let mut object = in_place(&rt, COUNTER);
+    for pair in 0..5_000 {
+        comes_alone(&rt, &mut object, 2 * pair, Operation::listed(0), 1);
+        comes_alone(&rt, &mut object, 2 * pair + 1, Operation::listed(1), 0);
     }
 }
 
+/// The first place of a line of the purse, who may keep transaction 1 from it, and the least and the greatest amount
+/// that is told, both 0 where none is: from 21 to 29 a take is short now, and isn't after the gift; from 72 to 80 a gift
+/// has room now, and hasn't after it. The value is 20.
+static AMOUNTS: [(u8, u32, u32, u32); 5] = [
+    (0, 0, 21, 29),
+    (4, 0, 72, 80),
+    (8, 0, 20, 20),
+    (2, 0, 0, 0),
+    (0, 2, 0, 0),
+];
+
 /// That each of these amounts is kept from transaction 1.
-fn are_kept<R: Recovery>(rt: &impl Abort, object: &R, rows: &[(u8, u32, Option<(u32, u32)>)]) {
-    for (place, u, wanted) in rows {
+fn are_kept<R: Recovery>(rt: &impl Abort, object: &R) {
+    for (place, u, least, greatest) in &AMOUNTS {
         assert!(rt; place % 2 == 0);
-        assert!(rt; is_within(object.amount_kept(1, *place, *u), *wanted));
+        let told = object.amount_kept(1, *place, *u);
+        assert!(rt; told.is_none() == (*greatest == 0));
+        let amount = told.unwrap_or(0);
+        assert!(rt; *least <= amount && amount <= *greatest);
     }
 }
 
 /// Transaction 0 gives nine to a purse of 20, up to 100, and 1 asks.
 #[test]
 fn an_amount_is_kept(rt: HostRuntime) {
-    let mut purse = in_escrow(&rt, PURSE);
+    let checked = checked_of(rt.alloc(), PURSE, Kind::Escrow).expect(&rt, "no type");
+    let purse = EscrowManager::new(rt.alloc(), checked).ok();
+    let mut purse = purse.expect(&rt, "wrong kind");
     assert!(rt; purse.is_fresh());
     let mut log = Vec::new(rt.alloc());
-    apply_next(&rt, &mut purse, &mut log, 0, Operation::with(4, 9)).expect(&rt, "no memory");
+    apply_next(&rt, &mut purse, &mut log, 0, Operation::with(4, 9));
     assert!(rt; purse.view(0) == 29 && purse.view(1) == 20 && purse.state() == 20);
-    are_kept(&rt, &purse, &AMOUNTS);
+    are_kept(&rt, &purse);
     let value = call_unreplied(&purse, 1, 8, Some(0));
     assert!(rt; value == Some(Operation::with(8, 0)));
-}
-
-/// How many transactions come one after another.
-const MANY: u32 = 10_000;
-
-/// Transactions one after another, of which each second one takes back what the one before it did.
-#[test]
-fn a_log_in_place_stays_short(rt: HostRuntime) {
-    let mut object = in_place(&rt, COUNTER);
-    for t in 0..MANY {
-        let k = (t % 2) as u8;
-        apply_alone(&rt, &mut object, t, Operation::listed(k)).expect(&rt, "no memory");
-        assert!(rt; object.log_len() == 1);
-        object.commit(t);
-        assert!(rt; object.log_len() == 0 && object.state() == 1 - u32::from(k));
-    }
 }

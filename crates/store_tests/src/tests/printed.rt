@@ -1,4 +1,4 @@
-//! How values are printed.
+//! How values are printed and compared.
 
 use object_calls::Call;
 use object_trait::{Event, EventKind};
@@ -35,6 +35,23 @@ fn refusals_are_printed(rt: HostRuntime) -> Result<(), Fail> {
     are_debugged(rt.alloc(), &NEW_REFUSALS)
 }
 
+/// That transaction 1 executed an operation at object 0, as worker 3.
+fn event(k: Operation) -> Event {
+    Event {
+        worker: 3,
+        kind: EventKind::Op { t: 1, x: 0, k },
+    }
+}
+
+/// That transaction 1 executed operation 2 at object 0.
+fn entry() -> Entry {
+    Entry {
+        by: 1,
+        at: 0,
+        op: Operation::listed(2),
+    }
+}
+
 #[test]
 fn refusals_are_compared(rt: HostRuntime) {
     for (refusal, word) in &REFUSALS {
@@ -43,25 +60,52 @@ fn refusals_are_compared(rt: HostRuntime) {
 }
 
 #[test]
-fn records_are_printed(rt: HostRuntime) -> Result<(), Fail> {
-    let event = Event {
-        worker: 3,
-        kind: EventKind::Op {
-            t: 1,
-            x: 0,
-            k: Operation::with(2, 7),
+fn events_are_compared(rt: HostRuntime) {
+    let listed = event(Operation::listed(2));
+    let others = [
+        Event {
+            worker: 4,
+            ..event(Operation::listed(2))
         },
-    };
+        Event {
+            worker: 3,
+            kind: EventKind::Commit { t: 1 },
+        },
+        event(Operation::with(2, 0)),
+    ];
+    assert!(rt; listed == event(Operation::listed(2)));
+    for other in &others {
+        assert!(rt; listed != *other);
+    }
+}
+
+#[test]
+fn entries_are_compared(rt: HostRuntime) {
+    let others = [
+        Entry { by: 3, ..entry() },
+        Entry { at: 3, ..entry() },
+        Entry {
+            op: Operation::listed(3),
+            ..entry()
+        },
+        Entry {
+            op: Operation::with(2, 0),
+            ..entry()
+        },
+    ];
+    assert!(rt; entry() == entry());
+    for other in &others {
+        assert!(rt; entry() != *other);
+    }
+}
+
+#[test]
+fn records_are_printed(rt: HostRuntime) -> Result<(), Fail> {
     let text =
         "Event { worker: 3, kind: Op { k: Operation { place: 2, amount: Some(7) }, t: 1, x: 0 } }";
-    are_debugged(rt.alloc(), &[(event, text)])?;
-    let entry = Entry {
-        by: 1,
-        at: 0,
-        op: Operation::listed(2),
-    };
+    are_debugged(rt.alloc(), &[(event(Operation::with(2, 7)), text)])?;
     let text = "Entry { by: 1, at: 0, op: Operation { place: 2, amount: None } }";
-    are_debugged(rt.alloc(), &[(entry, text)])?;
+    are_debugged(rt.alloc(), &[(entry(), text)])?;
     let held = Held { by: 7, op: 3 };
     assert!(rt; held == held && held != Held::default());
     are_debugged(rt.alloc(), &[(held, "Held { by: 7, op: 3 }")])?;

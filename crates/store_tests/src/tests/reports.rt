@@ -4,7 +4,7 @@ mod limits;
 mod meeting;
 
 use jobs_text::{Job, JobsFile, read_jobs};
-use object_trait::{Event, Recovery};
+use object_trait::Event;
 use objects::Object;
 use std::process::Abort;
 use std::sync::Wait;
@@ -83,14 +83,6 @@ pub fn are_reported(rt: &impl Abort, history: &[Event], from: usize, reports: &[
         assert!(rt; receipts.contains(&Receipt { position, event }));
     }
     assert!(rt; receipt_count(reports) == history.len().saturating_sub(from));
-}
-
-/// That each object is at the state in its place.
-pub fn are_at<R: Recovery>(rt: &impl Abort, objects: &[R], states: &[u32]) {
-    assert!(rt; states.len() == objects.len());
-    for (object, state) in objects.iter().zip(states) {
-        assert!(rt; object.state() == *state);
-    }
 }
 
 /// That there is a report of each of these lists of outcomes, with them.

@@ -5,14 +5,8 @@ mod boxed;
 mod calls;
 mod closed;
 mod followed;
-mod forgotten;
-mod laws;
 mod made;
-mod numbers;
-mod refused;
-mod renewals;
 mod run_scripts;
-mod runs;
 pub mod scripts;
 mod shared;
 
@@ -20,32 +14,17 @@ use crate::tests::checked_types::{Sort, checked_of};
 use object_trait::{Event, Renew};
 use objects::Object;
 use std::process::Abort;
-use std::sync::Arc;
 use store::{RenewRefusal, Store};
-use table_checker::CheckedType;
 
-/// New objects of these sorts. Where one allocation is refused, the next try has it.
+/// New objects of these sorts.
 pub fn objects_of(rt: &(impl Abort + AllocGlobal), sorts: &[Sort]) -> Vec<Object> {
     let mut objects = Vec::new(rt.alloc());
-    if objects.reserve(sorts.len()).is_err() {
-        objects.reserve(sorts.len()).expect(rt, "no room");
-    }
     for (kind, text) in sorts {
         let checked = checked_of(rt.alloc(), text, *kind).expect(rt, "no checked type");
         let object = Object::new(rt.alloc(), checked);
         objects.push(object).ok().expect(rt, "no room");
     }
     objects
-}
-
-/// The checked types of these sorts.
-pub fn types_of(rt: &(impl Abort + AllocGlobal), sorts: &[Sort]) -> Vec<Arc<CheckedType>> {
-    let mut types = Vec::new(rt.alloc());
-    for (kind, text) in sorts {
-        let checked = checked_of(rt.alloc(), text, *kind).expect(rt, "no checked type");
-        types.push(checked).ok().expect(rt, "no room");
-    }
-    types
 }
 
 /// A store that begins anew, and the events of its epoch; else the store, and why not.

@@ -5,38 +5,18 @@ ghost use Rattle.object_trait.specs.Meaning.{open_of};
 ghost use Rattle.object_trait.specs.Steps.{IsLegalFor};
 
 use crate::tests::any_objects::one_entry::OneEntry;
+use crate::tests::checked_types::checked_of;
 use crate::tests::managers::driven::has;
 use object_trait::{AnyObject, Recovery};
 use std::process::Abort;
-use table_checker::check;
 use test_support::type_texts::COUNTER;
 use type_table::{Kind, Operation};
-use type_text::read_type;
 
 /// An object of the counter, as it is made.
 pub fn made(rt: &(impl Abort + AllocGlobal)) -> OneEntry {
-    let file = read_type(rt.alloc(), COUNTER.as_bytes());
-    match check(file.ok().expect(rt, "no type"), Kind::Undo) {
-        Ok(checked) => OneEntry::new(checked),
-        Err(_) => panic!(rt; "not for update in place"),
-    }
-}
-
-/// What an object answers: its state, how many transactions are open, and whether it is as it was
-/// made.
-#[derive(Clone, Copy, PartialEq, Eq)]
-struct Seen {
-    state: u32,
-    open: u32,
-    fresh: bool,
-}
-
-fn look_at<R: Recovery>(object: &R) -> Seen {
-    Seen {
-        state: object.state(),
-        open: object.open_count(),
-        fresh: object.is_fresh(),
-    }
+    let checked = checked_of(rt.alloc(), COUNTER, Kind::Undo).expect(rt, "no type");
+    assert!(rt; checked.kind() == Kind::Undo);
+    OneEntry::new(checked)
 }
 
 /// Whether operation k, if it is one, is legal for transaction t.
@@ -66,27 +46,18 @@ fn apply_first<R: Recovery>(rt: &impl Abort, object: &mut R, t: u32, k: Operatio
     object.apply(t, k).expect(rt, "no memory");
 }
 
-const MADE: Seen = Seen {
-    state: 0,
-    open: 0,
-    fresh: true,
-};
+/// What an object answers: its state, how many transactions are open, and whether it is as it was made.
+type Seen = (u32, u32, bool);
 
-const COUNTED: Seen = Seen {
-    state: 1,
-    open: 1,
-    fresh: false,
-};
+const MADE: Seen = (0, 0, true);
 
-const COMMITTED: Seen = Seen {
-    state: 1,
-    open: 0,
-    fresh: false,
-};
+const COUNTED: Seen = (1, 1, false);
+
+const COMMITTED: Seen = (1, 0, false);
 
 /// That an object answers this.
 fn shows<R: Recovery>(rt: &impl Abort, object: &R, seen: Seen) {
-    assert!(rt; look_at(object) == seen);
+    assert!(rt; (object.state(), object.open_count(), object.is_fresh()) == seen);
 }
 
 /// That the calls that take nothing out of an object, and then an abort, do as they say.
@@ -107,27 +78,17 @@ fn aborts<R: Recovery>(rt: &impl Abort, object: &mut R) {
     shows(rt, object, MADE);
 }
 
-/// That a strike of the one entry does as it says.
-fn strikes<R: Recovery>(rt: &impl Abort, object: &mut R) {
-    apply_first(rt, object, 1, Operation::listed(0));
-    object.strike(1, 1);
-    shows(rt, object, MADE);
-}
-
-/// That a commit does as it says.
-fn commits<R: Recovery>(rt: &impl Abort, object: &mut R) {
-    apply_first(rt, object, 2, Operation::listed(0));
-    object.commit(2);
-    shows(rt, object, COMMITTED);
-}
-
-/// That the calls of an object do as they say, one after another.
+/// That the calls of an object do as they say, one after another: those above, a strike of the one entry, and a commit.
 fn is_called<R: Recovery>(rt: &impl Abort, object: &mut R) {
     assert!(rt; object.declared().rows().len() == 2);
     assert!(rt; (object.view(1), object.amount_kept(1, 0, 2)) == (0, None));
     aborts(rt, object);
-    strikes(rt, object);
-    commits(rt, object);
+    apply_first(rt, object, 1, Operation::listed(0));
+    object.strike(1, 1);
+    shows(rt, object, MADE);
+    apply_first(rt, object, 2, Operation::listed(0));
+    object.commit(2);
+    shows(rt, object, COMMITTED);
 }
 
 #[test]

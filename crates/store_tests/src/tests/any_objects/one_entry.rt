@@ -1,4 +1,5 @@
-//! An object of update in place whose log has room for one entry. It settles nothing.
+//! An object of update in place whose log has room for one entry. It settles nothing, and says how many owners its type
+//! had.
 
 ghost use Rattle.std.specs.Prelude.{◌≡◌, ◌<◌, ◌==◌, ◌&&◌, not, nat_lt, true, Some, None};
 ghost use Rattle.std.specs.List.{list_any};
@@ -12,32 +13,39 @@ ghost use Rattle.object_trait.specs.Steps.{marked};
 ghost use Rattle.object_trait.specs.Examples.{of_one_entry};
 
 use declared_types::DeclaredType;
-use object_trait::{LogEntry, Recovery};
-use std::alloc::AllocError;
+use object_trait::{LogEntry, Recovery, Renew};
+use std::alloc::{AllocError, Global};
+use std::sync::Arc;
 use table_checker::CheckedType;
 use type_table::{ConflictTable, Operation, TableKind};
 
 /// Its checked type, the entry, and the state after it.
 #[derive(Drop)]
 pub struct OneEntry {
-    checked: CheckedType,
+    checked: Arc<CheckedType>,
     entry: Option<LogEntry>,
     state: u16,
-    ghost in_place: { checked.kind ≡ Undo },
-    ghost reached: { run checked.file.table (Some checked.file.table.initial) (log_ops (option_to_list entry)) ≡ Some state },
-    ghost inside: { state < checked.file.table.states },
+    /// How many owners its type had when the object was made of it, itself among them.
+    pub owners: usize,
+    ghost in_place: { checked.value.kind ≡ Undo },
+    ghost reached: { run checked.value.file.table (Some checked.value.file.table.initial) (log_ops (option_to_list entry)) ≡ Some state },
+    ghost inside: { state < checked.value.file.table.states },
 }
 
 impl OneEntry {
     /// As it is made, at the initial state.
-    pub fn new(checked: CheckedType) -> OneEntry
-        requires { checked.kind ≡ Undo }
+    pub fn new(checked: Arc<CheckedType>) -> OneEntry
+        requires { checked.value.kind ≡ Undo }
+        ensures empty { result.entry ≡ None }
+        ensures checked { result.checked ≡ checked }
     {
-        let initial = checked.table().initial();
+        let state = checked.table().initial();
+        let owners = Arc::strong_count(&checked);
         OneEntry {
             checked,
             entry: None,
-            state: initial,
+            state,
+            owners,
         }
     }
 
@@ -98,7 +106,7 @@ fn stops(entry: &LogEntry, table: &ConflictTable, t: u32, k: Operation) -> bool
 }
 
 impl Recovery for OneEntry {
-    ghost meaning = { λ o. of_one_entry (o.checked) o.entry };
+    ghost meaning = { λ o. of_one_entry (o.checked.value) o.entry };
 
     fn declared(&self) -> &DeclaredType {
         self.checked.declared()
@@ -173,5 +181,17 @@ impl Recovery for OneEntry {
 
     fn is_fresh(&self) -> bool {
         self.entry.is_none()
+    }
+}
+
+impl Renew for OneEntry {
+    fn checked(&self) -> &CheckedType {
+        &self.checked
+    }
+
+    fn renewed(&self, _alloc: Global, checked: Arc<CheckedType>) -> OneEntry {
+        // (read for what is known of this object, that its type is for update in place)
+        let _state = self.state;
+        OneEntry::new(checked)
     }
 }

@@ -4,7 +4,6 @@ ghost use Rattle.std.specs.Prelude.{◌≡◌, ◌<◌, true, length};
 ghost use Rattle.object_trait.specs.Steps.{MayApply};
 
 use object_trait::{LogEntry, Recovery};
-use std::alloc::AllocError;
 use std::process::Abort;
 use type_table::Operation;
 
@@ -36,18 +35,17 @@ pub fn apply_next<R: Recovery>(
     log: &mut Vec<LogEntry>,
     t: u32,
     k: Operation,
-) -> Result<(), AllocError>
+)
     requires { (R.meaning object.old).log ≡ log.old.items }
     ensures { (R.meaning object.new).log ≡ log.new.items }
 {
     let may = may_apply(object, log, t, k);
     assert!(rt; may);
-    log.reserve(1)?;
-    object.apply(t, k)?;
+    log.reserve(1).expect(rt, "no room");
+    object.apply(t, k).expect(rt, "no memory");
     log.push_reserved(LogEntry {
         by: t,
         op: k,
         done: false,
     });
-    Ok(())
 }

@@ -1,7 +1,7 @@
 //! How many lists of jobs there may be, how often a job may be tried, and how many transactions may be
 //! open.
 
-use super::{Done, Turns, are_outcomes, are_reported, do_jobs, jobs_of};
+use super::{Turns, are_outcomes, are_reported, do_jobs, jobs_of};
 use crate::tests::asked::{Ask, Told};
 use crate::tests::stores::objects_of;
 use crate::tests::stores::scripts::{
@@ -34,10 +34,10 @@ end
 /// What a store was asked before: one transaction committed, and one is open.
 static BEFORE: [Row; 5] = [
     (9, Ask::Begin, Told::Begun(0)),
-    (9, Ask::Call(0, 0, "inc:1"), Told::Reply(0)),
+    (9, Ask::Call(0, 0, "inc:1"), Told::Operation(0)),
     (9, Ask::Commit(0), Told::Done),
     (9, Ask::Begin, Told::Begun(1)),
-    (9, Ask::Call(1, 0, "inc:1"), Told::Reply(0)),
+    (9, Ask::Call(1, 0, "inc:1"), Told::Operation(0)),
 ];
 
 /// Its history, closed after that.
@@ -63,6 +63,9 @@ static WITH_JOB: [Happened; 9] = [
     (9, Happening::Abort { t: 1 }),
 ];
 
+/// The outcome of the job.
+const DONE: &[&[Outcome]] = &[&[Outcome::Committed(2)]];
+
 /// The text of jobs, how many lists and tries, and the fault.
 type Limit = (&'static str, u8, u8, Option<WorkFault>);
 
@@ -85,10 +88,15 @@ static LIMITS: [Limit; 16] = [
     (ONE_JOB, 16, 100, None),
 ];
 
-/// That nothing was done and nothing is reported; or that the job was done, and there is a report of each
-/// list.
-fn is_limited(rt: &impl Abort, limit: &Limit, done: &Done) {
-    let (_, lists, _, fault) = *limit;
+/// That these numbers of lists and tries are taken, or not, at a store at which something happened. Nothing is done then and
+/// nothing reported; or the job is done, and there is a report of each list.
+fn is_taken<R: Abort + AllocGlobal + Threads + Wait + Sync>(rt: &R, limit: &Limit, turns: Turns) {
+    let (text, lists, tries, fault) = *limit;
+    let jobs = jobs_of(rt, text, lists);
+    let objects = objects_of(rt, &[(Kind::Undo, COUNTER_OF_FOUR)]);
+    let mut store = store_of(rt, objects, 20);
+    answers(rt, &mut store, &BEFORE);
+    let done = do_jobs(rt, store, jobs, tries, turns);
     assert!(rt; done.fault == fault);
     if fault.is_some() {
         are_events(rt, &done.history, &UNCHANGED);
@@ -97,25 +105,8 @@ fn is_limited(rt: &impl Abort, limit: &Limit, done: &Done) {
     }
     are_events(rt, &done.history, &WITH_JOB);
     assert!(rt; done.reports.len() == usize::from(lists));
-    let outcomes = done
-        .reports
-        .first()
-        .expect(rt, "no report")
-        .outcomes
-        .as_slice();
-    assert!(rt; matches!(outcomes, [Outcome::Committed(2)]));
+    are_outcomes(rt, done.reports.get(..1).unwrap_or(&[]), DONE);
     are_reported(rt, done.history.get(..8).unwrap_or(&[]), 5, &done.reports);
-}
-
-/// That these numbers of lists and tries are taken, or not, at a store at which something happened.
-fn is_taken<R: Abort + AllocGlobal + Threads + Wait + Sync>(rt: &R, limit: &Limit, turns: Turns) {
-    let (text, lists, tries, _) = *limit;
-    let jobs = jobs_of(rt, text, lists);
-    let objects = objects_of(rt, &[(Kind::Undo, COUNTER_OF_FOUR)]);
-    let mut store = store_of(rt, objects, 20);
-    answers(rt, &mut store, &BEFORE);
-    let done = do_jobs(rt, store, jobs, tries, turns);
-    is_limited(rt, limit, &done);
 }
 
 #[test]

@@ -53,7 +53,10 @@ fn is_found(rt: &impl Abort, declared: &DeclaredType, calls: &CallTable, row: &R
 {
     let (name, place, amount, bits) = *row;
     let first = number_of(place, amount);
-    let call = bits.map(|operations| Call { first, operations });
+    let call = match bits {
+        Some(operations) => Some(Call { first, operations }),
+        None => None,
+    };
     assert!(rt; calls.by_name(declared, name.as_bytes()) == call, "{name}");
     assert!(rt; calls.by_number(declared, first) == call, "{name}");
 }

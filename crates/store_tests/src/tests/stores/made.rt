@@ -1,14 +1,14 @@
 //! Of which objects a store is made, and in which order they come back.
 
-use super::scripts::{Row, answers, is_closed, store_of};
-use super::{objects_of, types_of};
+use super::scripts::{Row, answers, store_of};
 use crate::tests::asked::{Ask, Told};
-use crate::tests::checked_types::Sort;
+use crate::tests::checked_types::{Sort, checked_of};
 use object_trait::{Recovery, Renew};
 use objects::Object;
 use std::process::Abort;
 use std::sync::Arc;
 use store::{NewRefusal, Store};
+use table_checker::CheckedType;
 use test_support::type_texts::COUNTER;
 use type_table::Kind;
 
@@ -22,27 +22,42 @@ static COUNTERS: [Sort; 3] = [
 /// What a counter is asked before it is offered again.
 static UP: [Row; 3] = [
     (0, Ask::Begin, Told::Begun(0)),
-    (0, Ask::Call(0, 0, "inc:1"), Told::Reply(0)),
+    (0, Ask::Call(0, 0, "inc:1"), Told::Operation(0)),
     (0, Ask::Commit(0), Told::Done),
 ];
 
-/// The object at this place, counted up.
-fn touched_at(rt: &(impl Abort + AllocGlobal), x: usize) -> Object {
-    let mut store = store_of(rt, objects_of(rt, &[COUNTERS[x % 3]]), 20);
+/// An object of this type, counted up.
+fn touched(rt: &(impl Abort + AllocGlobal), checked: Arc<CheckedType>) -> Object {
+    let mut objects = Vec::new(rt.alloc());
+    let object = Object::new(rt.alloc(), checked);
+    objects.push(object).ok().expect(rt, "no room");
+    let mut store = store_of(rt, objects, 20);
     answers(rt, &mut store, &UP);
-    store.close().1.pop().expect(rt, "no object")
+    let (_, mut objects) = store.close();
+    objects.pop().expect(rt, "no object")
 }
 
-/// This many objects, of which one may have been touched.
-fn offered(rt: &(impl Abort + AllocGlobal), count: usize, touched: Option<usize>) -> Vec<Object> {
-    let types = types_of(rt, &COUNTERS);
+/// The checked types of the counters.
+fn types(rt: &(impl Abort + AllocGlobal)) -> Vec<Arc<CheckedType>> {
+    let mut types = Vec::new(rt.alloc());
+    for (kind, text) in &COUNTERS {
+        let checked = checked_of(rt.alloc(), text, *kind).expect(rt, "no type");
+        types.push(checked).ok().expect(rt, "no room");
+    }
+    types
+}
+
+/// This many objects, of which the one at a place may have been touched.
+fn offered(rt: &(impl Abort + AllocGlobal), count: usize, place: Option<usize>) -> Vec<Object> {
+    let types = types(rt);
     let mut objects = Vec::new(rt.alloc());
     for x in 0..count {
         let checked = types.get(x % 3).expect(rt, "no type");
-        let object = if touched == Some(x) {
-            touched_at(rt, x)
+        let checked = Arc::try_clone(checked).expect(rt, "too many");
+        let object = if place == Some(x) {
+            touched(rt, checked)
         } else {
-            Object::new(rt.alloc(), Arc::try_clone(checked).expect(rt, "too many"))
+            Object::new(rt.alloc(), checked)
         };
         objects.push(object).ok().expect(rt, "no room");
     }
@@ -95,13 +110,4 @@ fn stores_are_made_of_new_objects(rt: HostRuntime) {
     for offer in &OFFERS {
         is_tried(&rt, offer);
     }
-}
-
-/// A store is empty at first.
-#[test]
-fn a_new_store_is_empty(rt: HostRuntime) {
-    let store = store_of(&rt, offered(&rt, 2, None), 20);
-    let seen = (store.history().len(), store.kept(1), store.kept(2));
-    assert!(rt; seen == (0, Some(0), None));
-    let _ = is_closed(&rt, store, &[]);
 }

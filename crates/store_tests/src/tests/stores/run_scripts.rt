@@ -3,7 +3,7 @@
 ghost use Rattle.std.specs.Prelude.{◌≡◌, true, [], length};
 
 use super::objects_of;
-use super::scripts::{Happened, Happening, are_closed, are_events, store_of};
+use super::scripts::{Happened, Happening, are_events, is_closed, store_of};
 use object_trait::Recovery;
 use objects::Object;
 use outputs::OutFault;
@@ -48,49 +48,50 @@ end
 # kept 0 1
 ";
 
-/// The events of its commands.
-static EVENTS: [Happened; 6] = [
-    (0, Happening::Begin { t: 0 }),
-    (0, Happening::Begin { t: 1 }),
-    (0, Happening::Op { t: 0, x: 0, k: 0 }),
-    (0, Happening::Op { t: 1, x: 0, k: 0 }),
-    (0, Happening::Abort { t: 0 }),
-    (0, Happening::Commit { t: 1 }),
-];
+const BEGIN_0: Happened = (0, Happening::Begin { t: 0 });
+
+const BEGIN_1: Happened = (0, Happening::Begin { t: 1 });
+
+const UP_0: Happened = (0, Happening::Op { t: 0, x: 0, k: 0 });
+
+const UP_1: Happened = (0, Happening::Op { t: 1, x: 0, k: 0 });
 
 const ABORT_0: Happened = (0, Happening::Abort { t: 0 });
 
 const ABORT_1: Happened = (0, Happening::Abort { t: 1 });
 
-/// What `close` appends where this many commands were asked.
-static CLOSING: [&[Happened]; 7] = [
+const COMMIT_1: Happened = (0, Happening::Commit { t: 1 });
+
+/// The history of a store at its close where this many commands were asked: their events, and the ends of what they left
+/// open.
+static HISTORIES: [&[Happened]; 7] = [
     &[],
-    &[ABORT_0],
-    &[ABORT_0, ABORT_1],
-    &[ABORT_0, ABORT_1],
-    &[ABORT_0, ABORT_1],
-    &[ABORT_1],
-    &[],
+    &[BEGIN_0, ABORT_0],
+    &[BEGIN_0, BEGIN_1, ABORT_0, ABORT_1],
+    &[BEGIN_0, BEGIN_1, UP_0, ABORT_0, ABORT_1],
+    &[BEGIN_0, BEGIN_1, UP_0, UP_1, ABORT_0, ABORT_1],
+    &[BEGIN_0, BEGIN_1, UP_0, UP_1, ABORT_0, ABORT_1],
+    &[BEGIN_0, BEGIN_1, UP_0, UP_1, ABORT_0, COMMIT_1],
 ];
 
-/// How many commands were asked where the output stopped after this many bytes: the one whose line
-/// failed, and those before it.
-fn asked_at(room: usize) -> usize {
-    let text = KEEPS_OTHERS_TEXT.as_bytes();
-    let ended = text.get(..room).unwrap_or(text);
-    let lines = ended.iter().filter(|b| **b == b'\n').count();
-    lines.min(EVENTS.len())
+/// How many commands were asked where the output stopped after these bytes: the one whose line failed, and those
+/// before it.
+fn asked_at(taken: &[u8]) -> usize {
+    let mut lines = 0usize;
+    for byte in taken {
+        if *byte == b'\n' {
+            lines = lines.wrapping_add(1);
+        }
+    }
+    lines.min(6)
 }
 
 /// That a store whose script asked this many commands has their events, and `close` aborts what is open.
 fn is_left(rt: &impl Abort, store: Store<Object>, asked: usize) {
-    let events = EVENTS.get(..asked).unwrap_or(&[]);
-    are_events(rt, store.history(), events);
-    let (history, objects) = store.close();
-    are_events(rt, history.get(..asked).unwrap_or(&[]), events);
-    let closing = CLOSING.get(asked).copied().unwrap_or(&[]);
-    are_events(rt, history.get(asked..).unwrap_or(&[]), closing);
-    are_closed(rt, &objects);
+    let history = HISTORIES.get(asked).copied().unwrap_or(&[]);
+    are_events(rt, store.history(), history.get(..asked).unwrap_or(&[]));
+    let up = u32::from(asked == 6);
+    let _ = is_closed(rt, store, history, &[up]);
 }
 
 /// That a run on a new counter stops after this many bytes, by this fault.
@@ -109,7 +110,7 @@ fn stops_at(
     assert!(rt; result == wanted);
     let held = out.into_inner().held;
     assert!(rt; KEEPS_OTHERS_TEXT.as_bytes().get(..room) == Some(held.as_slice()));
-    is_left(rt, store, asked_at(room));
+    is_left(rt, store, asked_at(&held));
 }
 
 /// Each beginning of the text is what an output may have taken, and each has its history.

@@ -12,4 +12,4 @@ returns-else-m-gt0 c =
     let log = option_to_list object.entry in
     let count = length (open_of c.args.t log) in
     let none : count - c.args.m ≡ count = omega arith in
-    rw none (strike-unsettled (of_one_entry object.checked object.entry) c.args.t count log object.in_place (sym (keep_first-all (is_open_of c.args.t) log)))
+    rw none (strike-unsettled (of_one_entry object.checked.value object.entry) c.args.t count log object.in_place (sym (keep_first-all (is_open_of c.args.t) log)))
