@@ -1,4 +1,4 @@
-//! Tests of the program: its words, its tasks, the texts that it reads, and whole runs of it.
+//! Tests of the program below its commands: its types, and the texts that it reads and writes.
 #![tactic(auto)]
 
 #[cfg(test)]

@@ -1,9 +1,15 @@
-//! The tests of the program's words, and of its texts and files.
+//! The tests of types, and of the texts and outputs of the program.
 
-mod audit_words;
+mod apart;
+mod checked;
 mod gathered;
-mod memory_source;
-mod source;
+mod laws;
+mod lines;
+mod number_calls;
+mod number_files;
+mod relations;
+mod sinks;
 mod texts;
 mod texts_written;
-mod words;
+mod type_files;
+mod types;

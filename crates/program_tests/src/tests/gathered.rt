@@ -51,6 +51,5 @@ fn lines_are_handed_on_in_large_pieces(rt: HostRuntime) {
     }
     assert!(rt; out.flush() == Ok(()));
     let sizes = out.into_inner();
-    assert!(rt; 65_536 <= sizes.least && sizes.least < usize::MAX);
-    assert!(rt; sizes.bytes == 220_000);
+    assert!(rt; (65_536 <= sizes.least) & (sizes.least < usize::MAX) & (sizes.bytes == 220_000));
 }

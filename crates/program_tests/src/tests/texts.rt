@@ -124,17 +124,17 @@ do 5 inc:1
 end
 ";
 
-/// Canonical texts.
-static TEXTS: [(Reader, &[u8]); 9] = [
-    (Reader::Script, SCRIPT),
-    (Reader::Script, SHORT_SCRIPT),
-    (Reader::History, HISTORY),
-    (Reader::History, HIGH_HISTORY),
-    (Reader::Jobs(3), JOBS),
-    (Reader::Jobs(1), TWO_JOBS),
-    (Reader::Jobs(1), THREE_JOBS),
-    (Reader::Jobs(1), NO_CALL),
-    (Reader::Jobs(1), NO_OBJECT),
+/// Canonical texts, and how many lines each has.
+static TEXTS: [(Reader, &[u8], usize); 9] = [
+    (Reader::Script, SCRIPT, 12),
+    (Reader::Script, SHORT_SCRIPT, 3),
+    (Reader::History, HISTORY, 13),
+    (Reader::History, HIGH_HISTORY, 9),
+    (Reader::Jobs(3), JOBS, 9),
+    (Reader::Jobs(1), TWO_JOBS, 7),
+    (Reader::Jobs(1), THREE_JOBS, 9),
+    (Reader::Jobs(1), NO_CALL, 5),
+    (Reader::Jobs(1), NO_OBJECT, 5),
 ];
 
 /// The fault that the reader names.
@@ -147,9 +147,13 @@ fn fault_of(alloc: Global, reader: Reader, text: &[u8]) -> Option<TextFault> {
 }
 
 #[test]
-fn texts_say_their_values(rt: HostRuntime) {
+fn a_script_says_its_values(rt: HostRuntime) {
     let script = read_script(rt.alloc(), SCRIPT).expect(&rt, "a fault");
     assert!(rt; (script.max == 20) & (script.objects.len() == 2) & (script.commands.len() == 8));
+}
+
+#[test]
+fn jobs_say_their_values(rt: HostRuntime) {
     let file = read_jobs(rt.alloc(), MIXED_JOBS, 3).expect(&rt, "a fault");
     assert!(rt; (file.max == 4) & (file.objects.len() == 1) & (file.jobs.len() == 3));
 }
@@ -170,21 +174,15 @@ fn no_workers_have_no_job(rt: HostRuntime) {
 fn is_refused_memory(fault: Option<TextFault>, lines: usize) -> bool {
     match fault {
         Some(fault) => {
-            fault.kind == FaultKind::NoMemory && 1 <= fault.line && fault.line <= lines
+            (fault.kind == FaultKind::NoMemory) & (1 <= fault.line) & (fault.line <= lines)
         }
         None => true,
     }
 }
 
-/// How many lines a text has.
-fn line_count(text: &[u8]) -> usize {
-    text.iter().filter(|byte| **byte == b'\n').count()
-}
-
 #[test]
 fn readers_say_that_memory_is_refused(rt: HostRuntime) {
-    for (reader, text) in &TEXTS {
-        let fault = fault_of(rt.alloc(), *reader, text);
-        assert!(rt; is_refused_memory(fault, line_count(text)));
+    for (reader, text, lines) in &TEXTS {
+        assert!(rt; is_refused_memory(fault_of(rt.alloc(), *reader, text), *lines));
     }
 }

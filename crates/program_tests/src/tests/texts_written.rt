@@ -4,7 +4,7 @@ ghost use Rattle.std.specs.Prelude.{None};
 
 use super::texts::{HIGH_HISTORY, HISTORY};
 use history_text::{
-    HistoryFile, Out, OutFault, read_history, write_event, write_history, write_object,
+    HistoryFile, ObjectLine, Out, OutFault, read_history, write_event, write_history, write_object,
 };
 use object_trait::{Event, EventKind};
 use outputs::{Failed, Sink};
@@ -47,22 +47,28 @@ fn history_of(rt: &(impl Abort + AllocGlobal), text: &[u8]) -> HistoryFile {
 }
 
 fn are_same(file: &HistoryFile, other: &HistoryFile) -> bool {
-    file.objects.as_slice() == other.objects.as_slice()
-        && file.events.as_slice() == other.events.as_slice()
+    (file.objects.as_slice() == other.objects.as_slice())
+        & (file.events.as_slice() == other.events.as_slice())
 }
 
-/// That the history of a text is written so, and that what is read of this is the history.
-fn is_written_as(rt: &(impl Abort + AllocGlobal), text: &[u8], wanted: &[u8]) {
-    let file = history_of(rt, text);
-    assert!(rt; written(rt, &file).as_slice() == wanted);
-    assert!(rt; are_same(&history_of(rt, wanted), &file));
+/// Texts of histories, and how they are written.
+static TEXTS: [(&[u8], &[u8]); 3] = [
+    (HISTORY, HISTORY),
+    (HIGH_HISTORY, HIGH_HISTORY),
+    (COMMENTED, HISTORY),
+];
+
+/// That a history is written so, and that what is read of this is the history.
+fn is_written_as(rt: &(impl Abort + AllocGlobal), file: &HistoryFile, wanted: &[u8]) {
+    assert!(rt; written(rt, file).as_slice() == wanted);
+    assert!(rt; are_same(&history_of(rt, wanted), file));
 }
 
 #[test]
 fn histories_are_written_and_read_again(rt: HostRuntime) {
-    is_written_as(&rt, HISTORY, HISTORY);
-    is_written_as(&rt, HIGH_HISTORY, HIGH_HISTORY);
-    is_written_as(&rt, COMMENTED, HISTORY);
+    for (text, wanted) in &TEXTS {
+        is_written_as(&rt, &history_of(&rt, text), wanted);
+    }
 }
 
 /// An output that counts the pieces that it is offered, and takes them whole.
@@ -104,29 +110,36 @@ const GREATEST_LINE: &[u8] = b"busy 255 4294967295 4294967295 255 4294967295\n";
 #[test]
 fn the_greatest_event_has_its_line(rt: HostRuntime) {
     let mut out = Sink::new(Vec::new(rt.alloc()));
-    assert!(rt; write_event(&mut out, &GREATEST) == Ok(()));
-    assert!(rt; out.into_inner().as_slice() == GREATEST_LINE);
+    let told = write_event(&mut out, &GREATEST);
+    assert!(rt; (told == Ok(())) & (out.into_inner().as_slice() == GREATEST_LINE));
 }
 
-/// That each event of a history is written in one piece, and its objects and events make its text.
-fn are_pieces(rt: &impl Abort, file: &HistoryFile, text: &[u8]) {
+/// That each of these events is written in one piece.
+fn are_pieces(rt: &impl Abort, events: &[Event], out: &mut Counting) {
+    for event in events {
+        assert!(rt; write_event(out, event) == Ok(()));
+    }
+    assert!(rt; out.pieces == events.len());
+}
+
+/// Writes these objects.
+fn write_objects(rt: &impl Abort, objects: &[ObjectLine], out: &mut Counting) {
+    for object in objects {
+        assert!(rt; write_object(out, object) == Ok(()));
+    }
+}
+
+/// The events and the objects of a history make its text up to its end.
+#[test]
+fn an_event_is_one_piece(rt: HostRuntime) {
+    let file = history_of(&rt, HISTORY);
     let mut out = Counting {
         pieces: 0,
         bytes: 0,
     };
-    for event in &file.events {
-        assert!(rt; write_event(&mut out, event) == Ok(()));
-    }
-    assert!(rt; out.pieces == file.events.len());
-    for object in &file.objects {
-        assert!(rt; write_object(&mut out, object) == Ok(()));
-    }
-    assert!(rt; out.bytes.wrapping_add(4) == text.len());
-}
-
-#[test]
-fn an_event_is_one_piece(rt: HostRuntime) {
-    are_pieces(&rt, &history_of(&rt, HISTORY), HISTORY);
+    are_pieces(&rt, &file.events, &mut out);
+    write_objects(&rt, &file.objects, &mut out);
+    assert!(rt; out.bytes.wrapping_add(4) == HISTORY.len());
 }
 
 /// That a writer with room for this many bytes holds these of the text, and stops it by this fault.
@@ -138,8 +151,9 @@ fn stops(
     fault: OutFault,
 ) {
     let mut out = narrow_sink(rt.alloc(), 7, room, at_end);
-    assert!(rt; write_history(&file.objects, &file.events, &mut out) == Err(fault));
-    assert!(rt; Some(out.into_inner().held.as_slice()) == HISTORY.get(..room));
+    let told = write_history(&file.objects, &file.events, &mut out);
+    let held = out.into_inner().held;
+    assert!(rt; (told == Err(fault)) & (Some(held.as_slice()) == HISTORY.get(..room)));
 }
 
 #[test]

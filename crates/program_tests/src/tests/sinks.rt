@@ -1,9 +1,6 @@
 //! The outputs.
 
-ghost use Rattle.std.specs.Prelude.{◌≡◌, None};
-ghost use Rattle.outputs.specs.Out.{sink_fault};
-
-use outputs::{Failed, Out, OutFault, Sink, put, put_all};
+use outputs::{Failed, Out, OutFault, Sink, put_all};
 use std::process::Abort;
 use test_support::sinks::{AtEnd, narrow_sink};
 
@@ -74,42 +71,34 @@ static ROWS: [Row; 6] = [
 fn leaves_a_beginning(rt: &(impl Abort + AllocGlobal), row: &Row) {
     let mut out = narrow_sink(rt.alloc(), row.width, row.room, row.at_end);
     let told = put_all(&mut out, row.pieces).err();
-    assert!(rt; (told == row.fault) & (out.fault() == row.fault));
-    assert!(rt; out.into_inner().held.as_slice() == row.held);
-}
-
-/// The same of each row.
-fn leave_beginnings(rt: &(impl Abort + AllocGlobal), rows: &[Row]) {
-    for row in rows {
-        leaves_a_beginning(rt, row);
-    }
+    let fault = out.fault();
+    let held = out.into_inner().held;
+    assert!(rt; (told == row.fault) & (fault == row.fault) & (held.as_slice() == row.held));
 }
 
 #[test]
 fn faults_leave_a_beginning(rt: HostRuntime) {
-    leave_beginnings(&rt, &ROWS);
-}
-
-/// Whether memory takes these pieces, without a fault.
-fn takes_pieces(out: &mut Sink<Vec<u8>>) -> bool
-    requires { sink_fault out.old ≡ None }
-{
-    put(out, b"step 0 inc:1 1\nend\n") == Ok(())
-        && put_all(out, &[b"end", b"", b"\n"]) == Ok(())
-        && out.fault() == None
+    for row in &ROWS {
+        leaves_a_beginning(&rt, row);
+    }
 }
 
 #[test]
 fn memory_takes_pieces_whole(rt: HostRuntime) {
-    let mut out = Sink::new(b"# ".to_vec(rt.alloc()).expect(&rt, "no memory"));
-    assert!(rt; takes_pieces(&mut out));
+    let mut out = Sink::new(Vec::new(rt.alloc()));
+    let told = put_all(
+        &mut out,
+        &[b"# ", b"step 0 inc:1 1\nend\n", b"end", b"", b"\n"],
+    );
+    let fault = out.fault();
     let held = out.into_inner();
-    assert!(rt; held.as_slice() == b"# step 0 inc:1 1\nend\nend\n".as_slice());
+    let is_held = held.as_slice() == b"# step 0 inc:1 1\nend\nend\n".as_slice();
+    assert!(rt; (told == Ok(())) & (fault == None) & is_held);
 }
 
 #[test]
 fn an_error_of_a_writer_is_a_fault(rt: HostRuntime) {
     let mut out = narrow_sink(rt.alloc(), 100, 0, AtEnd::Fails);
-    assert!(rt; out.take(b"end\n") == Err(Failed));
-    assert!(rt; out.fault() == Some(OutFault::Device));
+    let told = out.take(b"end\n");
+    assert!(rt; (told == Err(Failed)) & (out.fault() == Some(OutFault::Device)));
 }

@@ -1,0 +1,170 @@
+//! What `check` and `check_parallel` hand back besides their verdict, and which types are the same.
+
+use crate::tests::type_files::{file_of, is_written};
+use declared_types::TypeFile;
+use std::process::Abort;
+use std::test::Fail;
+use table_checker::{CheckRefusal, CheckedType, check, check_parallel};
+use test_support::printed::are_printed;
+use test_support::texts::changed;
+use test_support::type_texts::{COUNTER, IDLE};
+use type_table::Kind;
+
+/// The conflicts of the counter.
+const PAIRS: &str =
+    "conflict undo 0 1\nconflict undo 1 0\nconflict intentions 0 0\nconflict intentions 1 1\n";
+
+/// The counter's text with these conflicts.
+fn with_conflicts(rt: &(impl Abort + AllocGlobal), lines: &str) -> Vec<u8> {
+    changed(rt.alloc(), COUNTER, PAIRS, lines.as_bytes()).expect(rt, "no memory")
+}
+
+/// That a text comes back with the refusal of its first pair that fails.
+fn comes_back<R: Abort + AllocGlobal>(
+    rt: &R,
+    text: &[u8],
+    checked: Result<CheckedType, (TypeFile, CheckRefusal)>,
+) {
+    let (file, refusal) = checked.err().expect(rt, "accepted");
+    assert!(rt; refusal == CheckRefusal::NotCommuting { p: 0, q: 1, s: 2 });
+    is_written(rt, &file, text);
+}
+
+#[test]
+fn a_refused_counter_comes_back(rt: HostRuntime) {
+    let text = with_conflicts(&rt, "conflict undo 1 0\n");
+    comes_back(&rt, &text, check(file_of(&rt, &text), Kind::Undo));
+    comes_back(
+        &rt,
+        &text,
+        check_parallel(&rt, file_of(&rt, &text), Kind::Undo),
+    );
+}
+
+/// The type of a text, accepted for update in place.
+fn accepted(rt: &(impl Abort + AllocGlobal), text: &[u8]) -> CheckedType {
+    check(file_of(rt, text), Kind::Undo)
+        .ok()
+        .expect(rt, "refused")
+}
+
+/// The type of the counter's text with these conflicts.
+fn counter_with(rt: &(impl Abort + AllocGlobal), lines: &str) -> CheckedType {
+    accepted(rt, &with_conflicts(rt, lines))
+}
+
+/// The type that begins at this state, if there is one.
+fn begun(
+    rt: &(impl Abort + AllocGlobal),
+    checked: &CheckedType,
+    state: u32,
+) -> Option<CheckedType> {
+    checked.at(rt.alloc(), state).expect(rt, "no memory")
+}
+
+/// Whether there is a type that begins at this state.
+fn is_at(begun: &Option<CheckedType>, state: u32) -> bool {
+    match begun {
+        Some(checked) => checked.initial() == state,
+        None => false,
+    }
+}
+
+/// States, and whether the type of which no run comes to state 1 or 2 begins there: at those of its set alone.
+static OF_IDLE: [(u32, bool); 6] = [
+    (0, true),
+    (1, false),
+    (2, false),
+    (3, false),
+    (65_536, false),
+    (u32::MAX, false),
+];
+
+/// That this type begins anew at those of these states where it may.
+fn begins_at(rt: &(impl Abort + AllocGlobal), idle: &CheckedType) {
+    for (state, is_there) in &OF_IDLE {
+        assert!(rt; is_at(&begun(rt, idle, *state), *state) == *is_there);
+    }
+}
+
+/// Whether two types are told to be the same, or not to be, whichever is asked.
+fn are_compared(one: &CheckedType, other: &CheckedType, is_same: bool) -> bool {
+    (one.is_same(other) == is_same) & (other.is_same(one) == is_same)
+}
+
+/// The conflicts of the counter, and these with one more of one kind and of the other; and whether that is the type of
+/// the counter.
+static CONFLICTS: [(&str, bool); 3] = [
+    (PAIRS, true),
+    (
+        "conflict undo 0 0\nconflict undo 0 1\nconflict undo 1 0\nconflict intentions 0 0\nconflict intentions 1 1\n",
+        false,
+    ),
+    (
+        "conflict undo 0 1\nconflict undo 1 0\nconflict intentions 0 0\nconflict intentions 0 1\nconflict intentions 1 1\n",
+        false,
+    ),
+];
+
+/// That types are the same where each of their parts is.
+fn is_compared(rt: &(impl Abort + AllocGlobal), counter: &CheckedType) {
+    for (lines, is_same) in &CONFLICTS {
+        assert!(rt; are_compared(counter, &counter_with(rt, lines), *is_same));
+    }
+}
+
+/// Whether a type that begins at state 1 isn't the same, but is it at that state.
+fn is_elsewhere(counter: &CheckedType, other: &CheckedType) -> bool {
+    are_compared(counter, other, false)
+        & other.is_at(counter, 1)
+        & !other.is_at(counter, 0)
+        & counter.is_at(other, 0)
+}
+
+/// That the counter that begins at state 1 is told from it.
+fn is_told_elsewhere(rt: &(impl Abort + AllocGlobal), counter: &CheckedType) {
+    let other = begun(rt, counter, 1).expect(rt, "no state");
+    assert!(rt; is_elsewhere(counter, &other));
+}
+
+/// That another type isn't the counter.
+fn is_another(rt: &(impl Abort + AllocGlobal), counter: &CheckedType) {
+    let idle = accepted(rt, IDLE.as_bytes());
+    begins_at(rt, &idle);
+    assert!(rt; are_compared(counter, &idle, false));
+}
+
+#[test]
+fn types_are_compared(rt: HostRuntime) {
+    let counter = counter_with(&rt, PAIRS);
+    is_compared(&rt, &counter);
+    is_told_elsewhere(&rt, &counter);
+    is_another(&rt, &counter);
+}
+
+/// Refusals, and how they are printed.
+static REFUSALS: [(CheckRefusal, &str); 5] = [
+    (CheckRefusal::InitialOutside, "InitialOutside"),
+    (
+        CheckRefusal::NotClosed { s: 1023, k: 7 },
+        "NotClosed 1023 7",
+    ),
+    (
+        CheckRefusal::NotSimulation { s: 4, t: 3, k: 2 },
+        "NotSimulation 4 3 2",
+    ),
+    (
+        CheckRefusal::NotCommuting {
+            p: 0,
+            q: 63,
+            s: 1023,
+        },
+        "NotCommuting 0 63 1023",
+    ),
+    (CheckRefusal::NotNumeric { k: 63, s: 0 }, "NotNumeric 63 0"),
+];
+
+#[test]
+fn faults_are_printed(rt: HostRuntime) -> Result<(), Fail> {
+    are_printed(rt.alloc(), &REFUSALS)
+}

@@ -1,5 +1,0 @@
-//! Tests of types: their tables, relations, texts, checks and outputs.
-#![tactic(auto)]
-
-#[cfg(test)]
-mod tests;
