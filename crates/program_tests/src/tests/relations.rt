@@ -2,10 +2,11 @@
 
 use equi_cert::Relation;
 
-/// A copy lacks a pair that is added after it was made.
+/// A pair may be added twice. A copy lacks a pair that is added after it was made.
 #[test]
 fn copies_keep_their_pairs(rt: HostRuntime) {
     let mut relation = Relation::new(rt.alloc(), 3).expect(&rt, "no memory");
+    relation.add(0, 1);
     relation.add(0, 1);
     let copy = relation.copy(rt.alloc()).expect(&rt, "no memory");
     relation.add(1, 2);

@@ -85,11 +85,8 @@ fn faults_leave_a_beginning(rt: HostRuntime) {
 
 #[test]
 fn memory_takes_pieces_whole(rt: HostRuntime) {
-    let mut out = Sink::new(Vec::new(rt.alloc()));
-    let told = put_all(
-        &mut out,
-        &[b"# ", b"step 0 inc:1 1\nend\n", b"end", b"", b"\n"],
-    );
+    let mut out = Sink::new(b"# ".to_vec(rt.alloc()).expect(&rt, "no memory"));
+    let told = put_all(&mut out, &[b"step 0 inc:1 1\nend\n", b"end", b"", b"\n"]);
     let fault = out.fault();
     let held = out.into_inner();
     let is_held = held.as_slice() == b"# step 0 inc:1 1\nend\nend\n".as_slice();
