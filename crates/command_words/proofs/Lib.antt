@@ -12,6 +12,7 @@ pub mod LineAnswers
 pub mod LinePlain
 pub mod StoreLemmas
 pub mod FileLemmas
+mod FormLemmas
 pub mod CreateLemmas
 pub mod ExplainLemmas
 pub mod SubcommandLemmas

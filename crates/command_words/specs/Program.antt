@@ -1,12 +1,12 @@
 -- What `clap` reads of the program's command.
-use Rattle.std.specs.Prelude.{◌≡◌, ◌⊎◌, ℕ, pos, true, false, List, [], ◌∷◌, Some, codes, Option, Result, Ok, Err, None, IfSome, unwrap_or}
+use Rattle.std.specs.Prelude.{◌≡◌, ◌⊎◌, ℕ, pos, true, false, List, [], ◌∷◌, Some, codes, Option, Result, Ok, Err, None, IfSome, fold, if◌then◌else◌, length, unwrap_or}
 use Rattle.clap.specs.Values.{kind_of}
 use Rattle.clap.specs.Faults.{fault_of}
 use Rattle.clap.specs.Kinds.{IsAmong}
 use Rattle.clap.specs.Matches.{found_of}
 use Rattle.clap.specs.Walk.{Row, Rule, all_of, first_of, one_of, rows_of, rule_of, texts}
 use Rattle.clap.specs.Simple.{App, HasMatchesOf, app_of, new_app, new_rule, on_top, subcommand_rows_of, with_rule, with_subcommand}
-use Rattle.clap.specs.declared.builder.action.ArgAction.TheVariants.{Append}
+use Rattle.clap.specs.declared.builder.action.ArgAction.TheVariants.{Append, Set}
 use Rattle.clap.specs.declared.builder.arg.Arg.{Arg}
 use Rattle.clap.specs.declared.builder.command.Command.{Command}
 use Rattle.clap.specs.declared.builder.command.Command.TheViews.{out-Command}
@@ -18,6 +18,8 @@ use Rattle.clap.specs.declared.builder.value_parser.Reading.TheVariants.{AsWritt
 use Rattle.clap.specs.declared.builder.value_parser.ValueParser.{ValueParser}
 use Rattle.clap.specs.declared.builder.value_parser.ValueParser.TheVariants as parser
 use Rattle.std.specs.Borrow.{Bor}
+use Rattle.command_words.specs.declared.program.Form.{Form}
+use Rattle.command_words.specs.declared.program.Word.{Word}
 use Rattle.command_words.specs.Lines.{Audit, SpellsNumber, IsWholeAudit, IsWholeWork, Setting, Work, following, seed, setting_name, tries, work_name, workers}
 use Rattle.command_words.specs.Words.{Asked, Order, Text}
 use Rattle.command_words.specs.Words as asked
@@ -32,9 +34,14 @@ kind_words = kind_word Undo ∷ kind_word Intentions ∷ kind_word Escrow ∷ []
 abbrev pub ReadsKinds : ValueParser → Type 0
 ReadsKinds p = (words : Bor (List (Bor Text))) × (p ≡ parser.Names words) × (texts words.now ≡ kind_words)
 
--- a word that has to be there, by its id
+-- an operand with one value, which has to be there
 abbrev pub wanted_rule : Text → Rule
-wanted_rule id = record (new_rule id) { required = true; value_names = 1 }
+wanted_rule id = record (new_rule id) {
+  required = true;
+  action = Some Set;
+  value_names = 1;
+  parser = Some parser.String;
+}
 
 -- KIND
 abbrev pub kind_rule : ValueParser → Rule
@@ -42,7 +49,7 @@ kind_rule kinds = record (wanted_rule (codes "kind")) { parser = Some kinds }
 
 -- ITEM, any number of times
 abbrev pub items_rule : Rule
-items_rule = record (new_rule (codes "items")) { action = Some Append; value_names = 1 }
+items_rule = record (wanted_rule (codes "items")) { required = false; action = Some Append }
 
 -- TYPE, at least once
 abbrev pub types_rule : Rule
@@ -50,7 +57,7 @@ types_rule = record (wanted_rule (codes "types")) { action = Some Append }
 
 -- P and Q, both or neither
 abbrev pub pair_rule : Rule
-pair_rule = record (new_rule (codes "pair")) { value_names = 2 }
+pair_rule = record (wanted_rule (codes "pair")) { required = false; value_names = 2 }
 
 -- a command over a type file and a kind, as `check KIND FILE`
 abbrev pub kind_app : Text → ValueParser → App
@@ -82,33 +89,25 @@ abbrev pub create_app : App
 create_app = with_rule (with_rule (with_rule (new_app (codes "create"))
     (wanted_rule (codes "database"))) (wanted_rule (codes "path"))) types_rule
 
--- an option with a number
+-- an option, which has to be there once
 abbrev pub option_rule : Setting → ValueParser → Rule
-option_rule setting values = record (new_rule (setting_name setting)) {
-  long = Some (setting_name setting);
-  value_names = 1;
-  parser = Some values;
-}
+option_rule setting values = record (wanted_rule (setting_name setting)) { long = Some (setting_name setting); parser = Some values }
 
--- `--workers N`, which has to be there
+-- `--workers N`
 abbrev pub workers_rule : Rule
-workers_rule = record (option_rule workers (parser.Signed (pos 1) (pos 16))) { required = true }
+workers_rule = option_rule workers (parser.Signed (pos 1) (pos 16))
 
 -- `--tries K`, with 3 for it
 abbrev pub tries_rule : Rule
-tries_rule = record (option_rule tries (parser.Signed (pos 1) (pos 100))) { defaults = codes "3" ∷ [] }
+tries_rule = record (option_rule tries (parser.Signed (pos 1) (pos 100))) { required = false; defaults = codes "3" ∷ [] }
 
--- `--seed S`, which has to be there
+-- `--seed S`
 abbrev pub seed_rule : Rule
-seed_rule = record (option_rule seed (parser.Unsigned 0 18446744073709551615)) { required = true }
+seed_rule = option_rule seed (parser.Unsigned 0 18446744073709551615)
 
 -- `--then HISTORY`, any number of times
 abbrev pub then_rule : Rule
-then_rule = record (new_rule (setting_name following)) {
-  long = Some (setting_name following);
-  action = Some Append;
-  value_names = 1;
-}
+then_rule = record (option_rule following parser.String) { required = false; action = Some Append }
 
 -- `audit HISTORY [--then HISTORY]... TYPE...`
 abbrev pub audit_app : App
@@ -133,20 +132,58 @@ bare_program = on_top (λ top. record top {
   subcommand_required = true;
 }) (new_app (codes "colock"))
 
--- with its commands over types
-abbrev pub type_program : ValueParser → App
-type_program kinds = with_subcommand (with_subcommand (with_subcommand (with_subcommand bare_program
-    (check_app kinds).top) (explain_app kinds).top) make_app.top) (file_app (codes "tables")).top
+-- its commands, but for `serve`
+abbrev pub commands : ValueParser → List App
+commands kinds =
+    check_app kinds
+    ∷ explain_app kinds
+    ∷ make_app
+    ∷ file_app (codes "tables")
+    ∷ store_app (codes "run")
+    ∷ audit_app
+    ∷ work_app
+    ∷ stress_app
+    ∷ create_app
+    ∷ file_app (codes "history")
+    ∷ []
 
--- and with those over scripts, histories and jobs
-abbrev pub script_program : ValueParser → App
-script_program kinds = with_subcommand (with_subcommand (with_subcommand (with_subcommand (type_program kinds)
-    (store_app (codes "run")).top) audit_app.top) work_app.top) stress_app.top
+-- the program with one more command
+abbrev pub with_command : App → App → App
+with_command program command = with_subcommand program command.top
 
--- the program: with those over the file of a store too, but for `serve`
+-- and with all of these
+abbrev pub with_commands : List App → App
+with_commands commands = fold with_command bare_program commands
+
+-- the program with its commands, but for `serve`
 abbrev pub program : ValueParser → App
-program kinds = with_subcommand (with_subcommand (script_program kinds)
-    create_app.top) (file_app (codes "history")).top
+program kinds = with_commands (commands kinds)
+
+-- what `clap` reads of an operand, or of what an option has in common with one
+abbrev pub operand_rule : Word → Rule
+operand_rule w = record (new_rule w.id.now) {
+  required = w.required;
+  action = Some w.action;
+  value_names = length w.shown.now;
+  parser = Some w.parser;
+  defaults = texts w.default.now;
+}
+
+-- and of either
+abbrev pub word_rule : Word → Rule
+word_rule w = if w.is_option then record (operand_rule w) { long = Some w.id.now } else operand_rule w
+
+-- a command with one more word
+abbrev pub with_word : App → Word → App
+with_word a w = with_rule a (word_rule w)
+
+-- and of a command
+abbrev pub command_app : Form → App
+command_app form = fold with_word (new_app form.name.now) form.words.now
+
+-- the program with one more command, by its form
+abbrev pub with_form : App → Form → App
+with_form program form = with_command program (command_app form)
 
 -- the command is read as this one, and has no argument of the commands below it
 abbrev pub IsCommand : App → Command → Type 0

@@ -1,255 +1,296 @@
 //! The commands of the program, as `clap` reads them.
-ghost use Rattle.std.specs.Prelude.{◌≡◌, IfOk};
-ghost use Rattle.clap.specs.Simple.{App, app_of, with_rule, with_subcommand};
-ghost use Rattle.clap.specs.Walk.{Rule, texts};
-ghost use Rattle.clap.specs.declared.builder.value_parser.ValueParser.TheVariants as parser;
-ghost use Rattle.command_words.specs.Program.{IsCommand, IsReadByRule, ReadsKinds, audit_app, check_app, create_app, explain_app, file_app, items_rule, kind_app, kind_rule, kind_words, make_app, pair_rule, program, script_program, seed_rule, store_app, stress_app, then_rule, tries_rule, type_program, types_rule, wanted_rule, work_app, workers_app, workers_rule};
+ghost use Rattle.std.specs.Prelude.{◌≡◌, IfOk, map};
+ghost use Rattle.clap.specs.Simple.{App, app_of, with_subcommand};
+ghost use Rattle.command_words.specs.Program.{IsCommand, IsReadByRule, ReadsKinds, bare_program, command_app, commands, operand_rule, program, word_rule};
 
 use crate::Topic;
-use clap::{Arg, ArgAction, Command, value_parser};
+use clap::builder::ValueParser;
+use clap::{Arg, ArgAction, Command};
 use std::alloc::{AllocError, Global};
 
-/// The words of the kinds of recovery.
-static KINDS: [&str; 3] = ["undo", "intentions", "escrow"];
+/// A command over files, as `check KIND FILE`.
+struct Form<'a> {
+    name: &'a str,
+    topic: Topic,
+    words: &'a [Word<'a>],
+}
 
-/// What help calls a requested and a held operation.
-static PAIR: [&str; 2] = ["P", "Q"];
+/// An operand of a command, or an option with a value.
+struct Word<'a> {
+    id: &'a str,
+    /// An option is `--` and its id.
+    is_option: bool,
+    required: bool,
+    /// Whether it is given once or any number of times.
+    action: ArgAction,
+    /// What its values are called.
+    shown: &'a [&'a str],
+    parser: ValueParser<'a>,
+    /// Its value where it isn't given.
+    default: &'a [&'a str],
+}
+
+/// An operand that has to be there, but for its id and what its value is called.
+const OPERAND: Word = Word {
+    id: "",
+    is_option: false,
+    required: true,
+    action: ArgAction::Set,
+    shown: &[],
+    parser: ValueParser::String,
+    default: &[],
+};
+
+/// The kind of recovery.
+const KIND: Word = Word {
+    id: "kind",
+    shown: &["KIND"],
+    parser: ValueParser::Names(&["undo", "intentions", "escrow"]),
+    ..OPERAND
+};
+
+const FILE: Word = Word {
+    id: "path",
+    shown: &["FILE"],
+    ..OPERAND
+};
+
+const SCRIPT: Word = Word {
+    id: "path",
+    shown: &["SCRIPT"],
+    ..OPERAND
+};
+
+const HISTORY: Word = Word {
+    id: "path",
+    shown: &["HISTORY"],
+    ..OPERAND
+};
+
+const JOBS: Word = Word {
+    id: "path",
+    shown: &["JOBS"],
+    ..OPERAND
+};
+
+const OBJECTS: Word = Word {
+    id: "path",
+    shown: &["OBJECTS"],
+    ..OPERAND
+};
+
+/// The path of a store that is there.
+const STORE: Word = Word {
+    id: "path",
+    shown: &["DATABASE"],
+    ..OPERAND
+};
+
+/// The path of a store that is made.
+const DATABASE: Word = Word {
+    id: "database",
+    shown: &["DATABASE"],
+    ..OPERAND
+};
+
+const FAMILY: Word = Word {
+    id: "family",
+    shown: &["FAMILY"],
+    ..OPERAND
+};
+
+const SIZE: Word = Word {
+    id: "size",
+    shown: &["SIZE"],
+    ..OPERAND
+};
+
+const ITEMS: Word = Word {
+    id: "items",
+    required: false,
+    action: ArgAction::Append,
+    shown: &["ITEM"],
+    ..OPERAND
+};
+
+/// The requested and the held operation.
+const PAIR: Word = Word {
+    id: "pair",
+    required: false,
+    shown: &["P", "Q"],
+    ..OPERAND
+};
+
+/// The files of the objects' types.
+const TYPES: Word = Word {
+    id: "types",
+    action: ArgAction::Append,
+    shown: &["TYPE"],
+    ..OPERAND
+};
+
+/// The histories that follow the first.
+const THEN: Word = Word {
+    id: "then",
+    is_option: true,
+    required: false,
+    action: ArgAction::Append,
+    shown: &["HISTORY"],
+    ..OPERAND
+};
+
+const WORKERS: Word = Word {
+    id: "workers",
+    is_option: true,
+    shown: &["N"],
+    parser: ValueParser::Signed(1, 16),
+    ..OPERAND
+};
+
+const TRIES: Word = Word {
+    id: "tries",
+    is_option: true,
+    required: false,
+    shown: &["K"],
+    parser: ValueParser::Signed(1, 100),
+    default: &["3"],
+    ..OPERAND
+};
+
+const SEED: Word = Word {
+    id: "seed",
+    is_option: true,
+    shown: &["S"],
+    parser: ValueParser::Unsigned(0, u64::MAX),
+    ..OPERAND
+};
+
+/// The commands, but for `serve`.
+static FORMS: [Form; 10] = [
+    Form {
+        name: "check",
+        topic: Topic::Check,
+        words: &[KIND, FILE],
+    },
+    Form {
+        name: "explain",
+        topic: Topic::Explain,
+        words: &[KIND, FILE, PAIR],
+    },
+    Form {
+        name: "make",
+        topic: Topic::Make,
+        words: &[FAMILY, SIZE, ITEMS],
+    },
+    Form {
+        name: "tables",
+        topic: Topic::Tables,
+        words: &[FILE],
+    },
+    Form {
+        name: "run",
+        topic: Topic::Run,
+        words: &[SCRIPT, TYPES],
+    },
+    Form {
+        name: "audit",
+        topic: Topic::Audit,
+        words: &[HISTORY, TYPES, THEN],
+    },
+    Form {
+        name: "work",
+        topic: Topic::Work,
+        words: &[JOBS, TYPES, WORKERS, TRIES],
+    },
+    Form {
+        name: "stress",
+        topic: Topic::Stress,
+        words: &[JOBS, TYPES, WORKERS, TRIES, SEED],
+    },
+    Form {
+        name: "create",
+        topic: Topic::Create,
+        words: &[DATABASE, OBJECTS, TYPES],
+    },
+    Form {
+        name: "history",
+        topic: Topic::History,
+        words: &[STORE],
+    },
+];
 
 /// The program with its commands, but for `serve`.
 pub(crate) fn program<'a>(alloc: Global) -> Result<Command<'a>, AllocError>
     ensures { (kinds : _) × ReadsKinds kinds × IfOk result (λ command. app_of command ≡ program kinds) }
 {
-    let with_create = with_command(script_program(alloc), create_command(alloc));
-    let history = file_command(alloc, "history", Topic::History, "DATABASE");
-    with_command(with_create, history)
+    let forms = forms();
+    let mut program = bare_program(alloc)?;
+    for form in forms {
+        program = with_command(program, command(alloc, form))?;
+    }
+    Ok(program)
 }
 
-/// The program without its commands over the file of a store.
-fn script_program<'a>(alloc: Global) -> Result<Command<'a>, AllocError>
-    ensures { (kinds : _) × ReadsKinds kinds × IfOk result (λ command. app_of command ≡ script_program kinds) }
+/// The commands, but for `serve`.
+fn forms<'a>() -> &'a [Form<'a>]
+    ensures { (kinds : _) × ReadsKinds kinds × (map command_app result.now ≡ commands kinds) }
 {
-    let run = store_command(alloc, "run", Topic::Run, "SCRIPT");
-    let with_run = with_command(type_program(alloc), run);
-    let with_audit = with_command(with_run, audit_command(alloc));
-    let with_work = with_command(with_audit, work_command(alloc));
-    with_command(with_work, stress_command(alloc))
+    FORMS.as_slice()
 }
 
-/// The program with its commands over types alone.
-fn type_program<'a>(alloc: Global) -> Result<Command<'a>, AllocError>
-    ensures { (kinds : _) × ReadsKinds kinds × IfOk result (λ command. app_of command ≡ type_program kinds) }
+/// The program without its commands.
+fn bare_program<'a>(alloc: Global) -> Result<Command<'a>, AllocError>
+    ensures { IfOk result (λ command. app_of command ≡ bare_program) }
 {
-    let bare = Command::new(alloc, "colock")
+    Command::new(alloc, "colock")
         .override_help(Topic::Program.text())
         .no_binary_name(true)
         .subcommand_required(true)
-        .bin_name("colock");
-    let kinds = kind_words();
-    let with_check = with_command(bare, kind_command(alloc, "check", Topic::Check, kinds));
-    let with_explain = with_command(with_check, explain_command(alloc, kinds));
-    let with_make = with_command(with_explain, make_command(alloc));
-    let tables = file_command(alloc, "tables", Topic::Tables, "FILE");
-    with_command(with_make, tables)
+        .bin_name("colock")
 }
 
-/// A command over a type file and a kind, which has one of these words.
-fn kind_command<'a>(
-    alloc: Global,
-    name: &'a str,
-    topic: Topic,
-    kinds: &'a [&'a str],
-) -> Result<Command<'a>, AllocError>
-    ensures { IfOk result (IsCommand (kind_app name.entry.now (parser.Names kinds.entry))) }
-{
-    let bare = Command::new(alloc, name).override_help(topic.text());
-    let with_kind = with_word(Ok(bare), kind_arg(alloc, kinds));
-    with_word(with_kind, wanted(alloc, "path", "FILE"))
-}
-
-fn explain_command<'a>(alloc: Global, kinds: &'a [&'a str]) -> Result<Command<'a>, AllocError>
-    ensures { IfOk result (IsCommand (explain_app (parser.Names kinds.entry))) }
-{
-    let bare = kind_command(alloc, "explain", Topic::Explain, kinds);
-    with_word(bare, pair_arg(alloc))
-}
-
-fn make_command<'a>(alloc: Global) -> Result<Command<'a>, AllocError>
-    ensures { IfOk result (IsCommand make_app) }
-{
-    let bare = Command::new(alloc, "make").override_help(Topic::Make.text());
-    let with_family = with_word(Ok(bare), wanted(alloc, "family", "FAMILY"));
-    let with_size = with_word(with_family, wanted(alloc, "size", "SIZE"));
-    with_word(with_size, items_arg(alloc))
-}
-
-/// A command over one file.
-fn file_command<'a>(
-    alloc: Global,
-    name: &'a str,
-    topic: Topic,
-    shown: &'a str,
-) -> Result<Command<'a>, AllocError>
-    ensures { IfOk result (IsCommand (file_app name.entry.now)) }
-{
-    let bare = Command::new(alloc, name).override_help(topic.text());
-    with_word(Ok(bare), wanted(alloc, "path", shown))
-}
-
-/// A command over a store's objects: a first file, and the files of their types.
-fn store_command<'a>(
-    alloc: Global,
-    name: &'a str,
-    topic: Topic,
-    shown: &'a str,
-) -> Result<Command<'a>, AllocError>
-    ensures { IfOk result (IsCommand (store_app name.entry.now)) }
-{
-    let bare = Command::new(alloc, name).override_help(topic.text());
-    let with_path = with_word(Ok(bare), wanted(alloc, "path", shown));
-    with_word(with_path, types_arg(alloc))
-}
-
-fn create_command<'a>(alloc: Global) -> Result<Command<'a>, AllocError>
-    ensures { IfOk result (IsCommand create_app) }
-{
-    let bare = Command::new(alloc, "create").override_help(Topic::Create.text());
-    let with_database = with_word(Ok(bare), wanted(alloc, "database", "DATABASE"));
-    let with_path = with_word(with_database, wanted(alloc, "path", "OBJECTS"));
-    with_word(with_path, types_arg(alloc))
-}
-
-fn audit_command<'a>(alloc: Global) -> Result<Command<'a>, AllocError>
-    ensures { IfOk result (IsCommand audit_app) }
-{
-    let bare = store_command(alloc, "audit", Topic::Audit, "HISTORY");
-    with_word(bare, then_arg(alloc))
-}
-
-fn work_command<'a>(alloc: Global) -> Result<Command<'a>, AllocError>
-    ensures { IfOk result (IsCommand work_app) }
-{
-    workers_command(alloc, "work", Topic::Work)
-}
-
-fn stress_command<'a>(alloc: Global) -> Result<Command<'a>, AllocError>
-    ensures { IfOk result (IsCommand stress_app) }
-{
-    let with_workers = workers_command(alloc, "stress", Topic::Stress);
-    with_word(with_workers, seed_arg(alloc))
-}
-
-/// A command that sets workers to work: jobs, the files of their types, and the options.
-fn workers_command<'a>(
-    alloc: Global,
-    name: &'a str,
-    topic: Topic,
-) -> Result<Command<'a>, AllocError>
-    ensures { IfOk result (IsCommand (workers_app name.entry.now)) }
-{
-    let bare = store_command(alloc, name, topic, "JOBS");
-    let with_workers = with_word(bare, workers_arg(alloc));
-    with_word(with_workers, tries_arg(alloc))
-}
-
-/// A growth that was refused before stays refused.
+/// The program with one more command.
 fn with_command<'a>(
-    above: Result<Command<'a>, AllocError>,
-    below: Result<Command<'a>, AllocError>,
-) -> Result<Command<'a>, AllocError>
-    ensures { (a b : App) → IfOk above.entry (λ command. app_of command ≡ a) → IfOk below.entry (IsCommand b)
-        → IfOk result (λ command. app_of command ≡ with_subcommand a b.top) }
-{
-    above?.subcommand(below?)
-}
-
-fn with_word<'a>(
+    program: Command<'a>,
     command: Result<Command<'a>, AllocError>,
-    word: Arg<'a>,
 ) -> Result<Command<'a>, AllocError>
-    ensures { (a : App) (rule : Rule) → IfOk command.entry (IsCommand a) → IsReadByRule rule word.entry
-        → IfOk result (IsCommand (with_rule a rule)) }
+    ensures { (a : App) → IfOk command.entry (IsCommand a)
+        → IfOk result (λ whole. app_of whole ≡ with_subcommand (app_of program.entry) a.top) }
 {
-    command?.arg(word)
+    program.subcommand(command?)
 }
 
-/// A word that has to be there.
-fn wanted<'a>(alloc: Global, id: &'a str, shown: &'a str) -> Arg<'a>
-    ensures { IsReadByRule (wanted_rule id.entry.now) result }
+/// The command of this form.
+fn command<'a>(alloc: Global, form: &'a Form<'a>) -> Result<Command<'a>, AllocError>
+    ensures { IfOk result (IsCommand (command_app form.now)) }
 {
-    Arg::new(alloc, id).required(true).value_name(shown)
+    let words = form.words;
+    let mut command = Command::new(alloc, form.name).override_help(form.topic.text());
+    for word in words {
+        command = command.arg(arg(alloc, word))?;
+    }
+    Ok(command)
 }
 
-/// The words of the kinds of recovery.
-fn kind_words<'a>() -> &'a [&'a str]
-    ensures { texts result.now ≡ kind_words }
+fn arg<'a>(alloc: Global, word: &'a Word<'a>) -> Arg<'a>
+    ensures { IsReadByRule (word_rule word.now) result }
 {
-    KINDS.as_slice()
+    let bare = operand(alloc, word);
+    if word.is_option {
+        bare.long(word.id)
+    } else {
+        bare
+    }
 }
 
-fn kind_arg<'a>(alloc: Global, kinds: &'a [&'a str]) -> Arg<'a>
-    ensures { IsReadByRule (kind_rule (parser.Names kinds.entry)) result }
+/// What an operand and an option have in common.
+fn operand<'a>(alloc: Global, word: &'a Word<'a>) -> Arg<'a>
+    ensures { IsReadByRule (operand_rule word.now) result }
 {
-    wanted(alloc, "kind", "KIND").value_parser(kinds)
-}
-
-fn pair_arg<'a>(alloc: Global) -> Arg<'a>
-    ensures { IsReadByRule pair_rule result }
-{
-    Arg::new(alloc, "pair").value_names(PAIR.as_slice())
-}
-
-fn items_arg<'a>(alloc: Global) -> Arg<'a>
-    ensures { IsReadByRule items_rule result }
-{
-    Arg::new(alloc, "items")
-        .action(ArgAction::Append)
-        .value_name("ITEM")
-}
-
-fn types_arg<'a>(alloc: Global) -> Arg<'a>
-    ensures { IsReadByRule types_rule result }
-{
-    Arg::new(alloc, "types")
-        .required(true)
-        .action(ArgAction::Append)
-        .value_name("TYPE")
-}
-
-fn then_arg<'a>(alloc: Global) -> Arg<'a>
-    ensures { IsReadByRule then_rule result }
-{
-    Arg::new(alloc, "then")
-        .long("then")
-        .action(ArgAction::Append)
-        .value_name("HISTORY")
-}
-
-fn workers_arg<'a>(alloc: Global) -> Arg<'a>
-    ensures { IsReadByRule workers_rule result }
-{
-    Arg::new(alloc, "workers")
-        .long("workers")
-        .required(true)
-        .value_name("N")
-        .value_parser(value_parser!(u8).range(1..=16))
-}
-
-fn tries_arg<'a>(alloc: Global) -> Arg<'a>
-    ensures { IsReadByRule tries_rule result }
-{
-    Arg::new(alloc, "tries")
-        .long("tries")
-        .value_name("K")
-        .value_parser(value_parser!(u8).range(1..=100))
-        .default_value("3")
-}
-
-fn seed_arg<'a>(alloc: Global) -> Arg<'a>
-    ensures { IsReadByRule seed_rule result }
-{
-    Arg::new(alloc, "seed")
-        .long("seed")
-        .required(true)
-        .value_name("S")
-        .value_parser(value_parser!(u64))
+    Arg::new(alloc, word.id)
+        .required(word.required)
+        .action(word.action)
+        .value_names(word.shown)
+        .value_parser(word.parser)
+        .default_values(word.default)
 }

@@ -1,11 +1,10 @@
-use Rattle.std.proofs.Common.{◌≡◌, ◌∙◌, ap, ap₂, subst, IfOk}
+use Rattle.std.proofs.Common.{◌∙◌, ap, subst, IfOk}
 use Rattle.std.proofs.lemmas.Result.{IfOk-weaker}
 use Rattle.clap.specs.Simple.{App, app_of, with_subcommand}
 use Rattle.command_words.specs.Program.{IsCommand}
 use Rattle.command_words.proofs.program.with_command.Goals as goal
 
 pub returns : goal.returns
-returns c a b above below =
-    let upper = subst (λ r. IfOk r (λ command. app_of command ≡ a)) c.in_ok-above.was above in
-    let lower = subst (λ r. IfOk r (IsCommand b)) c.in_ok-below.was below in
-    IfOk-weaker c.subcommand.result _ _ (λ command added. added.shape lower.0 ∙ ap₂ with_subcommand upper (ap (λ (app : App). app.top) lower.1)) c.subcommand.ensures
+returns c a is =
+    let given = subst (λ r. IfOk r (IsCommand a)) c.in_ok-command.was is in
+    IfOk-weaker c.subcommand.result _ _ (λ whole added. added.shape given.0 ∙ ap (λ (app : App). with_subcommand (app_of c.args.program) app.top) given.1) c.subcommand.ensures
