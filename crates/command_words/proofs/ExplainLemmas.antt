@@ -1,17 +1,17 @@
 -- `explain`: where the walk is after its operands, and which operands it takes.
-use Rattle.std.proofs.Common.{◌≡◌, ◌++◌, ◌==◌, arith, refl, true, false, Bool, ℕ, List, [], ◌∷◌, Bor}
+use Rattle.std.proofs.Common.{◌≡◌, ◌++◌, ◌==◌, arith, refl, true, false, Bool, List, [], ◌∷◌, Bor}
 use Rattle.std.proofs.lemmas.Bool.{ne_eqb}
 use Rattle.std.specs.Prelude.{codes, length, Some}
 use Rattle.clap.specs.Walk.{Row, arg_by_index, finished, idle, positional, to_positional}
 use Rattle.clap.specs.Kinds.{or_else, range_kinds, value_kinds}
 use Rattle.clap.specs.Simple.{Shape}
 use Rattle.clap.specs.declared.builder.value_parser.ValueParser.TheVariants as parser
-use Rattle.clap.specs.declared.error.kind.ErrorKind.TheVariants.{InvalidValue, MissingRequiredArgument, WrongNumberOfValues}
+use Rattle.clap.specs.declared.error.kind.ErrorKind.TheVariants.{MissingRequiredArgument, WrongNumberOfValues}
 use Rattle.clap.proofs.OnLiterals.{clap_on_literals}
 use Rattle.command_words.specs.Program.{explain_app, list_rows, argument_row}
 use Rattle.command_words.specs.Words.{Text}
 use Rattle.command_words.proofs.Leaves.{leaf_of, waits}
-use Rattle.command_words.proofs.OptionLemmas.{by_test, never, or_else_none, refuses}
+use Rattle.command_words.proofs.OptionLemmas.{never, or_else_none, refuses}
 use Rattle.command_words.proofs.LeafLemmas.{IsBetween, Passes, Place, Takes, at, both_none, ends, held_at, operand_fault, start}
 
 -- `explain` as it is built

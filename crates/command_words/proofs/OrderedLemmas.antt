@@ -5,7 +5,7 @@ use Rattle.std.proofs.lemmas.List.{length-map, take_all}
 use Rattle.std.proofs.lemmas.List.Elements.{All-head, All-push, All-tail}
 use Rattle.std.proofs.lemmas.Option.{slice_get-get_or, slice_get-map}
 use Rattle.type_table.proofs.Elements.{take-found}
-use Rattle.std.specs.Prelude.{All, codes, Option, Some, None, IfSome, IfNone, ◌==◌, ◌<◌, ◌^◌}
+use Rattle.std.specs.Prelude.{All, codes, Some, ◌==◌, ◌<◌, ◌^◌}
 use Rattle.std.specs.List.{after_first, before_first}
 use Rattle.clap.specs.Walk.{texts}
 use Rattle.command_words.specs.Lines.{SpellsNumber, IsPlain}

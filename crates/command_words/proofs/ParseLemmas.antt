@@ -2,14 +2,15 @@
 use Rattle.std.proofs.Common.{◌≡◌, ◌≢◌, ◌∙◌, ◌⊎◌, ap, ap₂, arith, refl, subst, sym, true, inl, inr, ⊎_elim, ℕ, List, [], ◌∷◌, Bor, IfOk, Result, Ok, Err}
 use Rattle.std.proofs.lemmas.List.{length-map}
 use Rattle.std.specs.Prelude.{codes, length, slice_index_or, unwrap_or, Some, None, Option, IsSome, IfSome, option_map, ◌<◌, ◌^◌}
-use Rattle.clap.specs.Matches.{ReadsOne, first_value, found_of, matched_of, one_text, raw_values}
+use Rattle.clap.specs.Matches.{ReadsOne, first_value, found_of, matched_of, one_text, raw_values, subcommand_name_of}
 use Rattle.clap.specs.Walk.{Row, all_of, first_of, rows_of, texts}
 use Rattle.clap.proofs.WalkLemmas.{first_value-rows, one_text-rows, raw_values-rows}
-use Rattle.clap.specs.Simple.{App, HasMatchesOf}
+use Rattle.clap.specs.Simple.{App, HasMatchesOf, subcommand_rows_of}
 use Rattle.clap.specs.Kinds.{FailsBy}
 use Rattle.clap.specs.Faults.{fault_of, is_simple_and_free}
 use Rattle.clap.specs.declared.error.Error.{Error}
 use Rattle.clap.specs.declared.parser.matches.ArgMatches.{ArgMatches}
+use Rattle.clap.specs.declared.parser.matches.ArgMatches.TheViews.{out-ArgMatches}
 use Rattle.clap.specs.declared.builder.value_parser.ValueParser.{ValueParser}
 use Rattle.command_words.specs.Program.{HasNumber, HasRows, HasStoreRows, HasWork, Parses, ReadsKinds, subcommand_of, program, argument_row, store_rows}
 use Rattle.type_table.specs.declared.kind.Kind.{Kind}
@@ -58,6 +59,23 @@ value_read values asked id has = first_value-rows (found_of values) id ∙ ap (f
 pub values_read : (values : ArgMatches) (asked : Order) (id : Text) → HasRows values asked
     → option_map raw_values (matched_of (found_of values) id) ≡ all_of id (subcommand_of asked).1
 values_read values asked id has = raw_values-rows (found_of values) id ∙ ap (all_of id) has
+
+-- a subcommand that was found, by what is seen of its name and of its rows
+joined : {S : Type 0} (name_of : S → Text) (read : S → List Row) (sub : Option S) (name : Text) (rows : List Row) → Some name ≡ option_map name_of sub
+    → Some rows ≡ option_map (λ (p : Text × List Row). p.1) (option_map {U = Text × List Row} (λ (s : S). (name_of s, read s)) sub) → option_map {U = Text × List Row} (λ (s : S). (name_of s, read s)) sub ≡ Some (name, rows)
+joined name_of read None name rows named are = absurd cc
+joined name_of read (Some s) name rows named are =
+    let same : name ≡ name_of s = cc in
+    let both : rows ≡ read s = cc in
+    ap₂ (λ (n : Text) (rs : List Row). Some (n, rs)) (sym same) (sym both)
+
+pub entry_found : (matches : ArgMatches) (o : Option (Bor Text × Bor ArgMatches)) (p : Bor Text × Bor ArgMatches) → o ≡ Some p
+    → option_map (λ p. p.0.now) o ≡ subcommand_name_of matches → option_map (λ p. rows_of (found_of p.1.now)) o ≡ option_map (λ p. p.1) (subcommand_rows_of matches)
+    → subcommand_rows_of matches ≡ Some (p.0.now, rows_of (found_of p.1.now))
+entry_found matches o p is named read =
+    joined _ _ (out-ArgMatches matches).subcommand p.0.now (rows_of (found_of p.1.now))
+    (ap (option_map (λ (q : Bor Text × Bor ArgMatches). q.0.now)) (sym is) ∙ named)
+    (ap (option_map (λ (q : Bor Text × Bor ArgMatches). rows_of (found_of q.1.now))) (sym is) ∙ read)
 
 -- what is something is there
 pub some_of : {X : Type 0} (o : Option X) (x : X) → o ≡ Some x → IsSome o
@@ -202,3 +220,23 @@ no_topic words alone named topic.Serve are = named _ are
 no_topic words alone named topic.History are = named _ are
 no_topic words alone named topic.Help are = named _ are
 no_topic words alone named topic.Faults are = named _ are
+
+-- nor does `help` with a name of no topic
+pub no_name : (name : Text) → name ≢ codes "check" → name ≢ codes "explain" → name ≢ codes "make" → name ≢ codes "tables" → name ≢ codes "run"
+    → name ≢ codes "audit" → name ≢ codes "work" → name ≢ codes "stress" → name ≢ codes "create" → name ≢ codes "serve"
+    → name ≢ codes "history" → name ≢ codes "help" → name ≢ codes "faults"
+    → (topic : Topic) → codes "help" ∷ name ∷ [] ≢ help_words topic
+no_name name no_check no_explain no_make no_tables no_run no_audit no_work no_stress no_create no_serve no_history no_help no_faults topic.Program are = cc
+no_name name no_check no_explain no_make no_tables no_run no_audit no_work no_stress no_create no_serve no_history no_help no_faults topic.Check are = no_check (let same : name ≡ codes "check" = cc in same)
+no_name name no_check no_explain no_make no_tables no_run no_audit no_work no_stress no_create no_serve no_history no_help no_faults topic.Explain are = no_explain (let same : name ≡ codes "explain" = cc in same)
+no_name name no_check no_explain no_make no_tables no_run no_audit no_work no_stress no_create no_serve no_history no_help no_faults topic.Make are = no_make (let same : name ≡ codes "make" = cc in same)
+no_name name no_check no_explain no_make no_tables no_run no_audit no_work no_stress no_create no_serve no_history no_help no_faults topic.Tables are = no_tables (let same : name ≡ codes "tables" = cc in same)
+no_name name no_check no_explain no_make no_tables no_run no_audit no_work no_stress no_create no_serve no_history no_help no_faults topic.Run are = no_run (let same : name ≡ codes "run" = cc in same)
+no_name name no_check no_explain no_make no_tables no_run no_audit no_work no_stress no_create no_serve no_history no_help no_faults topic.Audit are = no_audit (let same : name ≡ codes "audit" = cc in same)
+no_name name no_check no_explain no_make no_tables no_run no_audit no_work no_stress no_create no_serve no_history no_help no_faults topic.Work are = no_work (let same : name ≡ codes "work" = cc in same)
+no_name name no_check no_explain no_make no_tables no_run no_audit no_work no_stress no_create no_serve no_history no_help no_faults topic.Stress are = no_stress (let same : name ≡ codes "stress" = cc in same)
+no_name name no_check no_explain no_make no_tables no_run no_audit no_work no_stress no_create no_serve no_history no_help no_faults topic.Create are = no_create (let same : name ≡ codes "create" = cc in same)
+no_name name no_check no_explain no_make no_tables no_run no_audit no_work no_stress no_create no_serve no_history no_help no_faults topic.Serve are = no_serve (let same : name ≡ codes "serve" = cc in same)
+no_name name no_check no_explain no_make no_tables no_run no_audit no_work no_stress no_create no_serve no_history no_help no_faults topic.History are = no_history (let same : name ≡ codes "history" = cc in same)
+no_name name no_check no_explain no_make no_tables no_run no_audit no_work no_stress no_create no_serve no_history no_help no_faults topic.Help are = no_help (let same : name ≡ codes "help" = cc in same)
+no_name name no_check no_explain no_make no_tables no_run no_audit no_work no_stress no_create no_serve no_history no_help no_faults topic.Faults are = no_faults (let same : name ≡ codes "faults" = cc in same)

@@ -1,7 +1,8 @@
 -- What words after `serve` say: one thing at most.
-use Rattle.std.proofs.Common.{◌≡◌, ◌∙◌, ap, arith, refl, subst, sym, true, false, Bool, ℕ, List, [], ◌∷◌, Bor, length, take, drop, ◌-◌, ◌≤◌, ⊎_elim}
+use Rattle.std.proofs.Common.{◌≡◌, ◌≢◌, ◌∙◌, ap, arith, refl, subst, sym, true, false, Bool, ℕ, List, [], ◌∷◌, Bor, length, take, drop, ◌-◌, ◌≤◌, ⊎_elim}
 use Rattle.std.proofs.Math.Seq.{take-length}
 use Rattle.std.specs.Prelude.{codes, get_or, Option, Some, None, Result, Ok, Err, IfErr, IfSome, IfNone, IsSome, option_map, slice_index, unwrap_or, ◌<◌, ◌^◌}
+use Rattle.std.specs.Str.{bytes_eq}
 use Rattle.clap.specs.Walk.{texts}
 use Rattle.command_words.specs.Lines.{SpellsNumber, IsPlain, line_words, work_name}
 use Rattle.command_words.specs.Serve.{AreWhole, ServeParts, Say, SayServe, Serve, no_parts, nothing, fast, drain, database, archive, dashes, said_by}
@@ -93,6 +94,35 @@ nothing_says _ _ (archive folder more q said none) is = absurd cc
 nothing_says _ _ (drain text n more q said none number small) is = absurd cc
 nothing_says _ _ (database path more q said none plain) is = absurd cc
 nothing_says _ _ (dashes path more q said none) is = absurd cc
+
+-- a word that fails the test is another
+pub differs : (word : Text) → false ≡ bytes_eq word (codes "--fast") → word ≢ codes "--fast"
+differs word fails is =
+    let both : false ≡ bytes_eq (codes "--fast") (codes "--fast") = subst (λ (w : Text). false ≡ bytes_eq w (codes "--fast")) is fails in cc
+
+-- one word alone that is neither `--fast` nor plain says nothing
+alone_says : (words : List Text) (word : Text) → words ≡ word ∷ [] → word ≢ codes "--fast" → ¬ (IsPlain word) → (p : ServeParts) → ¬ (Say words p)
+alone_says _ word is no_fast hyphen _ nothing = absurd cc
+alone_says _ word is no_fast hyphen _ (fast more q said not) = no_fast (let same : codes "--fast" ≡ word = cc in sym same)
+alone_says _ word is no_fast hyphen _ (archive folder more q said none) = absurd cc
+alone_says _ word is no_fast hyphen _ (drain text n more q said none number small) = absurd cc
+alone_says _ word is no_fast hyphen _ (database path more q said none plain) = hyphen (let same : path ≡ word = cc in subst IsPlain same plain)
+alone_says _ word is no_fast hyphen _ (dashes path more q said none) = absurd cc
+
+pub no_value : (words : List Text) (behind : List (Bor Text)) (word : Text) → words ≡ word ∷ texts behind → length behind ≡ 0
+    → word ≢ codes "--fast" → ¬ (IsPlain word) → (p : ServeParts) → ¬ (Say words p)
+no_value words [] word is none no_fast hyphen p = alone_says words word is no_fast hyphen p
+no_value words (more ∷ behind) word is none no_fast hyphen p = absurd (omega (arith, none))
+
+-- and of two the first has to be an option, or `--`
+pub no_option : (words rest : List Text) (word value : Text) → words ≡ word ∷ value ∷ rest → word ≢ codes "--fast" → ¬ (IsPlain word)
+    → word ≢ codes "--archive" → word ≢ codes "--drain" → word ≢ codes "--" → (p : ServeParts) → ¬ (Say words p)
+no_option _ rest word value is no_fast hyphen no_archive no_drain no_dashes _ nothing = absurd cc
+no_option _ rest word value is no_fast hyphen no_archive no_drain no_dashes _ (fast more q said not) = no_fast (let same : codes "--fast" ≡ word = cc in sym same)
+no_option _ rest word value is no_fast hyphen no_archive no_drain no_dashes _ (archive folder more q said none) = no_archive (let same : codes "--archive" ≡ word = cc in sym same)
+no_option _ rest word value is no_fast hyphen no_archive no_drain no_dashes _ (drain text n more q said none number small) = no_drain (let same : codes "--drain" ≡ word = cc in sym same)
+no_option _ rest word value is no_fast hyphen no_archive no_drain no_dashes _ (database path more q said none plain) = hyphen (let same : path ≡ word = cc in subst IsPlain same plain)
+no_option _ rest word value is no_fast hyphen no_archive no_drain no_dashes _ (dashes path more q said none) = no_dashes (let same : codes "--" ≡ word = cc in sym same)
 
 -- ---- one thing at most
 

@@ -3,7 +3,7 @@ ghost use Rattle.std.specs.Prelude.{◌≡◌, ◌≢◌, ◌<◌, ℕ, List, []
 ghost use Rattle.clap.specs.Words.{found_of, kind_of, rows_of};
 ghost use Rattle.clap.specs.Walk.{all_of, first_of, texts};
 ghost use Rattle.clap.specs.declared.parser.matches.ArgMatches.{ArgMatches};
-ghost use Rattle.command_words.specs.Program.{AskSomething, AreMatchesOf, HasAudit, HasNumber, HasRows, HasStoreRows, HasWork, Parses};
+ghost use Rattle.command_words.specs.Program.{AskSomething, AreMatchesOf, HasAudit, HasNumber, HasRows, HasStoreRows, HasWork, IsEntryOf, Parses};
 ghost use Rattle.command_words.specs.declared.task.Topic.{Topic};
 ghost use Rattle.type_table.specs.Kind.{kind_word};
 ghost use Rattle.type_table.specs.declared.kind.Kind.{Kind};
@@ -124,6 +124,18 @@ fn task_of<'a>(alloc: Global, matches: &ArgMatches<'a>) -> Result<Task<'a>, Allo
     ensures { (a : Asked) → AreMatchesOf matches.now a → IfOk result (λ task. asked_of task ≡ a) }
 {
     let (name, values) = matches.subcommand().unwrap();
+    command_task(alloc, name, values)
+}
+
+/// The task of a command's name and of what was read behind it.
+fn command_task<'a>(
+    alloc: Global,
+    name: &str,
+    values: &ArgMatches<'a>,
+) -> Result<Task<'a>, AllocError>
+    requires { (a : Asked) × IsEntryOf (Some (name.now, rows_of (found_of values.now))) a }
+    ensures { (a : Asked) → IsEntryOf (Some (name.now, rows_of (found_of values.now))) a → IfOk result (λ task. asked_of task ≡ a) }
+{
     match name {
         "check" => Ok(check_task(values)),
         "explain" => Ok(explain_task(values)),
