@@ -13,7 +13,7 @@ use Rattle.clap.specs.declared.builder.value_parser.ValueParser.{ValueParser}
 use Rattle.clap.specs.declared.builder.value_parser.ValueParser.TheVariants as parser
 use Rattle.command_words.specs.declared.program.Form.{Form}
 use Rattle.command_words.specs.declared.program.Word.{Word}
-use Rattle.command_words.specs.Program.{IsCommand, IsReadByRule, ReadsKinds, bare_program, command_app, commands, kind_words, with_command, with_commands, with_form, with_word, word_rule}
+use Rattle.command_words.specs.Program.{IsCommand, IsReadByRule, ReadsKinds, bare_program, command_app, command_apps, kind_words, with_command, with_commands, with_form, with_word, word_rule}
 
 pub word_added : (a : App) (words : List Word) (i : ℕ) (d : Word) (before after : Command) (arg : Arg) → i < length words
     → IsCommand (fold with_word a (take i words)) before → IsReadByRule (word_rule (get_or words i d)) arg → AddsArg before arg after
@@ -35,6 +35,6 @@ all_forms forms i whole all is =
     is ∙ ap (λ (fs : List Form). fold with_form bare_program fs) (take_all i forms all) ∙ sym (fold-map with_command command_app bare_program forms)
 
 -- what `clap` reads of the commands shows which words KIND takes
-pub by_kinds : (apps : List App) (words : Bor (List (Bor Text))) → apps ≡ commands (parser.Names words) → texts words.now ≡ kind_words
-    → (kinds : ValueParser) × ReadsKinds kinds × (apps ≡ commands kinds)
+pub by_kinds : (apps : List App) (words : Bor (List (Bor Text))) → apps ≡ command_apps (parser.Names words) → texts words.now ≡ kind_words
+    → (kinds : ValueParser) × ReadsKinds kinds × (apps ≡ command_apps kinds)
 by_kinds apps words are read = (parser.Names words, (words, refl, read), are)

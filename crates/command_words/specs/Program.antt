@@ -133,8 +133,8 @@ bare_program = on_top (λ top. record top {
 }) (new_app (codes "colock"))
 
 -- its commands, but for `serve`
-abbrev pub commands : ValueParser → List App
-commands kinds =
+abbrev pub command_apps : ValueParser → List App
+command_apps kinds =
     check_app kinds
     ∷ explain_app kinds
     ∷ make_app
@@ -153,11 +153,11 @@ with_command program command = with_subcommand program command.top
 
 -- and with all of these
 abbrev pub with_commands : List App → App
-with_commands commands = fold with_command bare_program commands
+with_commands apps = fold with_command bare_program apps
 
 -- the program with its commands, but for `serve`
 abbrev pub program : ValueParser → App
-program kinds = with_commands (commands kinds)
+program kinds = with_commands (command_apps kinds)
 
 -- what `clap` reads of an operand, or of what an option has in common with one
 abbrev pub operand_rule : Word → Rule

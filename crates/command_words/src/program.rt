@@ -1,7 +1,7 @@
 //! The commands of the program, as `clap` reads them.
 ghost use Rattle.std.specs.Prelude.{◌≡◌, IfOk, map};
 ghost use Rattle.clap.specs.Simple.{App, app_of, with_subcommand};
-ghost use Rattle.command_words.specs.Program.{IsCommand, IsReadByRule, ReadsKinds, bare_program, command_app, commands, operand_rule, program, word_rule};
+ghost use Rattle.command_words.specs.Program.{IsCommand, IsReadByRule, ReadsKinds, bare_program, command_app, command_apps, operand_rule, program, word_rule};
 
 use crate::Topic;
 use clap::builder::ValueParser;
@@ -233,7 +233,7 @@ pub(crate) fn program<'a>(alloc: Global) -> Result<Command<'a>, AllocError>
 
 /// The commands, but for `serve`.
 fn forms<'a>() -> &'a [Form<'a>]
-    ensures { (kinds : _) × ReadsKinds kinds × (map command_app result.now ≡ commands kinds) }
+    ensures { (kinds : _) × ReadsKinds kinds × (map command_app result.now ≡ command_apps kinds) }
 {
     FORMS.as_slice()
 }
