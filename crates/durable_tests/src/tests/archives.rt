@@ -144,7 +144,7 @@ fn are_kept<S: NewTrees + Drop, R: Abort + AllocGlobal + Clock>(rt: &R) {
     for (lines, drain, history) in [(COMMITTED, HOUR, HISTORY), (OPEN, 0, ABORTED)] {
         let mut shelf = empty_shelf(rt, 2);
         let (told, _) = served::<S, R, Shelf>(rt, &mut shelf, lines, drain);
-        assert!(rt; told == (Ok(()), 2, 1) && has_one(&shelf, history));
+        assert!(rt; (told == (Ok(()), 2, 1)) & has_one(&shelf, history));
     }
 }
 
@@ -155,14 +155,14 @@ fn is_held<S: Numbered + Drop, R: Abort + AllocGlobal + Clock>(rt: &R) {
     let found = open(rt.alloc(), trees.numbered(), &[]).ok();
     has(rt, found.expect(rt, "no store is found"), 6, 1);
     let fault = ServeFault::Archive(ArchiveFault::Device);
-    assert!(rt; told == (Err(fault), 1, 6) && shelf.all.is_empty());
+    assert!(rt; (told == (Err(fault), 1, 6)) & shelf.all.is_empty());
 }
 
 /// That an archive that asks for none is given none.
 fn is_let_go<S: NewTrees + Drop, R: Abort + AllocGlobal + Clock>(rt: &R) {
     let mut none = Unwilling { given: 0 };
     let (told, _) = served::<S, R, Unwilling>(rt, &mut none, COMMITTED, HOUR);
-    assert!(rt; told == (Ok(()), 2, 1) && none.given == 0);
+    assert!(rt; (told == (Ok(()), 2, 1)) & (none.given == 0));
 }
 
 #[test]

@@ -1,11 +1,11 @@
 //! A durable store of two counters over trees in memory: one in place, one deferred.
 
 ghost use Rattle.sqlite_trees.specs.View.{IsClean};
-ghost use Rattle.std.specs.Prelude.{IsTrue};
+ghost use Rattle.std.specs.Prelude.{IsTrue, OnOk};
 ghost use Rattle.durable_store.specs.Durable.{IsDurable};
 
 use durable_store::{Durable, open, restart, settle_and_restart};
-use journal::{FileContents, FirstState, Header, Journal, TypeText};
+use journal::{FileContents, FirstState, Header, Journal, JournalError, TypeText};
 use object_calls::Answer;
 use serial_order::Refusal;
 use sqlite_trees::memory::MemStore;
@@ -102,63 +102,64 @@ pub fn opened<S: Alter + Drop>(rt: &(impl Abort + AllocGlobal), trees: S) -> Dur
     store.expect(rt, "the file isn't opened")
 }
 
-/// Begins the next transaction.
-pub fn begun<S: Alter>(rt: &impl Abort, store: &mut Durable<S>) -> u32
-    requires { IsDurable S.Store store.old }
-    ensures { IsDurable S.Store store.new }
-{
-    let begun = store.begin().expect(rt, "the file failed");
-    begun.expect(rt, "no transaction")
+/// What is done to a store that stays the same.
+#[derive(Clone, Copy)]
+pub enum Act {
+    /// The next transaction begins, and has this number.
+    Begin(u32),
+    /// This transaction counts up at this object.
+    Count(u32, u32),
+    Commit(u32),
+    /// This transaction takes its last operation back and aborts; to abort it once more is refused.
+    Abort(u32),
+    /// What was written is settled.
+    Settle,
+    /// The store has this many events, in this life.
+    Has(u32, u32),
 }
 
-/// Counts up at an object.
-pub fn counted<S: Alter>(rt: &impl Abort, store: &mut Durable<S>, t: u32, x: u32)
+/// Does this, and tells whether it was answered as it is to be.
+pub fn does<S: Alter>(store: &mut Durable<S>, act: Act) -> Result<bool, JournalError>
     requires { IsDurable S.Store store.old }
-    ensures { IsDurable S.Store store.new }
+    ensures { OnOk result (IsDurable S.Store store.new) }
 {
-    let told = store.call(t, x, b"inc:1").expect(rt, "the file failed");
-    assert!(rt; told == Ok(Answer::Reply(Operation::listed(0))));
+    match act {
+        Act::Begin(t) => Ok(store.begin()? == Ok(t)),
+        Act::Count(t, x) => {
+            Ok(store.call(t, x, b"inc:1")? == Ok(Answer::Reply(Operation::listed(0))))
+        }
+        Act::Commit(t) => Ok(store.commit(t)?.is_ok()),
+        Act::Abort(t) => aborts(store, t),
+        Act::Settle => {
+            store.settle()?;
+            Ok(true)
+        }
+        Act::Has(events, life) => {
+            Ok((store.store().event_count() == events) & (store.life() == life))
+        }
+    }
 }
 
-/// Commits t.
-pub fn ended<S: Alter>(rt: &impl Abort, store: &mut Durable<S>, t: u32)
+/// The same of an abort.
+fn aborts<S: Alter>(store: &mut Durable<S>, t: u32) -> Result<bool, JournalError>
     requires { IsDurable S.Store store.old }
-    ensures { IsDurable S.Store store.new }
+    ensures { OnOk result (IsDurable S.Store store.new) }
 {
-    let told = store.commit(t).expect(rt, "the file failed");
-    told.expect(rt, "no commit");
+    let back = store.rollback(t, 1)?.is_ok();
+    let ended = store.abort(t)?.is_ok();
+    let again = store.abort(t)? == Err(Refusal::NotOpen);
+    Ok(back & ended & again)
 }
 
-/// One transaction counts up at each object and commits.
-pub fn committed<S: Alter>(rt: &impl Abort, store: &mut Durable<S>)
+/// Transaction t, which is the next one, counts up at each object and commits.
+pub fn commits<S: Alter>(store: &mut Durable<S>, t: u32) -> Result<bool, JournalError>
     requires { IsDurable S.Store store.old }
-    ensures { IsDurable S.Store store.new }
+    ensures { OnOk result (IsDurable S.Store store.new) }
 {
-    let t = begun(rt, store);
-    counted(rt, store, t, 0);
-    counted(rt, store, t, 1);
-    ended(rt, store, t);
-}
-
-/// Takes the last operation of t back and aborts it; to abort it once more is refused.
-pub fn aborted<S: Alter>(rt: &impl Abort, store: &mut Durable<S>, t: u32)
-    requires { IsDurable S.Store store.old }
-    ensures { IsDurable S.Store store.new }
-{
-    let back = store.rollback(t, 1).expect(rt, "the file failed");
-    back.expect(rt, "not rolled back");
-    let ended = store.abort(t).expect(rt, "the file failed");
-    ended.expect(rt, "not aborted");
-    let again = store.abort(t).expect(rt, "the file failed");
-    assert!(rt; again == Err(Refusal::NotOpen));
-}
-
-/// What was written is settled.
-pub fn settled<S: Alter>(rt: &impl Abort, store: &mut Durable<S>)
-    requires { IsDurable S.Store store.old }
-    ensures { IsDurable S.Store store.new }
-{
-    store.settle().expect(rt, "not settled");
+    let begun = does(store, Act::Begin(t))?;
+    let one = does(store, Act::Count(t, 0))?;
+    let other = does(store, Act::Count(t, 1))?;
+    Ok(does(store, Act::Commit(t))? & begun & one & other)
 }
 
 /// The machine stops, and the file is opened again.
@@ -208,25 +209,17 @@ pub fn has_settled<S: Alter + Reopen + Drop>(
     assert!(rt; is_settled);
 }
 
-/// Another epoch begins.
-pub fn renewed<S: Alter + Drop>(rt: &(impl Abort + AllocGlobal), store: Durable<S>) -> Durable<S>
+/// Another epoch begins, or this is refused.
+pub fn renewed<S: Alter + Drop>(
+    rt: &(impl Abort + AllocGlobal),
+    store: Durable<S>,
+    wanted: Result<(), RenewRefusal>,
+) -> Durable<S>
     requires { IsDurable S.Store store }
     ensures { IsDurable S.Store result }
 {
     let (store, told) = store.renew(rt.alloc());
-    let told = told.expect(rt, "the file failed");
-    told.expect(rt, "no other epoch");
-    store
-}
-
-/// Another epoch is refused, since a transaction is open.
-pub fn still_open<S: Alter + Drop>(rt: &(impl Abort + AllocGlobal), store: Durable<S>) -> Durable<S>
-    requires { IsDurable S.Store store }
-    ensures { IsDurable S.Store result }
-{
-    let (store, told) = store.renew(rt.alloc());
-    let told = told.expect(rt, "the file failed");
-    assert!(rt; told == Err(RenewRefusal::StillOpen));
+    assert!(rt; told.expect(rt, "the file failed") == wanted);
     store
 }
 
@@ -243,5 +236,5 @@ pub fn has_no_event<S: Alter + Drop>(
     let (_, said) = opened.expect(rt, "the file isn't opened");
     let states = [FirstState { state }, FirstState { state }];
     let is_at = said.states.as_slice() == states.as_slice();
-    assert!(rt; is_at && said.events.is_empty() && said.header.life == life);
+    assert!(rt; is_at & said.events.is_empty() & (said.header.life == life));
 }

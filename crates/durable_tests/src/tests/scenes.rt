@@ -3,38 +3,28 @@
 ghost use Rattle.durable_store.specs.Durable.{IsDurable};
 
 use super::counters::{
-    NewTrees, aborted, begun, committed, counted, ended, has, has_no_event, has_settled, new_store,
-    opened_but, renewed, restarted, settled, still_open,
+    Act, NewTrees, commits, does, has, has_no_event, has_settled, new_store, opened_but, renewed,
+    restarted,
 };
 use durable_store::Durable;
 use sqlite_trees::memory::MemStore;
 use sqlite_trees::store::{Alter, Reopen};
 use std::process::Abort;
+use store::RenewRefusal;
 
 /// What happens to a store.
 #[derive(Clone, Copy)]
 enum Step {
-    /// The next transaction begins, and has this number.
-    Begin(u32),
-    /// This transaction counts up at this object.
-    Count(u32, u32),
-    Commit(u32),
-    /// This transaction takes its last operation back and aborts.
-    Abort(u32),
-    /// One more transaction counts up at each object and commits.
-    Committed,
-    /// What was written is settled.
-    Settle,
+    /// This is done.
+    Does(Act),
+    /// This transaction, which is the next one, counts up at each object and commits.
+    Commits(u32),
     /// The machine stops, and the file is opened again.
     Restart,
     /// The file is opened again, where this transaction is prepared.
     Prepare(u32),
-    /// Another epoch begins.
-    Renew,
-    /// None begins, since a transaction is open.
-    StillOpen,
-    /// The store has this many events, in this life.
-    Has(u32, u32),
+    /// Another epoch begins, or this is refused.
+    Renew(Result<(), RenewRefusal>),
 }
 
 /// What is found at the end.
@@ -51,27 +41,26 @@ enum Found {
 /// What happens to a new store, and what is found then.
 type Scene = (&'static [Step], Found);
 
-/// A step after which there is the same store.
-fn taken<S: Alter>(rt: &impl Abort, store: &mut Durable<S>, step: Step)
-    requires { IsDurable S.Store store.old }
-    ensures { IsDurable S.Store store.new }
+/// The store where this was done, and answered as it is to be.
+fn done<S: Alter>(rt: &impl Abort, store: Durable<S>, act: Act) -> Durable<S>
+    requires { IsDurable S.Store store }
+    ensures { IsDurable S.Store result }
 {
-    match step {
-        Step::Begin(t) => {
-            let next = begun(rt, store);
-            assert!(rt; next == t);
-        }
-        Step::Count(t, x) => counted(rt, store, t, x),
-        Step::Commit(t) => ended(rt, store, t),
-        Step::Abort(t) => aborted(rt, store, t),
-        Step::Committed => committed(rt, store),
-        Step::Settle => settled(rt, store),
-        Step::Has(events, life) => {
-            let told = (store.store().event_count(), store.life());
-            assert!(rt; told == (events, life));
-        }
-        _ => {}
-    }
+    let mut store = store;
+    let is_told = does(&mut store, act).expect(rt, "the file failed");
+    assert!(rt; is_told);
+    store
+}
+
+/// The store where a transaction counted up at each object and committed.
+fn committed<S: Alter>(rt: &impl Abort, store: Durable<S>, t: u32) -> Durable<S>
+    requires { IsDurable S.Store store }
+    ensures { IsDurable S.Store result }
+{
+    let mut store = store;
+    let is_told = commits(&mut store, t).expect(rt, "the file failed");
+    assert!(rt; is_told);
+    store
 }
 
 /// The store after a step.
@@ -84,15 +73,11 @@ fn stepped<S: Alter + Reopen + Drop>(
     ensures { IsDurable S.Store result }
 {
     match step {
+        Step::Does(act) => done(rt, store, act),
+        Step::Commits(t) => committed(rt, store, t),
         Step::Restart => restarted(rt, store),
         Step::Prepare(t) => opened_but(rt, store, &[t]),
-        Step::Renew => renewed(rt, store),
-        Step::StillOpen => still_open(rt, store),
-        _ => {
-            let mut store = store;
-            taken(rt, &mut store, step);
-            store
-        }
+        Step::Renew(wanted) => renewed(rt, store, wanted),
     }
 }
 
@@ -115,17 +100,17 @@ fn played<S: Alter + Reopen + Drop>(
 /// What was settled is found after a stop of the machine, and what wasn't is gone.
 static OUTAGES: [Scene; 7] = [
     (
-        &[Step::Committed, Step::Settle, Step::Restart],
+        &[Step::Commits(0), Step::Does(Act::Settle), Step::Restart],
         Found::Events(4, 1),
     ),
-    (&[Step::Committed, Step::Restart], Found::Events(0, 0)),
+    (&[Step::Commits(0), Step::Restart], Found::Events(0, 0)),
     // One settling is for all that came before it, and for nothing after it.
     (
         &[
-            Step::Committed,
-            Step::Committed,
-            Step::Settle,
-            Step::Begin(2),
+            Step::Commits(0),
+            Step::Commits(1),
+            Step::Does(Act::Settle),
+            Step::Does(Act::Begin(2)),
             Step::Restart,
         ],
         Found::Events(8, 2),
@@ -133,37 +118,37 @@ static OUTAGES: [Scene; 7] = [
     // Of what was open an abort is found.
     (
         &[
-            Step::Begin(0),
-            Step::Count(0, 0),
-            Step::Settle,
+            Step::Does(Act::Begin(0)),
+            Step::Does(Act::Count(0, 0)),
+            Step::Does(Act::Settle),
             Step::Restart,
-            Step::Begin(1),
-            Step::Has(4, 2),
+            Step::Does(Act::Begin(1)),
+            Step::Does(Act::Has(4, 2)),
         ],
         Found::Events(4, 0),
     ),
     // What is prepared stays open, with what it did; what else was open is aborted.
     (
         &[
-            Step::Begin(0),
-            Step::Begin(1),
-            Step::Count(0, 0),
-            Step::Count(1, 0),
-            Step::Count(1, 1),
-            Step::Settle,
+            Step::Does(Act::Begin(0)),
+            Step::Does(Act::Begin(1)),
+            Step::Does(Act::Count(0, 0)),
+            Step::Does(Act::Count(1, 0)),
+            Step::Does(Act::Count(1, 1)),
+            Step::Does(Act::Settle),
             Step::Prepare(1),
-            Step::Commit(1),
+            Step::Does(Act::Commit(1)),
         ],
         Found::Events(7, 1),
     ),
-    (&[Step::Committed], Found::Settled(4, 1)),
+    (&[Step::Commits(0)], Found::Settled(4, 1)),
     // A refusal is no event, and a rollback and an abort are.
     (
         &[
-            Step::Begin(0),
-            Step::Count(0, 1),
-            Step::Abort(0),
-            Step::Settle,
+            Step::Does(Act::Begin(0)),
+            Step::Does(Act::Count(0, 1)),
+            Step::Does(Act::Abort(0)),
+            Step::Does(Act::Settle),
             Step::Restart,
         ],
         Found::Events(4, 0),
@@ -174,36 +159,36 @@ static OUTAGES: [Scene; 7] = [
 static EPOCHS: [Scene; 5] = [
     (
         &[
-            Step::Committed,
-            Step::Settle,
-            Step::Has(4, 1),
-            Step::Renew,
-            Step::Has(0, 2),
+            Step::Commits(0),
+            Step::Does(Act::Settle),
+            Step::Does(Act::Has(4, 1)),
+            Step::Renew(Ok(())),
+            Step::Does(Act::Has(0, 2)),
         ],
         Found::NoEvent(1, 2),
     ),
     (
         &[
-            Step::Committed,
-            Step::Settle,
-            Step::Renew,
-            Step::Begin(0),
-            Step::Count(0, 0),
-            Step::Count(0, 1),
-            Step::Commit(0),
-            Step::Settle,
+            Step::Commits(0),
+            Step::Does(Act::Settle),
+            Step::Renew(Ok(())),
+            Step::Does(Act::Begin(0)),
+            Step::Does(Act::Count(0, 0)),
+            Step::Does(Act::Count(0, 1)),
+            Step::Does(Act::Commit(0)),
+            Step::Does(Act::Settle),
             Step::Restart,
-            Step::Has(4, 3),
+            Step::Does(Act::Has(4, 3)),
         ],
         Found::Events(4, 2),
     ),
     // What was written and not settled is gone, and the new epoch stays.
     (
         &[
-            Step::Committed,
-            Step::Settle,
-            Step::Renew,
-            Step::Committed,
+            Step::Commits(0),
+            Step::Does(Act::Settle),
+            Step::Renew(Ok(())),
+            Step::Commits(0),
             Step::Restart,
         ],
         Found::Events(0, 1),
@@ -211,12 +196,12 @@ static EPOCHS: [Scene; 5] = [
     // One epoch after another.
     (
         &[
-            Step::Committed,
-            Step::Settle,
-            Step::Renew,
-            Step::Committed,
-            Step::Settle,
-            Step::Renew,
+            Step::Commits(0),
+            Step::Does(Act::Settle),
+            Step::Renew(Ok(())),
+            Step::Commits(0),
+            Step::Does(Act::Settle),
+            Step::Renew(Ok(())),
             Step::Restart,
         ],
         Found::NoEvent(2, 4),
@@ -224,13 +209,13 @@ static EPOCHS: [Scene; 5] = [
     // While a transaction is open none begins, and nothing changes.
     (
         &[
-            Step::Committed,
-            Step::Settle,
-            Step::Begin(1),
-            Step::Count(1, 0),
-            Step::StillOpen,
-            Step::Count(1, 1),
-            Step::Has(7, 1),
+            Step::Commits(0),
+            Step::Does(Act::Settle),
+            Step::Does(Act::Begin(1)),
+            Step::Does(Act::Count(1, 0)),
+            Step::Renew(Err(RenewRefusal::StillOpen)),
+            Step::Does(Act::Count(1, 1)),
+            Step::Does(Act::Has(7, 1)),
             Step::Restart,
         ],
         Found::Events(4, 1),

@@ -17,7 +17,7 @@ use std::time::Duration;
 use test_support::sinks::{AtEnd, Narrow, narrow_sink};
 
 /// What is asked, of the first life of a store.
-static ASKED: &[u8] = b"a begin
+const ASKED: &[u8] = b"a begin
 b call 1.0 0 inc:1
 c call 1.0 1 inc:1
 d would 1.0 0 dec:1
@@ -42,7 +42,7 @@ v begin
 ";
 
 /// What it is answered.
-static ANSWERED: &[u8] = b"a ok 1.0
+const ANSWERED: &[u8] = b"a ok 1.0
 b reply ok
 c reply ok
 d reply ok
@@ -132,61 +132,110 @@ pub fn told<S: Alter + Drop, A: Archive>(
     (said, served, server.into_store())
 }
 
-/// What is asked above, read in pieces of this size, where the output takes so many bytes.
-const fn asked(piece: usize, room: usize) -> Service {
-    Service {
-        lines: ASKED,
-        piece,
-        room,
-        most_events: u32::MAX,
-        drain: 0,
-    }
-}
-
-/// Lines of which those of one epoch are four events.
-const fn short_epochs(lines: &'static [u8], drain: u64) -> Service {
-    Service {
-        lines,
-        piece: 1,
-        room: 1_000,
-        most_events: 4,
-        drain,
-    }
-}
-
 /// No transaction begins in a full epoch, and where the last one has ended the next epoch begins in another life.
-static DRAINED: (&[u8], &[u8]) = (
+const DRAINED: &[u8] =
     b"a begin\nb call 1.0 0 inc:1\nc begin\nd call 1.1 1 inc:1\ne begin\nf stats\ng commit 1.0\n\
-    h begin\ni commit 1.1\nj begin\nk commit 1.1\nl kept 0\nm stats\n",
-    b"a ok 1.0\nb reply ok\nc ok 1.1\nd reply ok\ne busy drain\n\
+    h begin\ni commit 1.1\nj begin\nk commit 1.1\nl kept 0\nm stats\n";
+
+const DRAINED_ANSWERS: &[u8] = b"a ok 1.0\nb reply ok\nc ok 1.1\nd reply ok\ne busy drain\n\
     f ok events 4 begun 2 open 2\ng ok\nh busy drain\ni ok\nj ok 2.0\nk refused NotOpen\nl ok 1\n\
-    m ok events 1 begun 1 open 1\n",
-);
+    m ok events 1 begun 1 open 1\n";
 
 /// What is open longer than it may is aborted.
-static CUT_SHORT: (&[u8], &[u8]) = (
-    b"a begin\nb call 1.0 0 inc:1\nc begin\nd call 1.1 1 inc:1\ne begin\nf commit 1.0\ng kept 0\n",
-    b"a ok 1.0\nb reply ok\nc ok 1.1\nd reply ok\ne ok 2.0\nf refused NotOpen\ng ok 0\n",
-);
+const CUT_SHORT: &[u8] =
+    b"a begin\nb call 1.0 0 inc:1\nc begin\nd call 1.1 1 inc:1\ne begin\nf commit 1.0\ng kept 0\n";
 
-/// Each line is answered in its order, however many bytes are read at a time, and nothing after the end is done. Where
-/// the output stops, the client gets a beginning.
-fn are_answered<S: NewTrees + Drop, R: Abort + AllocGlobal + Clock>(rt: &R) {
-    let stopped = Err(ServeFault::Output(OutFault::Device));
-    let rows = [
-        (asked(4096, 10_000), ANSWERED, Ok(()), 3),
-        (asked(1, 10_000), ANSWERED, Ok(()), 3),
-        (asked(7, 10_000), ANSWERED, Ok(()), 3),
-        (asked(4096, 20), &ANSWERED[..20], stopped, 3),
-        (short_epochs(DRAINED.0, HOUR), DRAINED.1, Ok(()), 1),
-        (short_epochs(CUT_SHORT.0, 0), CUT_SHORT.1, Ok(()), 1),
-    ];
-    for (how, answers, ended, begun) in &rows {
-        let (said, served, store) = told(rt, new_store::<S, R>(rt), &mut NoArchive, how);
-        let count = store.store().begun();
-        let _ = store.into_trees();
-        assert!(rt; said.as_slice() == *answers && served == *ended && count == *begun);
-    }
+const CUT_SHORT_ANSWERS: &[u8] =
+    b"a ok 1.0\nb reply ok\nc ok 1.1\nd reply ok\ne ok 2.0\nf refused NotOpen\ng ok 0\n";
+
+/// A service; its answers, how it ended, and how many transactions had begun in the last epoch.
+type Row = (Service, &'static [u8], Result<(), ServeFault>, u32);
+
+/// What is asked above in pieces of three sizes; an output that stops after 20 bytes; epochs of four events, in which what
+/// is open may go on for an hour or not at all.
+static ROWS: [Row; 6] = [
+    (
+        Service {
+            lines: ASKED,
+            piece: 4096,
+            room: 10_000,
+            most_events: u32::MAX,
+            drain: 0,
+        },
+        ANSWERED,
+        Ok(()),
+        3,
+    ),
+    (
+        Service {
+            lines: ASKED,
+            piece: 1,
+            room: 10_000,
+            most_events: u32::MAX,
+            drain: 0,
+        },
+        ANSWERED,
+        Ok(()),
+        3,
+    ),
+    (
+        Service {
+            lines: ASKED,
+            piece: 7,
+            room: 10_000,
+            most_events: u32::MAX,
+            drain: 0,
+        },
+        ANSWERED,
+        Ok(()),
+        3,
+    ),
+    (
+        Service {
+            lines: ASKED,
+            piece: 4096,
+            room: 20,
+            most_events: u32::MAX,
+            drain: 0,
+        },
+        b"a ok 1.0\nb reply ok\n",
+        Err(ServeFault::Output(OutFault::Device)),
+        3,
+    ),
+    (
+        Service {
+            lines: DRAINED,
+            piece: 1,
+            room: 1_000,
+            most_events: 4,
+            drain: HOUR,
+        },
+        DRAINED_ANSWERS,
+        Ok(()),
+        1,
+    ),
+    (
+        Service {
+            lines: CUT_SHORT,
+            piece: 1,
+            room: 1_000,
+            most_events: 4,
+            drain: 0,
+        },
+        CUT_SHORT_ANSWERS,
+        Ok(()),
+        1,
+    ),
+];
+
+/// That a new store is so served. Each line is answered in its order, however many bytes are read at a time, and nothing
+/// after the end is done. Where the output stops, the client gets a beginning.
+fn is_answered<S: NewTrees + Drop, R: Abort + AllocGlobal + Clock>(rt: &R, row: &Row) {
+    let (how, answers, ended, begun) = row;
+    let (said, served, store) = told(rt, new_store::<S, R>(rt), &mut NoArchive, how);
+    let count = store.store().begun();
+    let _ = store.into_trees();
+    assert!(rt; (said.as_slice() == *answers) & (served == *ended) & (count == *begun));
 }
 
 /// A commit that is answered, and a transaction that stays open.
@@ -212,6 +261,8 @@ fn is_found<S: NewTrees + Drop, R: Abort + AllocGlobal + Clock>(rt: &R) {
 
 #[test]
 fn lines_are_answered(rt: HostRuntime) {
-    are_answered::<MemStore, HostRuntime>(&rt);
+    for row in &ROWS {
+        is_answered::<MemStore, HostRuntime>(&rt, row);
+    }
     is_found::<MemStore, HostRuntime>(&rt);
 }

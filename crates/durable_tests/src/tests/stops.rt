@@ -8,7 +8,7 @@ ghost use Rattle.sqlite_store.specs.Unopened.{AreUsable};
 ghost use Rattle.durable_store.specs.Durable.{IsDurable};
 ghost use Rattle.journal.specs.Journal.{IsJournal};
 
-use super::counters::two_counters;
+use super::counters::{commits, two_counters};
 use durable_store::{Durable, open};
 use journal::{Journal, JournalError};
 use sqlite_disk::{Crash, Disk, Files, Fuse, Memory};
@@ -186,35 +186,13 @@ fn without_root(rt: &(impl Abort + AllocGlobal), entry: &Row) -> Row {
     row
 }
 
-/// A transaction counts up at each object.
-fn counted<S: Alter>(store: &mut Durable<S>, t: u32) -> Result<(), JournalError>
-    requires { IsDurable S.Store store.old }
-    ensures { OnOk result (IsDurable S.Store store.new) }
-{
-    let _ = store.call(t, 0, b"inc:1")?;
-    let _ = store.call(t, 1, b"inc:1")?;
-    Ok(())
-}
-
-/// The same, where there is a transaction; it commits.
-fn committed<S: Alter>(store: &mut Durable<S>, t: u32) -> Result<(), JournalError>
-    requires { IsDurable S.Store store.old }
-    ensures { OnOk result (IsDurable S.Store store.new) }
-{
-    counted(store, t)?;
-    let _ = store.commit(t)?;
-    store.settle()
-}
-
-/// One transaction counts up at each object, and its commit is settled.
+/// The first transaction counts up at each object, and its commit is settled.
 fn counted_once<S: Alter>(store: &mut Durable<S>) -> Result<(), JournalError>
     requires { IsDurable S.Store store.old }
     ensures { OnOk result (IsDurable S.Store store.new) }
 {
-    match store.begin()? {
-        Ok(t) => committed(store, t),
-        Err(_) => store.settle(),
-    }
+    let _ = commits(store, 0)?;
+    store.settle()
 }
 
 /// The journal of a new file of two counters, or none where the disk stopped.
@@ -261,7 +239,7 @@ fn events_found<S: Alter + Drop>(rt: &(impl Abort + AllocGlobal), trees: S) -> u
     let store = open(rt.alloc(), trees, &[]).ok();
     let store = store.expect(rt, "no store is found");
     let events = store.store().event_count();
-    let has_counted = store.store().kept(0) == Some(1) && store.store().kept(1) == Some(1);
+    let has_counted = (store.store().kept(0) == Some(1)) & (store.store().kept(1) == Some(1));
     let _ = store.into_trees();
     assert!(rt; has_counted);
     events
@@ -301,23 +279,14 @@ pub fn tried_after<T: Trial, R: Abort + AllocGlobal + Clock>(rt: &R, calls: Call
     tried_over(rt, files)
 }
 
-/// The greatest number of calls, below 1,024, after which no commit is settled.
-fn calls_too_few<R: Abort + AllocGlobal + Clock>(rt: &R, stops: Stops) -> u64 {
-    let mut few = 0u64;
-    for step in [512u64, 256, 128, 64, 32, 16, 8, 4, 2, 1] {
-        if tried_after::<Renewal, R>(rt, stops.behind(few | step)).is_none() {
-            few |= step;
-        }
-    }
-    few
-}
-
-/// How many stops after these calls leave the old file or the new one, until another epoch has begun.
-fn stops_behind<R: Abort + AllocGlobal + Clock>(rt: &R, stops: Stops, few: u64) -> Option<u32> {
+/// How many stops leave the old file or the new one, once a commit is settled and until another epoch has begun, which it
+/// has before 1,024 calls.
+fn stops_behind<R: Abort + AllocGlobal + Clock>(rt: &R, stops: Stops) -> Option<u32> {
     let mut stopped = 0u32;
-    for calls in few.saturating_add(1)..few.saturating_add(100) {
+    for calls in 0..1_024 {
         let found = tried_after::<Renewal, R>(rt, stops.behind(calls));
         match found {
+            None if stopped == 0 => {}
             Some(
                 Renewal {
                     reached: Reached::Commit,
@@ -340,7 +309,6 @@ fn stops_behind<R: Abort + AllocGlobal + Clock>(rt: &R, stops: Stops, few: u64) 
 #[test]
 fn a_stop_in_a_new_epoch_leaves_one_of_both(rt: HostRuntime) {
     for stops in [Stops::Log, Stops::Database] {
-        let few = calls_too_few(&rt, stops);
-        assert!(rt; stops_behind(&rt, stops, few) >= Some(3));
+        assert!(rt; stops_behind(&rt, stops) >= Some(3));
     }
 }
