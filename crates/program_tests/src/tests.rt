@@ -7,6 +7,7 @@ mod laws;
 mod lines;
 mod number_calls;
 mod number_files;
+mod printed;
 mod relations;
 mod sinks;
 mod texts;

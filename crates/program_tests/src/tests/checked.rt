@@ -3,9 +3,7 @@
 use crate::tests::type_files::{file_of, is_written};
 use declared_types::TypeFile;
 use std::process::Abort;
-use std::test::Fail;
 use table_checker::{CheckRefusal, CheckedType, check, check_parallel};
-use test_support::printed::are_printed;
 use test_support::texts::changed;
 use test_support::type_texts::{COUNTER, IDLE};
 use type_table::Kind;
@@ -140,31 +138,4 @@ fn types_are_compared(rt: HostRuntime) {
     is_compared(&rt, &counter);
     is_told_elsewhere(&rt, &counter);
     is_another(&rt, &counter);
-}
-
-/// Refusals, and how they are printed.
-static REFUSALS: [(CheckRefusal, &str); 5] = [
-    (CheckRefusal::InitialOutside, "InitialOutside"),
-    (
-        CheckRefusal::NotClosed { s: 1023, k: 7 },
-        "NotClosed 1023 7",
-    ),
-    (
-        CheckRefusal::NotSimulation { s: 4, t: 3, k: 2 },
-        "NotSimulation 4 3 2",
-    ),
-    (
-        CheckRefusal::NotCommuting {
-            p: 0,
-            q: 63,
-            s: 1023,
-        },
-        "NotCommuting 0 63 1023",
-    ),
-    (CheckRefusal::NotNumeric { k: 63, s: 0 }, "NotNumeric 63 0"),
-];
-
-#[test]
-fn faults_are_printed(rt: HostRuntime) -> Result<(), Fail> {
-    are_printed(rt.alloc(), &REFUSALS)
 }

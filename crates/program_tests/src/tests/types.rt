@@ -4,8 +4,6 @@ ghost use Rattle.std.specs.Prelude.{◌≡◌, length};
 
 use declared_types::is_whole;
 use std::process::Abort;
-use std::test::Fail;
-use test_support::printed::are_printed;
 use type_table::{Name, Op, StateSet, TableError, TypeTable};
 
 /// The parts of a table: how many states, the first of them, the operations, and a step for each state
@@ -78,19 +76,6 @@ fn faults_come_in_order(rt: HostRuntime) {
     for (parts, fault) in &FAULTS {
         assert!(rt; table_of(&rt, parts).err() == *fault);
     }
-}
-
-/// How faults are printed.
-static ERRORS: [(TableError, &str); 4] = [
-    (TableError::BadCount, "BadCount"),
-    (TableError::BadInitial, "BadInitial"),
-    (TableError::BadStep, "BadStep"),
-    (TableError::TwiceOp, "TwiceOp"),
-];
-
-#[test]
-fn faults_are_printed(rt: HostRuntime) -> Result<(), Fail> {
-    are_printed(rt.alloc(), &ERRORS)
 }
 
 /// Whether the states of a set of three are these.
