@@ -216,6 +216,11 @@ class Number:
         low, high = self.is_legal_at(min, t), self.is_legal_at(max, t)
         return [u for u in others if not low and min(self.fronts(u)) < 0 or not high and max(self.fronts(u)) > 0]
 
+    def keeps_alone(self, u, t):
+        """Whether another alone keeps a transaction from what it did last: it may leave a number from which that isn't
+        legal, where no other did anything."""
+        return any(self.type.run(self.base + move, self.own[t]) is None for move in self.fronts(u))
+
 
 class Seen:
     """What a history says: who began, committed and is open, and which operations survive."""
@@ -298,13 +303,16 @@ class Model:
         return Number(self.type_of(x), self.serial(s, x), {**own, t: own[t] + [k]})
 
     def blocker(self, s, x, t, k):
-        """Who holds the earliest operation that this one conflicts with, or, in escrow, that keeps the transaction from
-        this one; or none."""
+        """Who holds the earliest operation that this one conflicts with; or, in escrow, that keeps the transaction from
+        this one, first of those who do so alone; or none."""
         kind, conflicts = self.objects[x][0], self.type_of(x).conflicts
-        keepers = self.number(s, x, t, k).keepers(t) if kind == "escrow" else []
         held = [(u, q) for u, y, q in s.stands if y == x and u != t and s.is_open(u)]
-        held = [u for u, q in held if u in keepers or (kind, k, q) in conflicts]
-        return held[0] if held else None
+        if kind != "escrow":
+            return next((u for u, q in held if (kind, k, q) in conflicts), None)
+        number = self.number(s, x, t, k)
+        keepers = number.keepers(t)
+        held = [u for u, _ in held if u in keepers]
+        return next((u for u in held if number.keeps_alone(u, t)), held[0] if held else None)
 
     def event_of_call(self, s, t, x, call):
         state = self.type_of(x).run(self.starts[x], self.view(s, x, t))

@@ -141,7 +141,7 @@ static void what_was_given_before_covers_what_is_taken(void) {
     open_five(&s, 3);
     WANT(answers(&s, 0, "give:1", COLOCK_REPLY, GIVE) && answers(&s, 0, "take:2", COLOCK_REPLY, TAKE));
     WANT(answers(&s, 1, "take:2", COLOCK_REPLY, TAKE));
-    WANT(answers(&s, 2, "take:2", COLOCK_BUSY, 0));
+    WANT(answers(&s, 2, "take:2", COLOCK_BUSY, 1)); /* without the second there would be two, without the first there wouldn't */
     WANT(colock_rollback(&s, 0, 0, 1) == COLOCK_OK); /* its take: it takes nothing now */
     WANT(answers(&s, 2, "take:2", COLOCK_BUSY, 1));
     WANT(answers(&s, 0, "take:2", COLOCK_REPLY, TAKE) && keeps(&s, 3));

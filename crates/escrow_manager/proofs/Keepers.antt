@@ -1,11 +1,13 @@
 -- Who keeps a transaction from one operation where it is known who keeps it from another.
-use Rattle.std.proofs.Common.{◌≡◌, ℕ, ◌+◌, ◌<◌, ◌≤◌, Bool, true, false, not, ◌&&◌, ◌==◌, List, [], ◌∷◌, Option, Some, refl, sym, ap, subst, ◌∙◌, inl, inr, arith}
+use Rattle.std.proofs.Common.{◌≡◌, ℕ, ◌+◌, ◌<◌, ◌≤◌, Bool, true, false, not, ◌&&◌, ◌==◌, List, [], ◌∷◌, Option, Some, None, eqb, refl, sym, ap, subst, ◌∙◌, inl, inr, arith}
 use Rattle.std.specs.Prelude.{slice_get}
 use Rattle.std.specs.List.{find}
-use Rattle.std.specs.Option.{option_map}
-use Rattle.std.proofs.lemmas.Bool.{cases_Bool, and_from, and_parts, false_from_ne_true}
-use Rattle.escrow_laws.specs.Marks.{most_needed, least_limit, mark_keeps}
-use Rattle.escrow_laws.specs.Laws.{ExtremesTellFirm, MarksTell}
+use Rattle.std.specs.Option.{option_map, option_or}
+use Rattle.std.proofs.Math.Path.{fun_ext}
+use Rattle.std.proofs.lemmas.Bool.{cases_Bool, false≢true, and_from, and_parts, and_right, not-true, false_from_ne_true}
+use Rattle.type_table.proofs.Elements.{differ_turned}
+use Rattle.escrow_laws.specs.Marks.{mark_after, most_needed, least_limit}
+use Rattle.escrow_laws.specs.Laws.{ExtremesTellFirm, FirmIsLegal, MarksAreExact, MarksFit, MarksTell}
 use Rattle.escrow_laws.specs.declared.bounded.Bounded.{Bounded}
 use Rattle.escrow_laws.specs.declared.mark.Mark.{Mark}
 use Rattle.escrow_laws.specs.declared.mark.OpenMark.{OpenMark}
@@ -17,11 +19,11 @@ use Rattle.escrow_manager.specs.Marks.{mark_in}
 use Rattle.escrow_manager.specs.Kept.{IsKeptInEscrow}
 use Rattle.escrow_manager.specs.declared.totals.Totals.{Totals}
 use Rattle.escrow_manager.proofs.Telling.{sums-told, limit-least}
-use Rattle.escrow_manager.proofs.Summing.{counted, needed-counted, limit-counted}
+use Rattle.escrow_manager.proofs.Summing.{counted, counted-both, needed-counted, limit-counted}
 use Rattle.escrow_manager.proofs.Keeping.{mark_at, idle-above, firm-of, inside-of}
-use Rattle.escrow_manager.proofs.Blocking.{mark_with, totals_after, first_of, stopper-marks}
-use Rattle.escrow_manager.proofs.KeptMarks.{keeps_from}
-use Rattle.escrow_manager.proofs.KeptWays.{IsFirmBy, KeepsAlike}
+use Rattle.escrow_manager.proofs.Blocking.{named_of, stopper-marks}
+use Rattle.escrow_manager.proofs.KeptMarks.{keeps_from, alone_from, lone-keeps}
+use Rattle.escrow_manager.proofs.KeptWays.{IsFirmBy, IsBesideBy, IsOther, LoneAlike, KeepsAlike}
 
 -- ---- the first entry that passes a test
 
@@ -46,6 +48,80 @@ found-stays test strict (e ∷ log) u weaker stays is = elim (cases_Bool (test e
       let none : strict e ≡ false = false_from_ne_true (strict e) (λ so. let both = sym fails ∙ weaker e so in cc) in
       rw none (found-stays test strict log u weaker stays (rw fails at is))
 ]
+
+-- where none passes, none passes a stricter test
+none-stays : (test strict : LogEntry → Bool) (log : List LogEntry) → ((e : LogEntry) → strict e ≡ true → test e ≡ true) → find test log ≡ None → find strict log ≡ None
+none-stays test strict [] weaker none = refl
+none-stays test strict (e ∷ log) weaker none = elim (cases_Bool (test e)) [
+  | inl passes ↦ absurd (let some : Some e ≡ None = rw passes at none in cc)
+  | inr fails ↦
+      let here : strict e ≡ false = false_from_ne_true (strict e) (λ so. let both = sym fails ∙ weaker e so in cc) in
+      rw here (none-stays test strict log weaker (rw fails at none))
+]
+
+-- ---- who is named of those that pass
+
+module _ (rather test : LogEntry → Bool) (log : List LogEntry) (u : ℕ) where
+  abbrev both : LogEntry → Bool
+  both e = rather e && test e
+
+  -- whose first entry passes, and whose entries are named first, is named first
+  none-both : (es : List LogEntry) → find both es ≡ None → by_of (find test es) ≡ Some u → ((e : LogEntry) → e.by ≡ u → rather e ≡ true) → ⊥
+  none-both [] none is first = cc
+  none-both (e ∷ es) none is first = elim (cases_Bool (test e)) [
+    | inl passes ↦
+        let here : Some e.by ≡ Some u = rw passes at is in
+        let same : e.by ≡ u = cc in
+        let some : Some e ≡ None = rw (first e same, passes) at none in
+        cc
+    | inr fails ↦ none-both es (rw (and_right (rather e) (test e) fails) at none) (rw fails at is) first
+  ]
+
+  abbrev IsNamedBy : Option LogEntry → Type 0
+  IsNamedBy first = option_or (by_of first) (by_of (find test log)) ≡ Some u
+
+  -- whoever is named passes
+  pub named-passes : named_of rather test log ≡ Some u → (e : LogEntry) × (e.by ≡ u) × (test e ≡ true)
+  named-passes is = go (find both log) refl is
+    where
+      go : (first : Option LogEntry) → find both log ≡ first → IsNamedBy first → (e : LogEntry) × (e.by ≡ u) × (test e ≡ true)
+      go None found named = found-passes test log u named
+      go (Some x) found named =
+          let one = found-passes both log u (ap by_of found ∙ named) in
+          (one.0, one.1, (and_parts (rather one.0) (test one.0) one.2).1)
+
+  -- who is named first is the first that passes both
+  pub named-first : ((e : LogEntry) → e.by ≡ u → rather e ≡ true) → named_of rather test log ≡ Some u → by_of (find both log) ≡ Some u
+  named-first first is = go (find both log) refl is
+    where
+      go : (found : Option LogEntry) → find both log ≡ found → IsNamedBy found → by_of (find both log) ≡ Some u
+      go None found named = absurd (none-both log found named first)
+      go (Some x) found named = ap by_of found ∙ named
+
+  -- where another is named, none passes both
+  pub named-last : ((e : LogEntry) → e.by ≡ u → rather e ≡ false) → named_of rather test log ≡ Some u → (find both log ≡ None) × (by_of (find test log) ≡ Some u)
+  named-last last is = go (find both log) refl is
+    where
+      go : (found : Option LogEntry) → find both log ≡ found → IsNamedBy found → (find both log ≡ None) × (by_of (find test log) ≡ Some u)
+      go None found named = (found, named)
+      go (Some x) found named =
+          let one = found-passes both log u (ap by_of found ∙ named) in
+          absurd (false≢true (sym (last one.0 one.1) ∙ (and_parts (rather one.0) (test one.0) one.2).0))
+
+-- ---- an operation that is legal for t
+
+-- with an operation of these bounds, what t did is legal from base
+abbrev pub IsLegalWith : ℕ → Mark → Bounded → Type 0
+IsLegalWith base t b = ((mark_after t b).floor ≤ base) × (base < (mark_after t b).ceiling)
+
+-- it is, where the operation is legal at the number that t sees
+pub legal-with : (base s : ℕ) (totals : Totals) (t : Mark) (b : Bounded) → IsFirmBy base totals t → s + t.fall ≡ base + t.above → b.low ≤ s → s ≤ b.high → IsLegalWith base t b
+legal-with base s totals t b firm sees low high =
+    let needed = firm.needed in
+    let limit = firm.limit in
+    let fall = firm.fall in
+    let rise = firm.rise in
+    (omega (arith, needed, fall, sees, low), omega (arith, limit, rise, sees, high))
 
 -- ---- of an object
 
@@ -83,31 +159,99 @@ module _ {m : Meaning} {marks : List OpenMark} {totals : Totals} (h : IsKeptInEs
           let risen = ap (λ (y : Totals). y.risen) h.summed in
           record { needed = omega (arith, both.0, needed); limit = omega (arith, both.1, limit); fall = omega (arith, fall, fallen); rise = omega (arith, rise, risen) }
 
-  module _ (tell : MarksTell) (t k : ℕ) (b : Bounded) (found : slice_get (bounds_in m.checked) k ≡ Some b) (u : ℕ) where
-    -- who keeps t from k does so by his mark
-    pub keeper-keeps : stopper m t k ≡ Some u → keeps_from m.base totals.fallen totals.risen (mark_at m t) b (mark_at m u) ≡ true
-    keeper-keeps is =
-        let first : first_of m.log marks m.base (totals_after m totals t b) (mark_with m t b) (greatest m.checked) t ≡ Some u = sym (stopper-marks h t k b found tell) ∙ is in
-        let entry = found-passes (λ (e : LogEntry). not (e.by == t) && mark_keeps m.base (totals_after m totals t b).fallen (totals_after m totals t b).risen (mark_with m t b) (mark_in (greatest m.checked) e.by marks)) m.log u first in
-        let keeps = (and_parts (not (entry.0.by == t)) (mark_keeps m.base (totals_after m totals t b).fallen (totals_after m totals t b).risen (mark_with m t b) (mark_in (greatest m.checked) entry.0.by marks)) entry.2).1 in
-        subst (λ (x : Mark). mark_keeps m.base (totals_after m totals t b).fallen (totals_after m totals t b).risen (mark_with m t b) x ≡ true) (h.listed.exact entry.0.by ∙ ap (mark_at m) entry.1) keeps
+  -- together two of them fall and rise no further than all do
+  pub other-by : ExtremesTellFirm → (t u : ℕ) → eqb t u ≡ false → IsOther m.base totals (mark_at m t) (mark_at m u)
+  other-by tell t u other =
+      let top = greatest m.checked in
+      let fall = counted-both top (λ y. y.fall) refl t u marks other in
+      let rise = counted-both top (λ y. y.rise) refl t u marks other in
+      let fallen = ap (λ (y : Totals). y.fallen) h.summed in
+      let risen = ap (λ (y : Totals). y.risen) h.summed in
+      let one = h.listed.exact t in
+      let two = h.listed.exact u in
+      record {
+        firm = firm-by tell u;
+        beside = subst (λ (x : Mark). IsBesideBy totals x (mark_at m u)) one
+            (subst (λ (x : Mark). IsBesideBy totals (mark_in top t marks) x) two (record { fall = omega (arith, fall, fallen); rise = omega (arith, rise, risen) }));
+      }
 
-    -- and where no other keeps t from j, but he does, he keeps t from j
-    pub keeper-stays : ExtremesTellFirm → (j : ℕ) (d : Bounded) → slice_get (bounds_in m.checked) j ≡ Some d → KeepsAlike m.base totals (mark_at m t) b d (mark_at m u) → stopper m t k ≡ Some u → stopper m t j ≡ Some u
-    keeper-stays extremes j d there alike is =
-        let top = greatest m.checked in
-        let first : first_of m.log marks m.base (totals_after m totals t b) (mark_with m t b) top t ≡ Some u = sym (stopper-marks h t k b found tell) ∙ is in
-        stopper-marks h t j d there tell
-        ∙ found-stays (λ (e : LogEntry). not (e.by == t) && keeps_from m.base totals.fallen totals.risen (mark_at m t) b (mark_in top e.by marks))
-        (λ (e : LogEntry). not (e.by == t) && keeps_from m.base totals.fallen totals.risen (mark_at m t) d (mark_in top e.by marks)) m.log u
-        (λ e strict.
-        let parts = and_parts (not (e.by == t)) (keeps_from m.base totals.fallen totals.risen (mark_at m t) d (mark_in top e.by marks)) strict in
-        let exact = h.listed.exact e.by in
-        and_from (not (e.by == t)) (keeps_from m.base totals.fallen totals.risen (mark_at m t) b (mark_in top e.by marks)) parts.0
-        (subst (λ (x : Mark). keeps_from m.base totals.fallen totals.risen (mark_at m t) b x ≡ true) (sym exact)
-        (alike.each (mark_at m e.by) (firm-by extremes e.by) (subst (λ (x : Mark). keeps_from m.base totals.fallen totals.risen (mark_at m t) d x ≡ true) exact parts.1))))
-        (λ e same passes.
-        let parts = and_parts (not (e.by == t)) (keeps_from m.base totals.fallen totals.risen (mark_at m t) b (mark_in top e.by marks)) passes in
-        and_from (not (e.by == t)) (keeps_from m.base totals.fallen totals.risen (mark_at m t) d (mark_in top e.by marks)) parts.0
-        (subst (λ (x : Mark). keeps_from m.base totals.fallen totals.risen (mark_at m t) d x ≡ true) (sym (h.listed.exact e.by ∙ ap (mark_at m) same)) alike.still))
-        first
+  module _ (exact : MarksAreExact) (fit : MarksFit) (legal : FirmIsLegal) (tell : MarksTell) (extremes : ExtremesTellFirm) (t : ℕ) where
+    -- who keeps t from an operation of these bounds, by his mark
+    abbrev keeper : Bounded → LogEntry → Bool
+    keeper b e = not (e.by == t) && keeps_from m.base totals.fallen totals.risen (mark_at m t) b (mark_at m e.by)
+
+    -- and who does so alone
+    abbrev lone : Bounded → LogEntry → Bool
+    lone b e = alone_from m.base (mark_at m t) b (mark_at m e.by)
+
+    stopper-at : (k : ℕ) (b : Bounded) → slice_get (bounds_in m.checked) k ≡ Some b → stopper m t k ≡ named_of (lone b) (keeper b) m.log
+    stopper-at k b found =
+        stopper-marks h t k b found exact fit legal tell
+        ∙ ap (λ (shown : ℕ → Mark). named_of (λ e. alone_from m.base (mark_at m t) b (shown e.by)) (λ e. not (e.by == t) && keeps_from m.base totals.fallen totals.risen (mark_at m t) b (shown e.by)) m.log)
+        (fun_ext (λ u. h.listed.exact u))
+
+    -- an entry that passes is another's
+    others-entry : (b : Bounded) (e : LogEntry) → keeper b e ≡ true → IsOther m.base totals (mark_at m t) (mark_at m e.by)
+    others-entry b e passes =
+        let parts = and_parts (not (e.by == t)) (keeps_from m.base totals.fallen totals.risen (mark_at m t) b (mark_at m e.by)) passes in
+        other-by extremes t e.by (differ_turned t e.by (not-true (e.by == t) parts.0))
+
+    module _ (u k : ℕ) (b : Bounded) (found : slice_get (bounds_in m.checked) k ≡ Some b) (is : stopper m t k ≡ Some u) where
+      named : named_of (lone b) (keeper b) m.log ≡ Some u
+      named = sym (stopper-at k b found) ∙ is
+
+      -- who keeps t from k is another, and does so by his mark
+      pub keeper-keeps : IsOther m.base totals (mark_at m t) (mark_at m u) × (keeps_from m.base totals.fallen totals.risen (mark_at m t) b (mark_at m u) ≡ true)
+      keeper-keeps =
+          let entry = named-passes (lone b) (keeper b) m.log u named in
+          let parts = and_parts (not (entry.0.by == t)) (keeps_from m.base totals.fallen totals.risen (mark_at m t) b (mark_at m entry.0.by)) entry.2 in (
+            subst (λ v. IsOther m.base totals (mark_at m t) (mark_at m v)) entry.1 (others-entry b entry.0 entry.2),
+            subst (λ v. keeps_from m.base totals.fallen totals.risen (mark_at m t) b (mark_at m v) ≡ true) entry.1 parts.1,
+          )
+
+      module _ (j : ℕ) (d : Bounded) (there : slice_get (bounds_in m.checked) j ≡ Some d) where
+        -- where no other keeps t from j, but he does, he keeps t from j
+        pub keeper-stays : alone_from m.base (mark_at m t) b (mark_at m u) ≡ false → KeepsAlike m.base totals (mark_at m t) (mark_at m u) b d → stopper m t j ≡ Some u
+        keeper-stays not_alone alike =
+            let weaker : (e : LogEntry) → keeper d e ≡ true → keeper b e ≡ true = λ e strict.
+            let parts = and_parts (not (e.by == t)) (keeps_from m.base totals.fallen totals.risen (mark_at m t) d (mark_at m e.by)) strict in
+            and_from (not (e.by == t)) (keeps_from m.base totals.fallen totals.risen (mark_at m t) b (mark_at m e.by)) parts.0 (alike.each (mark_at m e.by) (others-entry d e strict) parts.1) in
+            let last = named-last (lone b) (keeper b) m.log u (λ e same. subst (λ v. alone_from m.base (mark_at m t) b (mark_at m v) ≡ false) (sym same) not_alone) named in
+            let none : find (λ e. lone d e && keeper d e) m.log ≡ None =
+            none-stays (λ e. lone b e && keeper b e) (λ e. lone d e && keeper d e) m.log
+            (λ e strict.
+            let parts = and_parts (lone d e) (keeper d e) strict in
+            and_from (lone b e) (keeper b e) (alike.fewer (mark_at m e.by) (others-entry d e parts.1) parts.0) (weaker e parts.1)) last.0 in
+            let first : by_of (find (keeper d) m.log) ≡ Some u =
+            found-stays (keeper b) (keeper d) m.log u weaker
+            (λ e same passes.
+            let parts = and_parts (not (e.by == t)) (keeps_from m.base totals.fallen totals.risen (mark_at m t) b (mark_at m e.by)) passes in
+            and_from (not (e.by == t)) (keeps_from m.base totals.fallen totals.risen (mark_at m t) d (mark_at m e.by)) parts.0
+            (subst (λ v. keeps_from m.base totals.fallen totals.risen (mark_at m t) d (mark_at m v) ≡ true) (sym same) alike.still))
+            last.1 in
+            stopper-at j d there ∙ ap (λ one. option_or (by_of one) (by_of (find (keeper d) m.log))) none ∙ first
+
+        -- and so it is of those who do so alone, where both operations are legal for t
+        pub lone-stays : IsLegalWith m.base (mark_at m t) b → IsLegalWith m.base (mark_at m t) d → alone_from m.base (mark_at m t) b (mark_at m u) ≡ true →
+            LoneAlike m.base totals (mark_at m t) (mark_at m u) b d → stopper m t j ≡ Some u
+        lone-stays legal_b legal_d alone alike =
+            let keeps = λ (e : LogEntry) (c : Bounded) (lawful : IsLegalWith m.base (mark_at m t) c) (sure : IsOther m.base totals (mark_at m t) (mark_at m e.by)) (so : lone c e ≡ true).
+            lone-keeps m.base totals.fallen totals.risen (mark_at m t) (mark_at m e.by) c sure.beside (room-of extremes).0 lawful.0 lawful.1 so in
+            let apart = λ (e : LogEntry) (c : Bounded) (passes : keeper c e ≡ true).
+            (and_parts (not (e.by == t)) (keeps_from m.base totals.fallen totals.risen (mark_at m t) c (mark_at m e.by)) passes).0 in
+            let first : by_of (find (λ e. lone d e && keeper d e) m.log) ≡ Some u =
+            found-stays (λ e. lone b e && keeper b e) (λ e. lone d e && keeper d e) m.log u
+            (λ e strict.
+            let parts = and_parts (lone d e) (keeper d e) strict in
+            let sure = others-entry d e parts.1 in
+            let so = alike.fewer (mark_at m e.by) sure parts.0 in
+            and_from (lone b e) (keeper b e) so
+            (and_from (not (e.by == t)) (keeps_from m.base totals.fallen totals.risen (mark_at m t) b (mark_at m e.by)) (apart e d parts.1) (keeps e b legal_b sure so)))
+            (λ e same passes.
+            let parts = and_parts (lone b e) (keeper b e) passes in
+            let sure = others-entry b e parts.1 in
+            let so : lone d e ≡ true = subst (λ v. alone_from m.base (mark_at m t) d (mark_at m v) ≡ true) (sym same) alike.still in
+            and_from (lone d e) (keeper d e) so
+            (and_from (not (e.by == t)) (keeps_from m.base totals.fallen totals.risen (mark_at m t) d (mark_at m e.by)) (apart e b parts.1) (keeps e d legal_d sure so)))
+            (named-first (lone b) (keeper b) m.log u (λ e same. subst (λ v. alone_from m.base (mark_at m t) b (mark_at m v) ≡ true) (sym same) alone) named) in
+            stopper-at j d there ∙ ap (λ one. option_or one (by_of (find (keeper d) m.log))) first

@@ -1,11 +1,12 @@
 -- Where a transaction isn't kept from the least of a few amounts, it is kept from none.
-use Rattle.std.proofs.Common.{◌≡◌, ℕ, zero, suc, ◌+◌, ◌-◌, ◌/◌, ◌%◌, ◌<◌, ◌≤◌, ◌⊎◌, List, Option, Some, None, MatchOption, refl, sym, ap, subst, ◌∙◌, inl, inr, arith}
-use Rattle.std.specs.Prelude.{slice_get}
+use Rattle.std.proofs.Common.{◌≡◌, ℕ, zero, suc, ◌+◌, ◌-◌, ◌/◌, ◌%◌, ◌<◌, ◌≤◌, ◌⊎◌, true, false, List, Option, Some, None, MatchOption, refl, sym, ap, subst, ◌∙◌, inl, inr, arith}
+use Rattle.std.specs.Prelude.{min, slice_get}
 use Rattle.std.specs.List.{list_any}
 use Rattle.std.proofs.lemmas.Bool.{cases_Bool, cases_lt, cases_eq, false≢true}
 use Rattle.type_table.specs.Operation.{operation_at}
 use Rattle.escrow_laws.specs.Marks.{FitsIn}
 use Rattle.escrow_laws.specs.Laws.{MarksAreExact, MarksFit, MarksTell, ExtremesTellFirm, FirmIsLegal}
+use Rattle.escrow_laws.specs.declared.bounded.Bounded.{Bounded}
 use Rattle.escrow_laws.specs.declared.mark.Mark.{Mark}
 use Rattle.escrow_laws.specs.declared.mark.OpenMark.{OpenMark}
 use Rattle.number_types.specs.declared.number_call.NumberCall.TheVariants as calls
@@ -17,15 +18,17 @@ use Rattle.declared_types.specs.Declarations.{number_file}
 use Rattle.object_trait.specs.Meaning.{Meaning, view_of}
 use Rattle.object_trait.specs.Steps.{IsLegalFor, stopper, IsKeptByAmount, TellsKept}
 use Rattle.object_trait.proofs.Amounts.{told-some, told-none}
+use Rattle.escrow_manager.specs.Numeric.{bounds_in}
 use Rattle.escrow_manager.specs.Kept.{IsKeptInEscrow}
-use Rattle.escrow_manager.specs.KeptAmount.{IsKeptFrom, any_call, moving, refusing, lists, HasAmount, IsLeastAmount, IsFreeFrom, first_kept, first_beyond, first_refused}
+use Rattle.escrow_manager.specs.KeptAmount.{IsKeptFrom, any_call, moving, refusing, lists, HasAmount, IsLeastAmount, IsMostAmount, IsFreeFrom, IsFreeUpTo, first_kept, first_beyond, last_refused}
 use Rattle.escrow_manager.specs.declared.totals.Totals.{Totals}
 use Rattle.escrow_manager.specs.declared.way.Way.{Way}
 use Rattle.escrow_manager.specs.declared.way.Way.TheVariants.{Take, Give}
 use Rattle.escrow_manager.proofs.Keeping.{mark_at, number_at, fits-of, view-told, legal-told}
-use Rattle.escrow_manager.proofs.KeptWays.{AreAlike, moving-alike, refusing-alike}
-use Rattle.escrow_manager.proofs.KeptOps.{inside-ops, moving-at, refusing-at, has-amount, value-at, value-most, value-none, none-legal, IsOpAt, greatest-is, found-at, legal-op}
-use Rattle.escrow_manager.proofs.Keepers.{room-of, firm-by, keeper-keeps, keeper-stays}
+use Rattle.escrow_manager.proofs.KeptMarks.{keeps_from, alone_from}
+use Rattle.escrow_manager.proofs.KeptWays.{IsOther, LoneAlike, KeepsAlike, AreAlike, moving-lone, moving-alike, refusing-lone, refusing-alike}
+use Rattle.escrow_manager.proofs.KeptOps.{inside-ops, moving-at, refusing-at, has-amount, value-at, value-most, value-none, none-legal, greatest-is, found-at, legal-op}
+use Rattle.escrow_manager.proofs.Keepers.{room-of, firm-by, IsLegalWith, legal-with, keeper-keeps, keeper-stays, lone-stays}
 
 -- ---- the least amount
 
@@ -67,16 +70,41 @@ module _ (v : Number) (way : Way) where
   pub least-from : (start n : ℕ) → start ≤ n → HasAmount v way n → (c : ℕ) × IsLeastAmount v way start c × (c ≤ n)
   least-from start n from has = least-up (n - start) start n (omega (arith, from)) has
 
+  most-down : (d stop n : ℕ) → stop ≡ n + d → HasAmount v way n → (c : ℕ) × IsMostAmount v way stop c × (n ≤ c)
+  most-down zero stop n far has = (n, (omega (arith, far), has, λ j to there. omega (arith, far, to)), omega arith)
+  most-down (suc d) stop n far has = elim (cases-has stop) [
+    | inl here ↦ (stop, (omega arith, here, λ j to there. to), omega (arith, far))
+    | inr none ↦
+        let rest = most-down d (n + d) n refl has in
+        let most = rest.1 in
+        let to_stop = most.0 in (
+          rest.0,
+          (
+            omega (arith, to_stop, far),
+            most.1,
+            λ j to there. elim (cases_eq j stop) [
+              | inl same ↦ absurd (none (subst (HasAmount v way) same there))
+              | inr other ↦ most.2 j (omega (arith, to, other, far)) there
+            ],
+          ),
+          rest.2,
+        )
+  ]
+
+  -- where there is an amount up to a last one, there is a greatest one
+  pub most-to : (stop n : ℕ) → n ≤ stop → HasAmount v way n → (c : ℕ) × IsMostAmount v way stop c × (n ≤ c)
+  most-to stop n to has = most-down (stop - n) stop n (omega (arith, to)) has
+
 -- ---- what is legal
 
 moving-legal : (top s : ℕ) (way : Way) (c n : ℕ) → c ≤ n → (op_bounds top (moving way n)).low ≤ s → s ≤ (op_bounds top (moving way n)).high → ((op_bounds top (moving way c)).low ≤ s) × (s ≤ (op_bounds top (moving way c)).high)
 moving-legal top s Take c n less low high = (omega (arith, less, low), high)
 moving-legal top s Give c n less low high = (low, omega (arith, less, high))
 
-refusing-legal : (top s : ℕ) (way : Way) (c n : ℕ) → c ≤ n → first_refused way top s ≤ c → (op_bounds top (refusing way n)).low ≤ s → s ≤ (op_bounds top (refusing way n)).high →
+refusing-legal : (top s : ℕ) (way : Way) (n c : ℕ) → n ≤ c → c ≤ top → 1 ≤ n → (op_bounds top (refusing way n)).low ≤ s → s ≤ (op_bounds top (refusing way n)).high →
     ((op_bounds top (refusing way c)).low ≤ s) × (s ≤ (op_bounds top (refusing way c)).high)
-refusing-legal top s Take c n less from low high = (low, omega (arith, from))
-refusing-legal top s Give c n less from low high = (omega (arith, from, high), high)
+refusing-legal top s Take n c more most some low high = (low, omega (arith, more, some, high))
+refusing-legal top s Give n c more most some low high = (omega (arith, more, most, low), high)
 
 -- ---- of an object
 
@@ -101,74 +129,146 @@ module _ {m : Meaning} {marks : List OpenMark} {totals : Totals} (h : IsKeptInEs
   begins : number_at m t + (mark_at m t).fall ≡ m.base + (mark_at m t).above
   begins = let down = fits.down in omega (arith, down)
 
-  -- where u doesn't keep t from the least amount from a start on, it doesn't from one that is like it
-  free-alike : (p start n : ℕ) (op : ℕ → NumberOp) → p < 256 → IsFreeFrom v way m t p u start → ((c : ℕ) → HasAmount v way c → op_done v (operation_at p (Some c)) ≡ Some (op c)) →
-      ((c : ℕ) → c ≤ n → start ≤ c → ((op_bounds v.max (op c)).low ≤ number_at m t) × (number_at m t ≤ (op_bounds v.max (op c)).high)) →
-      HasAmount v way n → AreAlike m.base v.max totals (mark_at m t) (mark_at m u) op start n → stopper m t (operation_at p (Some n)) ≡ Some u → ⊥
-  free-alike p start n op low free done legal_at has alike is =
-      let found = λ (c : ℕ) (there : HasAmount v way c). found-at h v known file tells (operation_at p (Some c)) (op c) (inside-ops v p c low there.1) (done c there) in
-      let first = least-from v way start n alike.begun has in
-      let c = first.0 in
-      let least = first.1 in
-      let less = first.2 in
-      let between = legal_at c less least.0 in
-      let legal_there = (legal-told h t (operation_at p (Some c)) (number_at m t) (op_bounds v.max (op c)) (found c least.1) sees).0 between in
-      free c least (legal_there, keeper-stays h tell t (operation_at p (Some n)) (op_bounds v.max (op n)) (found n has) u extremes (operation_at p (Some c)) (op_bounds v.max (op c)) (found c least.1) (alike.alike c least.0 less) is)
+  abbrev own : Mark
+  own = mark_at m t
+
+  abbrev its : Mark
+  its = mark_at m u
+
+  -- all others together
+  abbrev down : ℕ
+  down = totals.fallen - own.fall
+
+  abbrev up : ℕ
+  up = totals.risen - own.rise
+
+  -- operations with amounts at a place
+  pub record AreAt (p : ℕ) (op : ℕ → NumberOp) : Type 0 where
+    low : p < 256
+    done : (c : ℕ) → HasAmount v way c → op_done v (operation_at p (Some c)) ≡ Some (op c)
+
+  -- one of them that is legal for t
+  pub record IsOneOf (p : ℕ) (op : ℕ → NumberOp) (c : ℕ) : Type 0 where
+    has : HasAmount v way c
+    lowest : (op_bounds v.max (op c)).low ≤ number_at m t
+    highest : number_at m t ≤ (op_bounds v.max (op c)).high
+
+  found-of : (p : ℕ) (op : ℕ → NumberOp) → AreAt p op → (c : ℕ) → HasAmount v way c → slice_get (bounds_in m.checked) (operation_at p (Some c)) ≡ Some (op_bounds v.max (op c))
+  found-of p op at c has = found-at h v known file tells (operation_at p (Some c)) (op c) (inside-ops v p c at.low has.1) (at.done c has)
+
+  legal-of : (p : ℕ) (op : ℕ → NumberOp) → AreAt p op → (c : ℕ) → IsOneOf p op c → IsLegalFor m t (operation_at p (Some c))
+  legal-of p op at c one = (legal-told h t (operation_at p (Some c)) (number_at m t) (op_bounds v.max (op c)) (found-of p op at c one.has) sees).0 (one.lowest, one.highest)
+
+  module _ (p : ℕ) (op : ℕ → NumberOp) (at : AreAt p op) (n : ℕ) (one : IsOneOf p op n) (is : stopper m t (operation_at p (Some n)) ≡ Some u) where
+    abbrev here : Bounded
+    here = op_bounds v.max (op n)
+
+    keeps : IsOther m.base totals own its × (keeps_from m.base totals.fallen totals.risen own here its ≡ true)
+    keeps = keeper-keeps h exact fit legal tell extremes t u (operation_at p (Some n)) here (found-of p op at n one.has) is
+
+    legal-by : (c : ℕ) → IsOneOf p op c → IsLegalWith m.base own (op_bounds v.max (op c))
+    legal-by c other = legal-with m.base (number_at m t) totals own (op_bounds v.max (op c)) (firm-by h extremes t) begins other.lowest other.highest
+
+    -- u keeps t from another amount too, where he does so alike
+    stays-lone : alone_from m.base own here its ≡ true → (c : ℕ) → IsOneOf p op c → LoneAlike m.base totals own its here (op_bounds v.max (op c)) → IsKeptFrom m t (operation_at p (Some c)) u
+    stays-lone alone c other alike = (
+      legal-of p op at c other,
+      lone-stays h exact fit legal tell extremes t u (operation_at p (Some n)) here (found-of p op at n one.has) is
+          (operation_at p (Some c)) (op_bounds v.max (op c)) (found-of p op at c other.has) (legal-by n one) (legal-by c other) alone alike,
+    )
+
+    stays-kept : alone_from m.base own here its ≡ false → (c : ℕ) → IsOneOf p op c → KeepsAlike m.base totals own its here (op_bounds v.max (op c)) → IsKeptFrom m t (operation_at p (Some c)) u
+    stays-kept not_alone c other alike = (
+      legal-of p op at c other,
+      keeper-stays h exact fit legal tell extremes t u (operation_at p (Some n)) here (found-of p op at n one.has) is
+          (operation_at p (Some c)) (op_bounds v.max (op c)) (found-of p op at c other.has) not_alone alike,
+    )
+
+    -- so where he doesn't keep t from the least amount from a start on, this is none of those that are like it
+    free-least : (start : ℕ) (Alike : Bounded → Bounded → Type 0) → AreAlike Alike v.max op start n n → IsFreeFrom v way m t p u start → ((c : ℕ) → c ≤ n → HasAmount v way c → IsOneOf p op c) →
+        ((c : ℕ) → IsOneOf p op c → Alike here (op_bounds v.max (op c)) → IsKeptFrom m t (operation_at p (Some c)) u) → ⊥
+    free-least start Alike alike free less_is stays =
+        let first = least-from v way start n alike.above one.has in
+        let least = first.1 in
+        free first.0 least (stays first.0 (less_is first.0 first.2 least.1) (alike.alike first.0 least.0 first.2))
+
+    -- nor where he doesn't from the greatest up to a last one
+    free-most : (stop : ℕ) (Alike : Bounded → Bounded → Type 0) → AreAlike Alike v.max op n n (min stop v.max) → IsFreeUpTo v way m t p u stop → ((c : ℕ) → n ≤ c → HasAmount v way c → IsOneOf p op c) →
+        ((c : ℕ) → IsOneOf p op c → Alike here (op_bounds v.max (op c)) → IsKeptFrom m t (operation_at p (Some c)) u) → ⊥
+    free-most stop Alike alike free more_is stays =
+        let below = alike.below in
+        let last = most-to v way stop n (omega (arith, below)) one.has in
+        let most = last.1 in
+        let to_stop = most.0 in
+        let to_max = most.1.1 in
+        free last.0 most (stays last.0 (more_is last.0 last.2 most.1) (alike.alike last.0 last.2 (omega (arith, to_stop, to_max))))
 
   module _ (place : ℕ) (low : place < 256) (even : place % 2 ≡ 0) (at : slice_get v.calls (place / 2) ≡ Some (any_call way)) where
     -- an operation of the call that is legal for t
-    op-of : (p n : ℕ) (op : NumberOp) → IsOpAt m v (operation_at p (Some n)) (number_at m t) → op_done v (operation_at p (Some n)) ≡ Some op →
-        ((op_bounds v.max op).low ≤ number_at m t) × (number_at m t ≤ (op_bounds v.max op).high)
-    op-of p n op here done =
-        let is = here.done in
-        let both : Some here.op ≡ Some op = sym is ∙ done in
-        let same : here.op ≡ op = cc in
-        subst (λ o. ((op_bounds v.max o).low ≤ number_at m t) × (number_at m t ≤ (op_bounds v.max o).high)) same (here.low, here.high)
+    one-of : (p n : ℕ) (op : ℕ → NumberOp) (places : AreAt p op) → slice_get v.calls (p / 2) ≡ Some (any_call way) → IsLegalFor m t (operation_at p (Some n)) → IsOneOf p op n
+    one-of p n op places there lawful =
+        let found = legal-op h v known file tells t (operation_at p (Some n)) (number_at m t) sees lawful in
+        let has = has-amount v p n way found.op places.low there found.done in
+        let is = found.done in
+        let both : Some found.op ≡ Some (op n) = sym is ∙ places.done n has in
+        let same : found.op ≡ op n = cc in
+        record { has = has; lowest = subst (λ o. (op_bounds v.max o).low ≤ number_at m t) same found.low; highest = subst (λ o. number_at m t ≤ (op_bounds v.max o).high) same found.high }
 
-    free-moving : IsFreeFrom v way m t place u (first_kept way m.base totals (mark_at m t) (mark_at m u)) → IsFreeFrom v way m t place u (first_beyond way v.max m.base totals (mark_at m t)) →
+    moving-places : AreAt place (moving way)
+    moving-places = record { low = low; done = λ c has. moving-at v place low even way c at has }
+
+    refusing-places : AreAt (place + 1) (refusing way)
+    refusing-places = record { low = omega (arith, low, even); done = λ c has. refusing-at v place low even way c at has }
+
+    free-moving : IsFreeFrom v way m t place u (first_kept way m.base totals own its) → IsFreeFrom v way m t place u (first_beyond way v.max m.base own down up) → IsFreeFrom v way m t place u (first_beyond way v.max m.base own its.fall its.rise) →
         (n : ℕ) → IsKeptFrom m t (operation_at place (Some n)) u → ⊥
-    free-moving kept beyond n (legal_here, is) =
-        let s : ℕ = number_at m t in
-        let k : ℕ = operation_at place (Some n) in
-        let here = legal-op h v known file tells t k s sees legal_here in
-        let has = has-amount v place n way here.op low at here.done in
-        let done = moving-at v place low even way n at has in
-        let between = op-of place n (moving way n) here done in
-        let found = found-at h v known file tells k (moving way n) (inside-ops v place n low has.1) done in
-        let keeps = keeper-keeps h tell t k (op_bounds v.max (moving way n)) found u is in
-        let each = λ (c : ℕ) (there : HasAmount v way c). moving-at v place low even way c at there in
-        elim (moving-alike m.base v.max totals (mark_at m t) (mark_at m u) fits (firm-by h extremes t) (firm-by h extremes u) room s begins way n has.1 between.0 between.1 keeps) [
-          | inl near ↦ free-alike place (first_kept way m.base totals (mark_at m t) (mark_at m u)) n (moving way) low kept each (λ c less from. moving-legal v.max s way c n less between.0 between.1) has near is
-          | inr far ↦ free-alike place (first_beyond way v.max m.base totals (mark_at m t)) n (moving way) low beyond each (λ c less from. moving-legal v.max s way c n less between.0 between.1) has far is
+    free-moving kept beyond alone n (lawful, is) =
+        let one = one-of place n (moving way) moving-places at lawful in
+        let keeps = keeps place (moving way) moving-places n one is in
+        let less_is : (c : ℕ) → c ≤ n → HasAmount v way c → IsOneOf place (moving way) c = λ c less has.
+        let between = moving-legal v.max (number_at m t) way c n less one.lowest one.highest in
+        record { has = has; lowest = between.0; highest = between.1 } in
+        elim (cases_Bool (alone_from m.base own (op_bounds v.max (moving way n)) its)) [
+          | inl lone ↦
+              free-least place (moving way) moving-places n one is (first_beyond way v.max m.base own its.fall its.rise) (LoneAlike m.base totals own its)
+              (moving-lone m.base v.max totals own its fits (firm-by h extremes t) keeps.0 room (number_at m t) begins way n one.has.1 one.lowest one.highest lone) alone less_is (stays-lone place (moving way) moving-places n one is lone)
+          | inr others ↦ elim (moving-alike m.base v.max totals own its fits (firm-by h extremes t) keeps.0 room (number_at m t) begins way n one.has.1 one.lowest one.highest keeps.1) [
+            | inl near ↦ free-least place (moving way) moving-places n one is (first_kept way m.base totals own its) (KeepsAlike m.base totals own its) near kept less_is (stays-kept place (moving way) moving-places n one is others)
+            | inr far ↦ free-least place (moving way) moving-places n one is (first_beyond way v.max m.base own down up) (KeepsAlike m.base totals own its) far beyond less_is (stays-kept place (moving way) moving-places n one is others)
+          ]
         ]
 
-    free-refusing : IsFreeFrom v way m t (place + 1) u (first_refused way v.max (number_at m t)) → (n : ℕ) → IsKeptFrom m t (operation_at (place + 1) (Some n)) u → ⊥
-    free-refusing refused n (legal_here, is) =
-        let s : ℕ = number_at m t in
-        let p : ℕ = place + 1 in
-        let next : place + 1 < 256 = omega (arith, low, even) in
-        let k : ℕ = operation_at (place + 1) (Some n) in
-        let here = legal-op h v known file tells t k s sees legal_here in
+    free-refusing : IsFreeUpTo v way m t (place + 1) u (last_refused way v.max m.base own down up) → IsFreeUpTo v way m t (place + 1) u (last_refused way v.max m.base own its.fall its.rise) →
+        (n : ℕ) → IsKeptFrom m t (operation_at (place + 1) (Some n)) u → ⊥
+    free-refusing refused untrue n (lawful, is) =
         let half : (place + 1) / 2 ≡ place / 2 = omega (arith, even) in
-        let has = has-amount v (place + 1) n way here.op next (ap (slice_get v.calls) half ∙ at) here.done in
-        let done = refusing-at v place low even way n at has in
-        let between = op-of (place + 1) n (refusing way n) here done in
-        let found = found-at h v known file tells k (refusing way n) (inside-ops v (place + 1) n next has.1) done in
-        let keeps = keeper-keeps h tell t k (op_bounds v.max (refusing way n)) found u is in
-        let alike = refusing-alike m.base v.max totals (mark_at m t) (mark_at m u) fits (firm-by h extremes t) (firm-by h extremes u) room s begins way n has.0 has.1 between.0 between.1 keeps in
-        free-alike (place + 1) (first_refused way v.max s) n (refusing way) next refused (λ c there. refusing-at v place low even way c at there)
-        (λ c less from. refusing-legal v.max s way c n less from between.0 between.1) has alike is
+        let one = one-of (place + 1) n (refusing way) refusing-places (ap (slice_get v.calls) half ∙ at) lawful in
+        let keeps = keeps (place + 1) (refusing way) refusing-places n one is in
+        let more_is : (c : ℕ) → n ≤ c → HasAmount v way c → IsOneOf (place + 1) (refusing way) c = λ c more has.
+        let between = refusing-legal v.max (number_at m t) way n c more has.1 one.has.0 one.lowest one.highest in
+        record { has = has; lowest = between.0; highest = between.1 } in
+        elim (cases_Bool (alone_from m.base own (op_bounds v.max (refusing way n)) its)) [
+          | inl lone ↦
+              free-most (place + 1) (refusing way) refusing-places n one is (last_refused way v.max m.base own its.fall its.rise) (LoneAlike m.base totals own its)
+              (refusing-lone m.base v.max totals own its fits (firm-by h extremes t) keeps.0 room (number_at m t) begins way n one.has.1 one.lowest one.highest one.has.0 lone) untrue more_is
+              (stays-lone (place + 1) (refusing way) refusing-places n one is lone)
+          | inr others ↦
+              free-most (place + 1) (refusing way) refusing-places n one is (last_refused way v.max m.base own down up) (KeepsAlike m.base totals own its)
+              (refusing-alike m.base v.max totals own its fits (firm-by h extremes t) keeps.0 room (number_at m t) begins way n one.has.0 one.has.1 one.lowest one.highest keeps.1) refused more_is
+              (stays-kept (place + 1) (refusing way) refusing-places n one is others)
+        ]
 
-    pub never-kept : IsFreeFrom v way m t place u (first_kept way m.base totals (mark_at m t) (mark_at m u)) → IsFreeFrom v way m t place u (first_beyond way v.max m.base totals (mark_at m t)) →
-        IsFreeFrom v way m t (place + 1) u (first_refused way v.max (number_at m t)) → (n : ℕ) → IsKeptByAmount m t place u n → ⊥
-    never-kept kept beyond refused n (k, inl same, here, is) = free-moving kept beyond n (subst (λ j. IsKeptFrom m t j u) same (here, is))
-    never-kept kept beyond refused n (k, inr same, here, is) = free-refusing refused n (subst (λ j. IsKeptFrom m t j u) same (here, is))
+    pub never-kept : IsFreeFrom v way m t place u (first_kept way m.base totals own its) → IsFreeFrom v way m t place u (first_beyond way v.max m.base own down up) →
+        IsFreeFrom v way m t place u (first_beyond way v.max m.base own its.fall its.rise) → IsFreeUpTo v way m t (place + 1) u (last_refused way v.max m.base own down up) →
+        IsFreeUpTo v way m t (place + 1) u (last_refused way v.max m.base own its.fall its.rise) → (n : ℕ) → IsKeptByAmount m t place u n → ⊥
+    never-kept kept beyond alone refused untrue n (k, inl same, here, is) = free-moving kept beyond alone n (subst (λ j. IsKeptFrom m t j u) same (here, is))
+    never-kept kept beyond alone refused untrue n (k, inr same, here, is) = free-refusing refused untrue n (subst (λ j. IsKeptFrom m t j u) same (here, is))
 
 -- what is told where the last place is free, or an amount is found there
-pub by-last : (m : Meaning) (v : Number) (way : Way) (t place u start : ℕ) → (IsFreeFrom v way m t (place + 1) u start → (n : ℕ) → IsKeptByAmount m t place u n → ⊥) → (found : Option ℕ) →
-    MatchOption found (IsFreeFrom v way m t (place + 1) u start) (λ n. IsKeptFrom m t (operation_at (place + 1) (Some n)) u) → TellsKept m t place u found
-by-last m v way t place u start never None free = told-none m t place u (never free)
-by-last m v way t place u start never (Some n) is = told-some m t place u n (operation_at (place + 1) (Some n), inr refl, is.0, is.1)
+pub by-last : (m : Meaning) (v : Number) (way : Way) (t place u stop : ℕ) → (IsFreeUpTo v way m t (place + 1) u stop → (n : ℕ) → IsKeptByAmount m t place u n → ⊥) → (found : Option ℕ) →
+    MatchOption found (IsFreeUpTo v way m t (place + 1) u stop) (λ n. IsKeptFrom m t (operation_at (place + 1) (Some n)) u) → TellsKept m t place u found
+by-last m v way t place u stop never None free = told-none m t place u (never free)
+by-last m v way t place u stop never (Some n) is = told-some m t place u n (operation_at (place + 1) (Some n), inr refl, is.0, is.1)
 
 -- ---- a read of the value
 

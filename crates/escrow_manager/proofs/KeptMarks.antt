@@ -1,11 +1,12 @@
 -- Who keeps a transaction from an operation that takes or gives an amount, by the amount. Numbers alone.
-use Rattle.std.proofs.Common.{◌≡◌, ℕ, ◌+◌, ◌-◌, ◌<◌, ◌≤◌, Bool, true, false, ltb, ◌||◌, refl, inl, inr, arith}
+use Rattle.std.proofs.Common.{◌≡◌, ℕ, ◌+◌, ◌-◌, ◌<◌, ◌≤◌, ◌⊎◌, Bool, true, false, not, cond, ltb, ◌&&◌, ◌||◌, refl, inl, inr, arith}
 use Rattle.std.specs.Prelude.{nat_le, nat_lt}
-use Rattle.std.proofs.lemmas.Bool.{cases_lt, and_from, and_left, and_right, le-leb, lt-leb, lt-ltb, le-ltb}
+use Rattle.std.proofs.lemmas.Bool.{cases_lt, false≢true, and_from, and_left, and_right, le-leb, lt-leb, lt-ltb, le-ltb}
 use Rattle.escrow_laws.specs.Marks.{mark_after, FitsIn, is_legal_from, is_low, is_high, mark_keeps}
 use Rattle.escrow_laws.specs.declared.bounded.Bounded.{Bounded}
 use Rattle.escrow_laws.specs.declared.mark.Mark.{Mark}
 use Rattle.number_types.specs.Operations.{taking, giving, reading}
+use Rattle.escrow_manager.specs.Marks.{mark_keeps_alone}
 use Rattle.escrow_manager.specs.Totals.{need_of, mark_limit}
 
 -- ---- what is legal from a number
@@ -135,3 +136,96 @@ module _ (base top fallen risen : ℕ) (t u : Mark) (fits : FitsIn top base t) (
       by-falling base ((fallen - t.fall) + x.fall) ((risen - t.rise) + x.rise) x u
       (legal-under x (base - (((fallen - t.fall) + x.fall) - x.fall)) (omega arith))
       (legal-is x (base + (((risen - t.rise) + x.rise) - x.rise)) (omega arith) (omega arith))
+
+-- ---- who does so alone
+
+-- what is known of another's mark beside t's: together they fall and rise no further than all do
+pub record IsBeside (fallen risen : ℕ) (t u : Mark) : Type 0 where
+  pub fall : t.fall + u.fall ≤ fallen
+  pub rise : t.rise + u.rise ≤ risen
+
+-- who has the mark u alone keeps who has the mark t from an operation of these bounds
+abbrev pub alone_from : ℕ → Mark → Bounded → Mark → Bool
+alone_from base t b u = mark_keeps_alone base (mark_after t b) u
+
+module _ (base : ℕ) (x u : Mark) where
+  by-lowest : (m n : ℕ) → is_legal_from x (base + u.rise) ≡ true → (m < n → is_legal_from x (base - u.fall) ≡ false) → (n ≤ m → is_legal_from x (base - u.fall) ≡ true) → mark_keeps_alone base x u ≡ ltb m n
+  by-lowest m n high fails holds = elim (cases_lt m n) [
+    | inl below ↦ rw (fails below, lt-ltb m n below) refl
+    | inr above ↦ rw (holds above, high, le-ltb m n above) refl
+  ]
+
+  by-highest : (m n : ℕ) → is_legal_from x (base - u.fall) ≡ true → (m < n → is_legal_from x (base + u.rise) ≡ false) → (n ≤ m → is_legal_from x (base + u.rise) ≡ true) → mark_keeps_alone base x u ≡ ltb m n
+  by-highest m n low fails holds = elim (cases_lt m n) [
+    | inl below ↦ rw (low, fails below, lt-ltb m n below) refl
+    | inr above ↦ rw (low, holds above, le-ltb m n above) refl
+  ]
+
+  -- where all is legal from base, who alone keeps t moves the number there
+  lone-cases : x.floor ≤ base → base < x.ceiling → mark_keeps_alone base x u ≡ true → (base < x.floor + u.fall) ⊎ (x.ceiling ≤ base + u.rise)
+  lone-cases low high alone = elim (cases_lt base (x.floor + u.fall)) [
+    | inl under ↦ inl under
+    | inr fits ↦ elim (cases_lt (base + u.rise) x.ceiling) [
+      | inl below ↦
+          let both = rw (legal-is x (base - u.fall) (omega (arith, fits)) (omega (arith, high)), legal-is x (base + u.rise) (omega (arith, low)) below) at alone in
+          absurd (false≢true both)
+      | inr over ↦ inr over
+    ]
+  ]
+
+module _ (base fallen risen : ℕ) (t u : Mark) (b : Bounded) (beside : IsBeside fallen risen t u) where
+  -- so who does so alone is one of those that do, where the operation is legal for t
+  pub lone-keeps : fallen ≤ base → (mark_after t b).floor ≤ base → base < (mark_after t b).ceiling → alone_from base t b u ≡ true → keeps_from base fallen risen t b u ≡ true
+  lone-keeps whole low high alone =
+      let x : Mark = mark_after t b in
+      let fall = beside.fall in
+      let rise = beside.rise in
+      elim (lone-cases base x u low high alone) [
+        | inl under ↦
+            rw (legal-under x (base - (((fallen - t.fall) + x.fall) - x.fall)) (omega (arith, under, fall, low, whole)), lt-ltb 0 u.fall (omega (arith, under, low))) refl
+        | inr over ↦
+            rw (legal-over x (base + (((risen - t.rise) + x.rise) - x.rise)) (omega (arith, over, rise)), lt-ltb 0 u.rise (omega (arith, over, high)))
+            (highest (is_low base ((fallen - t.fall) + x.fall) x) (not (is_low base ((fallen - t.fall) + x.fall) u && is_high base ((risen - t.rise) + x.rise) u)) (nat_lt 0 u.fall))
+      ]
+    where
+      highest : (low none down : Bool) → cond (low && false) none ((not low && down) || true) ≡ true
+      highest true none down = refl
+      highest false none true = refl
+      highest false none false = refl
+
+module _ (base top fallen risen : ℕ) (t u : Mark) (fits : FitsIn top base t) (firm : IsFirmAt base fallen risen t) (room : base + risen ≤ top) (beside : IsBeside fallen risen t u) where
+  -- from a take: who falls so far that there is too little for t
+  pub takes-alone : (n : ℕ) → n + t.fall ≤ base + t.above → alone_from base t (taking n top n) u ≡ ltb (base + t.above) (n + t.fall + u.fall)
+  takes-alone n legal =
+      let x : Mark = mark_after t (taking n top n) in
+      by-lowest base x u (base + t.above) (n + t.fall + u.fall)
+      (legal-is x (base + u.rise) (omega arith) (omega arith))
+      (λ below. legal-under x (base - u.fall) (omega arith))
+      (λ above. legal-is x (base - u.fall) (omega arith) (omega arith))
+
+  -- from the reply that there is less than n: who rises so far that there is as much
+  pub short-alone : (n : ℕ) → base + t.above < n + t.fall → alone_from base t (reading 0 (n - 1)) u ≡ ltb (n + t.fall) (base + u.rise + t.above + 1)
+  short-alone n refused =
+      let x : Mark = mark_after t (reading 0 (n - 1)) in
+      by-highest base x u (n + t.fall) (base + u.rise + t.above + 1)
+      (legal-is x (base - u.fall) (omega arith) (omega arith))
+      (λ below. legal-over x (base + u.rise) (omega arith))
+      (λ above. legal-is x (base + u.rise) (omega arith) (omega arith))
+
+  -- from a give: who rises so far that there is too little room for t
+  pub gives-alone : (n : ℕ) → n ≤ top → n + base + t.above ≤ top + t.fall → alone_from base t (giving 0 (top - n) n) u ≡ ltb (top + t.fall) (n + base + u.rise + t.above)
+  gives-alone n most legal =
+      let x : Mark = mark_after t (giving 0 (top - n) n) in
+      by-highest base x u (top + t.fall) (n + base + u.rise + t.above)
+      (legal-is x (base - u.fall) (omega arith) (omega arith))
+      (λ below. legal-over x (base + u.rise) (omega arith))
+      (λ above. legal-is x (base + u.rise) (omega arith) (omega arith))
+
+  -- from the reply that there is no room for n: who falls so far that there is
+  pub full-alone : (n : ℕ) → n ≤ top → top + t.fall < n + base + t.above → alone_from base t (reading (top - n + 1) top) u ≡ ltb ((base - u.fall) + n + t.above) (top + t.fall + 1)
+  full-alone n most refused =
+      let x : Mark = mark_after t (reading (top - n + 1) top) in
+      by-lowest base x u ((base - u.fall) + n + t.above) (top + t.fall + 1)
+      (legal-is x (base + u.rise) (omega arith) (omega arith))
+      (λ below. legal-under x (base - u.fall) (omega arith))
+      (λ above. legal-is x (base - u.fall) (omega arith) (omega arith))

@@ -1,14 +1,14 @@
 -- Sums and extremes of marks, with another mark of one transaction.
-use Rattle.std.proofs.Common.{◌≡◌, ℕ, ◌+◌, ◌-◌, ◌<◌, ◌≤◌, false, eqb, ltb, List, [], ◌∷◌, refl, ap, inl, inr, arith}
+use Rattle.std.proofs.Common.{◌≡◌, ℕ, ◌+◌, ◌-◌, ◌^◌, ◌<◌, ◌≤◌, false, eqb, ltb, List, [], ◌∷◌, refl, sym, ap, subst, inl, inr, arith}
 use Rattle.std.specs.Prelude.{max, min}
 use Rattle.std.specs.List.{sum_by, AllByRecursion}
-use Rattle.std.proofs.lemmas.Bool.{cases_Bool, ltb-true, ne_eqb}
+use Rattle.std.proofs.lemmas.Bool.{cases_Bool, ltb-true, eqb-true, ne_eqb}
 use Rattle.std.proofs.lemmas.List.Sums.{sum_by-cons}
 use Rattle.escrow_laws.specs.Marks.{unmarked, most_needed, least_limit}
 use Rattle.escrow_laws.specs.declared.mark.Mark.{Mark}
 use Rattle.escrow_laws.specs.declared.mark.OpenMark.{OpenMark}
 use Rattle.escrow_manager.specs.Marks.{mark_owners, MarksAscend, mark_in, with_mark}
-use Rattle.escrow_manager.specs.Totals.{need_of, mark_limit, totals_of, totals_with}
+use Rattle.escrow_manager.specs.Totals.{need_of, mark_limit, totals_of, totals_with, HasShortSums}
 
 -- where all are of later transactions, t has none
 none-later : (t top : ℕ) (x : ℕ) (marks : List OpenMark) → t < x → AllByRecursion (λ y. x < y) (mark_owners marks) → mark_in top t marks ≡ unmarked top
@@ -30,6 +30,23 @@ module _ (top : ℕ) (amount : Mark → ℕ) (nothing : amount (unmarked top) �
       elim (cases_Bool (eqb o.by u)) [
         | inl is ↦ rw is (omega (arith, both))
         | inr other ↦ rw other (omega (arith, both, rest))
+      ]
+
+  -- and two of different transactions
+  pub counted-both : (t u : ℕ) (marks : List OpenMark) → eqb t u ≡ false → amount (mark_in top t marks) + amount (mark_in top u marks) ≤ sum_by (λ (o : OpenMark). amount o.mark) marks
+  counted-both t u [] other = omega (arith, nothing)
+  counted-both t u (o ∷ marks) other =
+      let both = sum_by-cons (λ (q : OpenMark). amount q.mark) o marks in
+      elim (cases_Bool (eqb o.by t)) [
+        | inl is ↦
+            let same : o.by ≡ t = eqb-true o.by t is in
+            let apart : eqb o.by u ≡ false = subst (λ n. eqb n u ≡ false) (sym same) other in
+            let rest = counted u marks in
+            rw (is, apart) (omega (arith, both, rest))
+        | inr isnt ↦ elim (cases_Bool (eqb o.by u)) [
+          | inl is ↦ let rest = counted t marks in rw (isnt, is) (omega (arith, both, rest))
+          | inr neither ↦ let rest = counted-both t u marks other in rw (isnt, neither) (omega (arith, both, rest))
+        ]
       ]
 
   -- and with another in its place
@@ -56,6 +73,14 @@ module _ (top : ℕ) (amount : Mark → ℕ) (nothing : amount (unmarked top) �
   pub sum-put : (w : OpenMark) (marks : List OpenMark) → MarksAscend marks →
       sum_by (λ (o : OpenMark). amount o.mark) (with_mark w marks) ≡ (sum_by (λ (o : OpenMark). amount o.mark) marks - amount (mark_in top w.by marks)) + amount w.mark
   sum-put w marks ordered = let less = counted w.by marks in let both = exchanged w marks ordered in omega (arith, less, both)
+
+-- who has a short mark, or none, rises by little
+pub rise-short : (top u : ℕ) (marks : List OpenMark) → AllByRecursion (λ (o : OpenMark). HasShortSums o.mark) marks → (mark_in top u marks).rise < 2 ^ 62
+rise-short top u [] each = omega arith
+rise-short top u (o ∷ marks) each = elim (cases_Bool (eqb o.by u)) [
+  | inl is ↦ rw is each.0.rise
+  | inr other ↦ rw other (rise-short top u marks each.1)
+]
 
 -- ---- extremes
 

@@ -48,9 +48,16 @@ HasAmount v way n = (1 ≤ n) × (n ≤ v.max) × (list_any (lists way n) v.call
 abbrev pub IsLeastAmount : Number → Way → ℕ → ℕ → Type 0
 IsLeastAmount v way start n = (start ≤ n) × HasAmount v way n × ((j : ℕ) → start ≤ j → HasAmount v way j → n ≤ j)
 
+-- it is the greatest such amount up to `stop`
+abbrev pub IsMostAmount : Number → Way → ℕ → ℕ → Type 0
+IsMostAmount v way stop n = (n ≤ stop) × HasAmount v way n × ((j : ℕ) → j ≤ stop → HasAmount v way j → j ≤ n)
+
 -- with it u doesn't keep t from the operation at a place
 abbrev pub IsFreeFrom : Number → Way → Meaning → ℕ → ℕ → ℕ → ℕ → Type 0
 IsFreeFrom v way m t place u start = (n : ℕ) → IsLeastAmount v way start n → IsKeptFrom m t (operation_at place (Some n)) u → ⊥
+
+abbrev pub IsFreeUpTo : Number → Way → Meaning → ℕ → ℕ → ℕ → ℕ → Type 0
+IsFreeUpTo v way m t place u stop = (n : ℕ) → IsMostAmount v way stop n → IsKeptFrom m t (operation_at place (Some n)) u → ⊥
 
 -- ---- where the answer changes
 
@@ -59,12 +66,12 @@ abbrev pub first_kept : Way → ℕ → Totals → Mark → Mark → ℕ
 first_kept Take base totals t u = (base + t.above + u.fall + 1) - (totals.fallen + u.floor)
 first_kept Give base totals t u = (u.ceiling + u.rise + t.fall) - (base + (totals.risen - t.rise) + t.above)
 
--- the least with which they do so for t
-abbrev pub first_beyond : Way → ℕ → ℕ → Totals → Mark → ℕ
-first_beyond Take top base totals t = (base + t.above + 1) - totals.fallen
-first_beyond Give top base totals t = (top + t.fall + 1) - (base + (totals.risen - t.rise) + t.above)
+-- the least with which t's own operations are no longer legal, where others fall so far and rise so far
+abbrev pub first_beyond : Way → ℕ → ℕ → Mark → ℕ → ℕ → ℕ
+first_beyond Take top base t down up = (base + t.above + 1) - (t.fall + down)
+first_beyond Give top base t down up = (top + t.fall + 1) - (base + up + t.above)
 
--- the least that is refused to t at the number that it sees
-abbrev pub first_refused : Way → ℕ → ℕ → ℕ
-first_refused Take top seen = seen + 1
-first_refused Give top seen = top - seen + 1
+-- the greatest whose refusal is no longer true, where others fall so far and rise so far
+abbrev pub last_refused : Way → ℕ → ℕ → Mark → ℕ → ℕ → ℕ
+last_refused Take top base t down up = (base + up + t.above) - t.fall
+last_refused Give top base t down up = (top + t.fall) - ((base - down) + t.above)

@@ -1,7 +1,7 @@
 -- The marks of open transactions, in the order of the transactions' numbers.
-use Rattle.std.specs.Prelude.{ℕ, ◌+◌, ◌≤◌, List}
+use Rattle.std.specs.Prelude.{ℕ, ◌+◌, ◌-◌, ◌≤◌, Bool, not, ◌&&◌, List}
 use Rattle.object_trait.specs.Rows as rows
-use Rattle.escrow_laws.specs.Marks.{unmarked}
+use Rattle.escrow_laws.specs.Marks.{unmarked, is_legal_from}
 use Rattle.escrow_laws.specs.declared.bounded.Bounded.{Bounded}
 use Rattle.escrow_laws.specs.declared.mark.Mark.{Mark}
 use Rattle.escrow_laws.specs.declared.mark.OpenMark.{OpenMark}
@@ -37,6 +37,10 @@ with_mark w marks = rows.with_row mark_owner w marks
 -- without that of t
 abbrev pub without_mark : ℕ → List OpenMark → List OpenMark
 without_mark t marks = rows.without_row mark_owner t marks
+
+-- who has the mark u alone keeps who has the mark t: what t did is not legal from the lowest or the highest number that u may leave
+abbrev pub mark_keeps_alone : ℕ → Mark → Mark → Bool
+mark_keeps_alone base t u = not (is_legal_from t (base - u.fall) && is_legal_from t (base + u.rise))
 
 -- the numbers of a mark stay small with one more operation, on numbers from 0 to top
 pub record IsSmall (top : ℕ) (mark : Mark) (b : Bounded) : Type 0 where

@@ -2,13 +2,14 @@
 
 ghost use Rattle.std.specs.Prelude.{◌≡◌, false, ◌^◌, ◌<◌, ◌≤◌, ◌==◌, not, ◌&&◌, ◌||◌, nat_lt, true, Some, length, filter, cond, All};
 ghost use Rattle.std.specs.List.{find};
-ghost use Rattle.std.specs.Option.{option_map};
+ghost use Rattle.std.specs.Option.{option_map, option_or};
 ghost use Rattle.type_table.specs.Run.{IsLegal};
 ghost use Rattle.escrow_laws.specs.Marks.{mark_after, mark_of, mark_keeps};
 ghost use Rattle.escrow_manager.specs.Numeric.{bounds_in, greatest, IsInEscrow};
 ghost use Rattle.object_trait.specs.Strike.{keep_first};
 ghost use Rattle.object_trait.specs.Meaning.{is_open_of, open_of, AreOpen, own_of};
-ghost use Rattle.escrow_manager.specs.Marks.{MarksAscend, mark_in, IsSmall};
+ghost use Rattle.escrow_manager.specs.Marks.{MarksAscend, mark_in, mark_keeps_alone, IsSmall};
+ghost use Rattle.escrow_manager.specs.Totals.{HasShortSums};
 
 use crate::marks::mark_in;
 use crate::numeric::{bounded, greatest};
@@ -112,9 +113,59 @@ fn is_keeper(
         }
 }
 
-/// Whose entry is the first that keeps t from what it did last, where that has this mark and all marks
-/// have these totals.
-pub fn first_keeper(
+/// Whether who has the mark u alone keeps who has the mark t from what it did last.
+fn keeps_alone(base: u32, t: Mark, u: Mark) -> bool
+    requires { u.rise < 2 ^ 63 }
+    ensures { result ≡ mark_keeps_alone base t u }
+{
+    let lowest = u64::from(base).saturating_sub(u.fall);
+    let highest = u64::from(base) + u.rise;
+    !(t.is_legal_from(lowest) && t.is_legal_from(highest))
+}
+
+/// Whether it is another's entry, and this other keeps t from what it did last, and does so alone.
+fn is_lone_keeper(
+    entry: LogEntry,
+    marks: &Vec<OpenMark>,
+    t: OpenMark,
+    base: u32,
+    totals: Totals,
+    top: u32,
+) -> bool
+    requires ordered { MarksAscend marks.now.items }
+    requires short { All (λ o. HasShortSums o.mark) marks.now.items }
+    requires risen { totals.risen < 2 ^ 63 }
+    ensures { result ≡ (mark_keeps_alone base t.mark (mark_in top entry.by marks.now.items) && (not (entry.by == t.by) && mark_keeps base totals.fallen totals.risen t.mark (mark_in top entry.by marks.now.items))) }
+{
+    keeps_alone(base, t.mark, mark_in(marks, entry.by, top))
+        && is_keeper(entry, marks, t, base, totals, top)
+}
+
+/// Whose entry is the first that alone keeps t from what it did last, where that has this mark and all
+/// marks have these totals.
+fn first_lone_keeper(
+    log: &Vec<LogEntry>,
+    marks: &Vec<OpenMark>,
+    t: OpenMark,
+    base: u32,
+    totals: Totals,
+    top: u32,
+) -> Option<u32>
+    requires ordered { MarksAscend marks.now.items }
+    requires short { All (λ o. HasShortSums o.mark) marks.now.items }
+    requires risen { totals.risen < 2 ^ 63 }
+    ensures { result ≡ option_map (λ e. e.by) (find (λ e. mark_keeps_alone base t.mark (mark_in top e.by marks.now.items) && (not (e.by == t.by) && mark_keeps base totals.fallen totals.risen t.mark (mark_in top e.by marks.now.items))) log.now.items) }
+{
+    for entry in log {
+        if is_lone_keeper(*entry, marks, t, base, totals, top) {
+            return Some(entry.by);
+        }
+    }
+    None
+}
+
+/// Whose entry is the first that keeps t from what it did last, whether alone or not.
+fn first_keeper(
     log: &Vec<LogEntry>,
     marks: &Vec<OpenMark>,
     t: OpenMark,
@@ -132,4 +183,25 @@ pub fn first_keeper(
         }
     }
     None
+}
+
+/// Who is named, of those that keep t from what it did last: whose entry is the first that does so
+/// alone; where none does, whose is the first.
+pub fn named_keeper(
+    log: &Vec<LogEntry>,
+    marks: &Vec<OpenMark>,
+    t: OpenMark,
+    base: u32,
+    totals: Totals,
+    top: u32,
+) -> Option<u32>
+    requires ordered { MarksAscend marks.now.items }
+    requires short { All (λ o. HasShortSums o.mark) marks.now.items }
+    requires risen { totals.risen < 2 ^ 63 }
+    ensures { result ≡ option_or (option_map (λ e. e.by) (find (λ e. mark_keeps_alone base t.mark (mark_in top e.by marks.now.items) && (not (e.by == t.by) && mark_keeps base totals.fallen totals.risen t.mark (mark_in top e.by marks.now.items))) log.now.items)) (option_map (λ e. e.by) (find (λ e. not (e.by == t.by) && mark_keeps base totals.fallen totals.risen t.mark (mark_in top e.by marks.now.items)) log.now.items)) }
+{
+    match first_lone_keeper(log, marks, t, base, totals, top) {
+        Some(u) => Some(u),
+        None => first_keeper(log, marks, t, base, totals, top),
+    }
 }

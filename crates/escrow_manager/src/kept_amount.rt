@@ -6,10 +6,10 @@ ghost use Rattle.number_types.specs.declared.number_call.NumberCall.TheVariants 
 ghost use Rattle.number_types.specs.Number.{IsNumber};
 ghost use Rattle.declared_types.specs.Declarations.{number_file};
 ghost use Rattle.object_trait.specs.Steps.{TellsKept};
-ghost use Rattle.escrow_manager.specs.KeptAmount.{IsKeptFrom, IsFreeFrom, any_call};
+ghost use Rattle.escrow_manager.specs.KeptAmount.{IsKeptFrom, IsFreeFrom, IsFreeUpTo, any_call};
 
 use crate::manager::EscrowManager;
-use crate::way::{Way, least_amount};
+use crate::way::{Way, least_amount, most_amount};
 use escrow_laws::{extremes_tell_firm, firm_is_legal, marks_are_exact, marks_fit, marks_tell};
 use number_types::{NumberCall, NumberFile, number_has_table, number_tells_bounds};
 use object_trait::Recovery;
@@ -37,9 +37,11 @@ impl EscrowManager {
 
     /// The same of a call of any amount.
     ///
-    /// Few amounts are tried: the more is taken, or given, the more transactions keep t, until all of
-    /// those do that move the number at all. So if u keeps t from some amount, it does so from the least
-    /// from which it does, from the least that is too much for t itself, or from the least that is refused.
+    /// Few amounts are tried. The more is taken, or given, the more transactions keep t, until all of
+    /// those do that move the number at all; and the more do so alone. So if u keeps t from some amount, it
+    /// does so from the least from which it does, from the least that is too much for t beside all others, or
+    /// from the least that is too much beside u alone. The more is refused, the fewer keep t. So if u keeps t
+    /// from such a refusal, it does so from the last that is untrue beside all others, or beside u alone.
     fn any_kept(&self, number: &NumberFile, way: Way, t: u32, place: u8, u: u32) -> Option<u32>
         requires number { self.now.checked.file ≡ number_file number.now }
         requires place { place % 2 ≡ 0 }
@@ -59,16 +61,26 @@ impl EscrowManager {
         let totals = self.totals();
         let own = self.mark_of(t);
         let other = self.mark_of(u);
+        let down = totals.fallen.saturating_sub(own.fall);
+        let up = totals.risen.saturating_sub(own.rise);
         let kept = way.first_kept(base, totals, own, other);
-        let beyond = way.first_beyond(top, base, totals, own);
-        let refused = way.first_refused(top, self.seen(t));
+        let beyond = way.first_beyond(top, base, own, down, up);
+        let alone = way.first_beyond(top, base, own, other.fall, other.rise);
+        let refused = way.last_refused(top, base, own, down, up);
+        let untrue = way.last_refused(top, base, own, other.fall, other.rise);
         if let Some(n) = self.kept_with(number, way, t, place, kept, u) {
             return Some(n);
         }
         if let Some(n) = self.kept_with(number, way, t, place, beyond, u) {
             return Some(n);
         }
-        self.kept_with(number, way, t, place + 1, refused, u)
+        if let Some(n) = self.kept_with(number, way, t, place, alone, u) {
+            return Some(n);
+        }
+        if let Some(n) = self.kept_up_to(number, way, t, place + 1, refused, u) {
+            return Some(n);
+        }
+        self.kept_up_to(number, way, t, place + 1, untrue, u)
     }
 
     /// The same of a read of the value.
@@ -110,6 +122,29 @@ impl EscrowManager {
             (λ n. IsKeptFrom self.now t (operation_at place (Some n)) u) }
     {
         let n = least_amount(number, way, start)?;
+        if self.is_kept_from(t, Operation::with(place, n), u) {
+            Some(n)
+        } else {
+            None
+        }
+    }
+
+    /// The greatest amount up to `stop` with which it has operations, if u keeps t from the one at this place.
+    fn kept_up_to(
+        &self,
+        number: &NumberFile,
+        way: Way,
+        t: u32,
+        place: u8,
+        stop: u64,
+        u: u32,
+    ) -> Option<u32>
+        requires { self.now.checked.file ≡ number_file number.now }
+        ensures { MatchOption result
+            (IsFreeUpTo number.now way self.now t place u stop)
+            (λ n. IsKeptFrom self.now t (operation_at place (Some n)) u) }
+    {
+        let n = most_amount(number, way, stop)?;
         if self.is_kept_from(t, Operation::with(place, n), u) {
             Some(n)
         } else {

@@ -7,7 +7,7 @@ ghost use Rattle.object_trait.specs.Steps.{IsFresh};
 ghost use Rattle.escrow_manager.specs.Numeric.{bounds_in, greatest};
 ghost use Rattle.escrow_manager.specs.Kept.{IsKeptInEscrow};
 
-use crate::entries::{count_of, first_keeper, keep_first, mark_of, take_out};
+use crate::entries::{count_of, keep_first, mark_of, named_keeper, take_out};
 use crate::marks::{drop_mark, mark_at, mark_in, place_of, put_mark};
 use crate::numeric::{bounded, greatest, initial};
 use crate::totals::Totals;
@@ -34,7 +34,7 @@ use type_table::{Kind, Operation};
 /// Beside the log it keeps a mark for each transaction that is open here, in the order of their
 /// numbers, and the totals of all marks. `legal` and `apply` look at the transaction's mark, found by
 /// halves; so does `blocker`, and at the totals, where by these nobody keeps anybody. Else it goes
-/// through the log once. `commit`, `abort` and `strike` go through log and marks.
+/// through the log once or twice. `commit`, `abort` and `strike` go through log and marks.
 #[derive(Drop)]
 pub struct EscrowManager {
     checked: Arc<CheckedType>,
@@ -165,7 +165,7 @@ impl Recovery for EscrowManager {
             return None;
         }
         let top = greatest(&self.checked);
-        first_keeper(
+        named_keeper(
             &self.log,
             &self.marks,
             OpenMark { by: t, mark },

@@ -3,7 +3,7 @@
 ghost use Rattle.std.specs.Prelude.{◌≡◌, ◌↔◌, ℕ, ◌+◌, ◌≤◌, true, MatchOption};
 ghost use Rattle.std.specs.List.{list_any};
 ghost use Rattle.escrow_laws.specs.Marks.{FitsIn};
-ghost use Rattle.escrow_manager.specs.KeptAmount.{lists, HasAmount, IsLeastAmount, first_kept, first_beyond, first_refused};
+ghost use Rattle.escrow_manager.specs.KeptAmount.{lists, HasAmount, IsLeastAmount, IsMostAmount, first_kept, first_beyond, last_refused};
 
 use crate::totals::Totals;
 use escrow_laws::Mark;
@@ -46,29 +46,34 @@ impl Way {
         }
     }
 
-    /// The least with which they do so for t, on numbers from 0 to `top`.
-    pub fn first_beyond(self, top: u32, base: u32, totals: Totals, t: Mark) -> u64
-        requires risen { base + totals.risen ≤ 4294967295 }
+    /// The least with which t's own operations are no longer legal, on numbers from 0 to `top`, where others
+    /// fall so far and rise so far.
+    pub fn first_beyond(self, top: u32, base: u32, t: Mark, down: u64, up: u64) -> u64
+        requires down { down ≤ base }
+        requires up { base + up ≤ 4294967295 }
         requires own { FitsIn 4294967295 base t }
-        ensures { result ≡ first_beyond self top base totals t }
+        ensures { result ≡ first_beyond self top base t down up }
     {
         let base = u64::from(base);
         match self {
-            Way::Take => (base + t.above + 1).saturating_sub(totals.fallen),
-            Way::Give => {
-                let risen = totals.risen.saturating_sub(t.rise);
-                (u64::from(top) + t.fall + 1).saturating_sub(base + risen + t.above)
-            }
+            Way::Take => (base + t.above + 1).saturating_sub(t.fall + down),
+            Way::Give => (u64::from(top) + t.fall + 1).saturating_sub(base + up + t.above),
         }
     }
 
-    /// The least that is refused at a number, on numbers from 0 to `top`.
-    pub fn first_refused(self, top: u32, number: u32) -> u64
-        ensures { result ≡ first_refused self top number }
+    /// The greatest whose refusal is no longer true, where others fall so far and rise so far.
+    pub fn last_refused(self, top: u32, base: u32, t: Mark, down: u64, up: u64) -> u64
+        requires down { down ≤ base }
+        requires up { base + up ≤ 4294967295 }
+        requires own { FitsIn 4294967295 base t }
+        ensures { result ≡ last_refused self top base t down up }
     {
+        let base = u64::from(base);
         match self {
-            Way::Take => u64::from(number) + 1,
-            Way::Give => u64::from(top.saturating_sub(number)) + 1,
+            Way::Take => (base + up + t.above).saturating_sub(t.fall),
+            Way::Give => {
+                (u64::from(top) + t.fall).saturating_sub(base.saturating_sub(down) + t.above)
+            }
         }
     }
 }
@@ -90,6 +95,22 @@ pub fn least_amount(number: &NumberFile, way: Way, start: u64) -> Option<u32>
         if !is_listed(number, way, n as u32) {
             return Some(n as u32);
         }
+    }
+    None
+}
+
+/// The greatest amount up to `stop` with which the call of any amount has operations.
+pub fn most_amount(number: &NumberFile, way: Way, stop: u64) -> Option<u32>
+    ensures { MatchOption result
+        ((n : ℕ) → n ≤ stop → HasAmount number.now way n → ⊥)
+        (IsMostAmount number.now way stop) }
+{
+    let mut n = stop.min(u64::from(number.max()));
+    'amounts: while n > 0 {
+        if !is_listed(number, way, n as u32) {
+            return Some(n as u32);
+        }
+        n -= 1;
     }
     None
 }

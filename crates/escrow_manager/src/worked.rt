@@ -1,13 +1,13 @@
 //! Worked examples of the definitions: each function does nothing, and its contract is the example.
 #![tactic(auto)]
 
-ghost use Rattle.std.specs.Prelude.{◌≡◌, ◌≤◌, ℕ, [], ◌∷◌};
-ghost use Rattle.escrow_laws.specs.Marks.{unmarked, mark_of};
+ghost use Rattle.std.specs.Prelude.{◌≡◌, ◌≤◌, ℕ, true, false, [], ◌∷◌};
+ghost use Rattle.escrow_laws.specs.Marks.{unmarked, mark_of, mark_keeps};
 ghost use Rattle.escrow_laws.specs.Examples.{five_ops};
-ghost use Rattle.escrow_manager.specs.Marks.{MarksAscend, mark_index, mark_in, with_mark, without_mark};
+ghost use Rattle.escrow_manager.specs.Marks.{MarksAscend, mark_index, mark_in, with_mark, without_mark, mark_keeps_alone};
 ghost use Rattle.escrow_manager.specs.Totals.{need_of, mark_limit, totals_of, totals_with, AreFirm};
-ghost use Rattle.escrow_manager.specs.Examples.{mark_by, taker, giver, both_marks, listing_both};
-ghost use Rattle.escrow_manager.specs.KeptAmount.{first_kept, first_beyond, first_refused, HasAmount, IsLeastAmount};
+ghost use Rattle.escrow_manager.specs.Examples.{mark_by, taker, giver, both_marks, listing_both, asker, took_one, took_nine};
+ghost use Rattle.escrow_manager.specs.KeptAmount.{first_kept, first_beyond, last_refused, HasAmount, IsLeastAmount, IsMostAmount};
 ghost use Rattle.escrow_manager.specs.declared.way.Way.TheVariants as Way;
 
 /// A transaction has its mark, or that of no operations.
@@ -57,18 +57,38 @@ pub fn a_reply_has_a_limit()
 {}
 
 /// Who found that there aren't 2, where there are 0, keeps another from each give of 2 or more. A give of
-/// 6 is too much for the other itself: it is refused, and so is a take of 1.
+/// 6 is too much for the other itself.
 pub fn a_reply_keeps_from_amounts()
     ensures kept { first_kept Way.Give 0 (totals_of 5 (mark_by 1 (2 ∷ []) ∷ [])) (unmarked 5) (mark_of 5 five_ops (2 ∷ [])) ≡ 2 }
-    ensures beyond { first_beyond Way.Give 5 0 (totals_of 5 (mark_by 1 (2 ∷ []) ∷ [])) (unmarked 5) ≡ 6 }
-    ensures full { first_refused Way.Give 5 0 ≡ 6 }
-    ensures short { first_refused Way.Take 5 0 ≡ 1 }
+    ensures beyond { first_beyond Way.Give 5 0 (unmarked 5) 0 0 ≡ 6 }
 {}
 
-/// Where 3 and 4 are listed, the least amount from 3 on is 5, and there is none above it.
+/// At 4, beside one that took 1, a take of 4 is too much, and beside one that took 2 each from 3 on. At 0
+/// a take of 1 is refused, and beside one that gave 1 this is no longer true. Nor is it, beside one that
+/// took 2 of 5, that there is no room for 2.
+pub fn others_make_it_too_much()
+    ensures one { first_beyond Way.Take 5 4 (unmarked 5) 1 0 ≡ 4 }
+    ensures two { first_beyond Way.Take 5 4 (unmarked 5) 2 0 ≡ 3 }
+    ensures short { last_refused Way.Take 5 0 (unmarked 5) 0 1 ≡ 1 }
+    ensures full { last_refused Way.Give 5 5 (unmarked 5) 2 0 ≡ 2 }
+{}
+
+/// Of 10, one took 1 and another took 9, and a third gave 80 and asks for 85. Both keep it from that. But
+/// with the first alone there would be enough, and with the second there isn't: it is named, though it
+/// came later. Whatever the first does, the third waits for the second.
+pub fn who_alone_keeps_is_named()
+    ensures first { mark_keeps 10 15 80 asker took_one ≡ true }
+    ensures second { mark_keeps 10 15 80 asker took_nine ≡ true }
+    ensures first_not_alone { mark_keeps_alone 10 asker took_one ≡ false }
+    ensures second_alone { mark_keeps_alone 10 asker took_nine ≡ true }
+{}
+
+/// Where 3 and 4 are listed, the least amount from 3 on is 5, and there is none above it; and the greatest
+/// up to 4 is 2.
 pub fn listed_amounts_are_passed()
     ensures first { IsLeastAmount listing_both Way.Take 0 1 }
     ensures passed { IsLeastAmount listing_both Way.Take 3 5 }
     ensures above { (n : ℕ) → 6 ≤ n → HasAmount listing_both Way.Take n → ⊥ }
+    ensures last { IsMostAmount listing_both Way.Take 4 2 }
     ensures other { IsLeastAmount listing_both Way.Give 3 3 }
 {}

@@ -4,6 +4,7 @@ pub mod Strike
 pub mod Object
 pub mod Meaning
 pub mod Sound
+pub mod Alone
 pub mod Steps
 pub mod Laws
 pub mod Examples

@@ -1,13 +1,14 @@
 -- What the calls of an object do to its meaning.
 use Rattle.std.specs.Prelude.{◌≡◌, ℕ, suc, ◌+◌, ◌-◌, ◌<◌, ◌||◌, ◌⊎◌, Bool, List, [], ◌∷◌, ◌++◌, map, filter, length, true, false, not, ◌&&◌, ◌==◌, Option, Some, is_some, if◌then◌else◌}
 use Rattle.std.specs.List.{list_any, find, AllByRecursion}
-use Rattle.std.specs.Option.{option_map}
+use Rattle.std.specs.Option.{option_map, option_or}
 use Rattle.type_table.specs.Operation.{operation_at}
 use Rattle.type_table.specs.Run.{IsLegal, AreEqui}
 use Rattle.escrow_laws.specs.Firm.{with_op, keeps}
 use Rattle.type_table.specs.declared.kind.Kind.{Kind}
 use Rattle.type_table.specs.declared.kind.Kind.TheVariants.{Undo, Intentions, Escrow}
 use Rattle.object_trait.specs.Object.{Object}
+use Rattle.object_trait.specs.Alone.{keeps_alone}
 use Rattle.object_trait.specs.Strike.{keep_first}
 use Rattle.object_trait.specs.Meaning.{Meaning, object, is_open_of, open_of, own_of, run_log, state_of, view_of}
 use Rattle.object_trait.specs.declared.log_entry.LogEntry.{LogEntry}
@@ -50,9 +51,23 @@ stops_by Escrow o base log t k e = keeps o.table o.amounts base (with_op (own_of
 abbrev pub stops : Meaning → ℕ → ℕ → LogEntry → Bool
 stops m = stops_by m.checked.kind (object m) m.base m.log
 
--- who keeps t from k: the transaction of the earliest open entry that stops it, and is another's
+-- its transaction alone keeps t from k, if it does. Where operations conflict, two by two, it does so alone
+abbrev pub alone_by : Kind → Object → ℕ → List LogEntry → ℕ → ℕ → LogEntry → Bool
+alone_by Undo o base log t k e = true
+alone_by Intentions o base log t k e = true
+alone_by Escrow o base log t k e = keeps_alone o.table o.amounts base (with_op (own_of log) t k) t e.by
+
+abbrev pub stops_alone : Meaning → ℕ → ℕ → LogEntry → Bool
+stops_alone m = alone_by m.checked.kind (object m) m.base m.log
+
+-- the transaction of the earliest open entry that passes
+abbrev pub holder_of : (LogEntry → Bool) → List LogEntry → Option ℕ
+holder_of test log = option_map (λ e. e.by) (find test (filter (λ e. not e.done) log))
+
+-- who keeps t from k: the transaction of the earliest open entry of another that stops it, where that transaction does so alone; where none does, of the earliest that stops it
 abbrev pub stopper : Meaning → ℕ → ℕ → Option ℕ
-stopper m t k = option_map (λ e. e.by) (find (λ e. not (e.by == t) && stops m t k e) (filter (λ e. not e.done) m.log))
+stopper m t k =
+    option_or (holder_of (λ e. stops_alone m t k e && (not (e.by == t) && stops m t k e)) m.log) (holder_of (λ e. not (e.by == t) && stops m t k e) m.log)
 
 -- u keeps t from an operation with this amount at the place or at the next, which is legal for t
 abbrev pub IsKeptByAmount : Meaning → ℕ → ℕ → ℕ → ℕ → Type 0

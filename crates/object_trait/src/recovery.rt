@@ -44,7 +44,8 @@ pub trait Recovery: Send + Drop {
         ensures { (result ≡ true) ↔ IsLegalFor (meaning self.now) t k };
 
     /// Who keeps transaction t from operation k, which is legal for it: the transaction of the earliest
-    /// open entry that stops it.
+    /// open entry that stops it, but in escrow first of the earliest whose transaction does so alone,
+    /// whatever the others do.
     fn blocker(&self, t: u32, k: Operation) -> Option<u32>
         requires operation { k < length (meaning self.now).checked.file.table.ops }
         requires legal { IsLegalFor (meaning self.now) t k }

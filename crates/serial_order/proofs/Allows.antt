@@ -9,11 +9,11 @@ use Rattle.type_table.specs.declared.kind.Kind.{Kind}
 use Rattle.type_table.specs.declared.kind.Kind.TheVariants.{Undo, Intentions, Escrow}
 use Rattle.object_trait.specs.Object.{Object}
 use Rattle.object_trait.specs.Meaning.{object, view_by}
-use Rattle.object_trait.specs.Steps.{IsOfAnotherOpen, stops_by}
+use Rattle.object_trait.specs.Steps.{IsOfAnotherOpen, stops_by, alone_by}
 use Rattle.object_trait.specs.declared.log_entry.LogEntry.{LogEntry}
 use Rattle.serial_order.specs.Operations.{is_among, at_object, ops, of, serial}
 use Rattle.serial_order.specs.History.{Summary, summary}
-use Rattle.serial_order.specs.View.{view, is_legal_after, conflicts_with, stops_at}
+use Rattle.serial_order.specs.View.{view, is_legal_after, conflicts_with, stops_at, alone_at}
 use Rattle.serial_order.specs.Represent.{plain, RepresentsBy}
 use Rattle.serial_order.specs.Laws.{AllowsAlike, MachineMayApply}
 use Rattle.serial_order.specs.declared.entry.Entry.{Entry}
@@ -21,7 +21,7 @@ use Rattle.serial_order.specs.After.{AreInRun}
 use Rattle.serial_order.proofs.Runs.{transactions_in_run, pending_is_open, open_is_uncommitted}
 use Rattle.serial_order.proofs.Pairs.{each-rest, each-from_map}
 use Rattle.serial_order.proofs.RepresentUndo.{undo_represents-run}
-use Rattle.serial_order.proofs.RepresentEscrow.{as_deferred, escrow_stops-alike}
+use Rattle.serial_order.proofs.RepresentEscrow.{as_deferred, escrow_stops-alike, escrow_alone-alike}
 use Rattle.declared_types.proofs.TableOps.{op_below}
 use Rattle.serial_order.proofs.RepresentDeferred.{deferred_represents-run}
 
@@ -84,6 +84,13 @@ pub stops_alike : (recovery : Kind) (o : Object) (base : ℕ) (log : List LogEnt
 stops_alike Undo o base log x C V t k e represents = refl
 stops_alike Intentions o base log x C V t k e represents = refl
 stops_alike Escrow o base log x C V t k e represents = escrow_stops-alike o base log x C V represents t k e
+
+-- and its transaction alone does where that of the operation does
+pub alone-alike : (recovery : Kind) (o : Object) (base : ℕ) (log : List LogEntry) (x : ℕ) (C : List ℕ) (V : List Entry) (t k : ℕ) (e : LogEntry) → RepresentsBy recovery o base log x C V →
+    alone_at recovery o C V t k (plain x e) ≡ alone_by recovery o base log t k e
+alone-alike Undo o base log x C V t k e represents = refl
+alone-alike Intentions o base log x C V t k e represents = refl
+alone-alike Escrow o base log x C V t k e represents = escrow_alone-alike o base log x C V represents t k e
 
 log_free : (recovery : Kind) (o : Object) → o.kind ≡ recovery → (base : ℕ) (log : List LogEntry) (x : ℕ) (s : Summary) (t k : ℕ) → AreInRun s →
     RepresentsBy recovery o base log x s.committed (at_object x s.survives) → AllByRecursion (λ e. conflicts_with o s x t k e ≡ false) (at_object x s.survives) →

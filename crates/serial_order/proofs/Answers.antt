@@ -1,6 +1,7 @@
 -- The answer of a call is one that the machine allows.
-use Rattle.std.proofs.Common.{◌≡◌, ℕ, zero, suc, ◌<◌, Bool, true, false, not, cond, nat_lt, List, [], ◌∷◌, length, Option, Some, None, MatchOption, is_some, refl, ap, ◌∙◌, inl, inr, arith}
+use Rattle.std.proofs.Common.{◌≡◌, ℕ, zero, suc, ◌<◌, Bool, true, false, not, ◌&&◌, cond, nat_lt, List, [], ◌∷◌, length, Option, Some, None, MatchOption, is_some, refl, ap, ◌∙◌, inl, inr, arith}
 use Rattle.std.specs.List.{AllByRecursion}
+use Rattle.std.specs.Option.{option_or}
 use Rattle.std.specs.Prelude.{slice_get, Contains}
 use Rattle.std.proofs.lemmas.Bool.{cases_eq, false≢true, true≢false, and_parts, and_from, not-true, not-false, ltb-true}
 use Rattle.object_trait.specs.Object.{Object}
@@ -8,10 +9,10 @@ use Rattle.std.proofs.lemmas.Slice.Eq.{bytes_eq-Decides}
 use Rattle.type_table.specs.Table.{call_of, has_op, is_same_call}
 use Rattle.serial_order.specs.Operations.{at_object}
 use Rattle.serial_order.specs.History.{Summary, summary, is_open}
-use Rattle.serial_order.specs.View.{is_legal_for, conflicts_with, is_of_call}
+use Rattle.serial_order.specs.View.{is_legal_for, is_alone, conflicts_with, is_of_call}
 use Rattle.serial_order.specs.Machine.{IsFirstOfCall, IsBlocked, IsFirstLegal, IsBusyWith, MayDo, May}
 use Rattle.type_table.specs.Least.{found_or, first_below}
-use Rattle.serial_order.specs.Answer.{earliest, blocker, is_reply, is_free_reply, busy_with, refused, event_of_first, event_of_call}
+use Rattle.serial_order.specs.Answer.{earliest, earliest_rather, blocker, is_reply, is_free_reply, busy_with, refused, event_of_first, event_of_call}
 use Rattle.serial_order.specs.Laws.{AnswerMayFollow}
 use Rattle.serial_order.specs.declared.entry.Entry.{Entry}
 
@@ -60,6 +61,17 @@ pub earliest-found : (test : Entry → Bool) (V : List Entry) → MatchOption (e
 earliest-found test [] = tt
 earliest-found test (e ∷ V) = found_with test e V (test e) (earliest test V) refl (earliest-found test V)
 
+-- so does `earliest_rather`, whichever are named first
+either-found : (rather test : Entry → Bool) (V : List Entry) (first second : Option Entry) →
+    MatchOption first (AllByRecursion (λ e. (rather e && test e) ≡ false) V) (IsFound (λ e. rather e && test e) V) →
+    MatchOption second (AllByRecursion (λ e. test e ≡ false) V) (IsFound test V) → MatchOption (option_or first second) (AllByRecursion (λ e. test e ≡ false) V) (IsFound test V)
+either-found rather test V None second none found = found
+either-found rather test V (Some e) second here found = record { contained = here.contained; passes = (and_parts (rather e) (test e) here.passes).1 }
+
+pub rather-found : (rather test : Entry → Bool) (V : List Entry) → MatchOption (earliest_rather rather test V) (AllByRecursion (λ e. test e ≡ false) V) (IsFound test V)
+rather-found rather test V =
+    either-found rather test V (earliest (λ e. rather e && test e) V) (earliest test V) (earliest-found (λ e. rather e && test e) V) (earliest-found test V)
+
 -- ---- answers
 
 module _ (o : Object) (s : Summary) (x t c : ℕ) where
@@ -73,7 +85,7 @@ module _ (o : Object) (s : Summary) (x t c : ℕ) where
 
   -- the blocker of an operation blocks it, and where there is none, it conflicts with none
   blocker_found : (k : ℕ) → BlockerIs k (blocker o s x t k)
-  blocker_found k = earliest-found (conflicts_with o s x t k) (at_object x s.survives)
+  blocker_found k = rather-found (is_alone o s x t k) (conflicts_with o s x t k) (at_object x s.survives)
 
   -- no blocker
   unblocked : (k : ℕ) (found : Option Entry) → BlockerIs k found → is_some found ≡ false → IsUnblocked k

@@ -1,5 +1,5 @@
 -- Escrow: the serial state, and that what each open transaction did is legal whatever the others do; and that both stay so.
-use Rattle.std.proofs.Common.{◌≡◌, ℕ, ◌+◌, ◌<◌, ◌≤◌, true, false, not, ◌==◌, List, [], ◌∷◌, ◌++◌, take, drop, filter, ◌⊎◌, Some, refl, sym, ap, ◌∙◌, inl, inr, arith, append-nil, append_assoc}
+use Rattle.std.proofs.Common.{◌≡◌, ℕ, ◌<◌, ◌≤◌, true, false, not, ◌==◌, List, [], ◌∷◌, ◌++◌, take, drop, filter, ◌⊎◌, Some, refl, sym, ap, ◌∙◌, inl, inr, arith, append-nil, append_assoc}
 use Rattle.std.specs.Prelude.{unwrap_or}
 use Rattle.std.specs.List.{AllByRecursion}
 use Rattle.std.proofs.lemmas.Bool.{cases_Bool, eqb-true, eq-eqb, ne_eqb}
@@ -65,7 +65,7 @@ above-t t [] = omega arith
 above-t t (e ∷ V) = let rest = above-t t V in omega (arith, rest)
 
 -- and whoever it is above did nothing
-above-none : (t u : ℕ) (V : List Entry) → above_at t V ≤ u → of u V ≡ []
+pub above-none : (t u : ℕ) (V : List Entry) → above_at t V ≤ u → of u V ≡ []
 above-none t u [] far = refl
 above-none t u (e ∷ V) far =
     elim (cases_Bool (e.by == u)) [

@@ -1,8 +1,9 @@
 -- What open transactions hold at an object, and what one transaction did, after one more event.
 use Rattle.std.proofs.Common.{◌≡◌, ℕ, ◌-◌, ◌<◌, Bool, true, false, cond, not, ◌&&◌, ◌||◌, ◌==◌, List, [], ◌∷◌, ◌++◌, filter, take, length, Some, refl, sym, ap, ◌∙◌, inl, inr, arith}
 use Rattle.std.specs.List.{AllByRecursion}
+use Rattle.std.specs.Option.{option_or}
 use Rattle.std.proofs.Math.Bool.{and_comm}
-use Rattle.std.proofs.lemmas.Bool.{cases_Bool, eqb-true, and_parts}
+use Rattle.std.proofs.lemmas.Bool.{cases_Bool, eqb-true, and_parts, and_right}
 use Rattle.std.proofs.lemmas.Bool.Decides.{nat_tests}
 use Rattle.std.proofs.lemmas.List.Elements.{filter_agree}
 use Rattle.type_table.proofs.Elements.{each-weaker, each-filter, filter-turned, mine-within}
@@ -13,10 +14,10 @@ use Rattle.object_trait.specs.declared.event.EventKind.TheVariants as kind
 use Rattle.object_trait.specs.declared.event.EventKind.TheVariants.{Begin, Op, Busy, Commit, Abort, Rollback}
 use Rattle.serial_order.specs.Operations.{at_object, is_by, of}
 use Rattle.serial_order.specs.History.{Summary, is_open}
-use Rattle.serial_order.specs.View.{stops_at}
+use Rattle.serial_order.specs.View.{stops_at, is_alone}
 use Rattle.serial_order.specs.Machine.{May}
 use Rattle.serial_order.specs.Represent.{struck_at}
-use Rattle.serial_order.specs.Answer.{earliest}
+use Rattle.serial_order.specs.Answer.{earliest, earliest_rather}
 use Rattle.serial_order.specs.After.{summary_next, AreInRun, is_open_after}
 use Rattle.serial_order.specs.Held.{held_at, HeldAfter, BlockerIsHeld, OwnAfter}
 use Rattle.serial_order.specs.declared.entry.Entry.{Entry}
@@ -116,8 +117,23 @@ earliest-filter first second (e ∷ V) =
       | inr fails ↦ rw fails (earliest-filter first second V)
     ]
 
+-- and so it is where some are named first
+earliest-within : (rather first second : Entry → Bool) (V : List Entry) → earliest (λ e. rather e && (first e && second e)) V ≡ earliest (λ e. rather e && second e) (filter first V)
+earliest-within rather first second [] = refl
+earliest-within rather first second (e ∷ V) =
+    elim (cases_Bool (first e)) [
+      | inl passes ↦ rw passes (ap (λ rest. cond (rather e && second e) (Some e) rest) (earliest-within rather first second V))
+      | inr fails ↦ rw (fails, and_right (rather e) false refl) (earliest-within rather first second V)
+    ]
+
+pub rather-filter : (rather first second : Entry → Bool) (V : List Entry) → earliest_rather rather (λ e. first e && second e) V ≡ earliest_rather rather second (filter first V)
+rather-filter rather first second V =
+    ap (λ found. option_or found (earliest (λ e. first e && second e) V)) (earliest-within rather first second V)
+    ∙ ap (option_or (earliest (λ e. rather e && second e) (filter first V))) (earliest-filter first second V)
+
 pub blocker_is_held : BlockerIsHeld
-blocker_is_held = λ o s x t k. earliest-filter (λ e. is_open s e.by) (λ e. not (e.by == t) && stops_at o.kind o s.committed (at_object x s.survives) t k e) (at_object x s.survives)
+blocker_is_held = λ o s x t k.
+    rather-filter (is_alone o s x t k) (λ e. is_open s e.by) (λ e. not (e.by == t) && stops_at o.kind o s.committed (at_object x s.survives) t k e) (at_object x s.survives)
 
 -- ---- what one transaction did
 

@@ -27,6 +27,7 @@ pub mod Stopping
 pub mod Kept
 pub mod Checked
 pub mod Answers
+pub mod Waiting
 pub mod Replays
 pub mod Counter
 pub mod Examples

@@ -3,19 +3,19 @@ use Rattle.std.proofs.Common.{◌≡◌, ℕ, suc, ◌+◌, false, not, List, []
 use Rattle.std.proofs.Math.Path.{fun_ext}
 use Rattle.std.specs.Prelude.{unwrap_or}
 use Rattle.std.specs.List.{AllByRecursion}
-use Rattle.type_table.specs.Run.{run}
 use Rattle.type_table.specs.Laws.{RunsAlong}
 use Rattle.type_table.proofs.Elements.{each-weaker, each-filter}
 use Rattle.escrow_laws.specs.Firm.{with_op, keeps}
 use Rattle.type_table.specs.declared.kind.Kind.TheVariants.{Escrow}
 use Rattle.object_trait.specs.Object.{Object}
+use Rattle.object_trait.specs.Alone.{keeps_alone}
 use Rattle.object_trait.specs.Strike.{keep_first}
 use Rattle.object_trait.specs.Meaning.{is_open_of, open_of, log_ops, own_of}
 use Rattle.object_trait.specs.Steps as steps
 use Rattle.object_trait.specs.Steps.{IsEscrowCommit}
 use Rattle.object_trait.specs.declared.log_entry.LogEntry.{LogEntry}
 use Rattle.serial_order.specs.Operations.{is_among, is_by, ops, of, serial, pending}
-use Rattle.serial_order.specs.View.{above_at, own_at, number_at, stops_at}
+use Rattle.serial_order.specs.View.{above_at, own_at, number_at, stops_at, alone_at}
 use Rattle.serial_order.specs.Represent.{plain, RepresentsIntentions, RepresentsEscrow}
 use Rattle.serial_order.specs.declared.entry.Entry.{Entry}
 use Rattle.serial_order.proofs.Lists.{serial-snoc, pending-snoc, serial-apart, serial-strike}
@@ -85,3 +85,8 @@ module _ (o : Object) (base : ℕ) (log : List LogEntry) (x : ℕ) (C : List ℕ
       ap (λ b. keeps o.table o.amounts b (with_op (own_at C V) t k) (above_at t (pending C V)) t e.by) number-alike
       ∙ ap (λ (own : ℕ → List ℕ). keeps o.table o.amounts base (with_op own t k) (above_at t (pending C V)) t e.by) own-alike
       ∙ ap (λ m. keeps o.table o.amounts base (with_op (own_of log) t k) m t e.by) (above-alike t)
+
+  pub escrow_alone-alike : (t k : ℕ) (e : LogEntry) → alone_at Escrow o C V t k (plain x e) ≡ steps.alone_by Escrow o base log t k e
+  escrow_alone-alike t k e =
+      ap (λ b. keeps_alone o.table o.amounts b (with_op (own_at C V) t k) t e.by) number-alike
+      ∙ ap (λ (own : ℕ → List ℕ). keeps_alone o.table o.amounts base (with_op own t k) t e.by) own-alike

@@ -1,5 +1,6 @@
 -- The answer of a call: one of those that the machine allows.
 use Rattle.std.specs.Prelude.{ℕ, List, [], ◌∷◌, length, Bool, cond, not, ◌&&◌, Option, Some, None, is_some}
+use Rattle.std.specs.Option.{option_or}
 use Rattle.type_table.specs.Least.{first_below}
 use Rattle.type_table.specs.Operation.{place_of}
 use Rattle.object_trait.specs.Object.{Object}
@@ -8,7 +9,7 @@ use Rattle.object_trait.specs.declared.event.EventKind.TheVariants as kind
 use Rattle.object_trait.specs.declared.event.EventKind.TheVariants.{Op, Busy}
 use Rattle.serial_order.specs.Operations.{at_object}
 use Rattle.serial_order.specs.History.{Summary}
-use Rattle.serial_order.specs.View.{is_legal_for, conflicts_with, is_of_call}
+use Rattle.serial_order.specs.View.{is_legal_for, is_alone, conflicts_with, is_of_call}
 use Rattle.serial_order.specs.declared.entry.Entry.{Entry}
 
 -- the earliest operation that passes
@@ -16,9 +17,13 @@ abbrev pub earliest : (Entry → Bool) → List Entry → Option Entry
 earliest test [] = None
 earliest test (e ∷ V) = cond (test e) (Some e) (earliest test V)
 
--- the earliest operation at x that keeps t from k
+-- the earliest that passes both tests; where none does, the earliest that passes the second
+abbrev pub earliest_rather : (Entry → Bool) → (Entry → Bool) → List Entry → Option Entry
+earliest_rather rather test V = option_or (earliest (λ e. rather e && test e) V) (earliest test V)
+
+-- of the operations at x that keep t from k: the earliest one whose transaction does so alone; where none does, the earliest
 abbrev pub blocker : Object → Summary → ℕ → ℕ → ℕ → Option Entry
-blocker o s x t k = earliest (conflicts_with o s x t k) (at_object x s.survives)
+blocker o s x t k = earliest_rather (is_alone o s x t k) (conflicts_with o s x t k) (at_object x s.survives)
 
 -- an operation of the call that is legal for t
 abbrev pub is_reply : Object → Summary → ℕ → ℕ → ℕ → ℕ → Bool

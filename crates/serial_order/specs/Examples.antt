@@ -112,7 +112,32 @@ number_object = record {
   amounts = amounts_of fives;
 }
 
+-- a number up to 5, from 3: its operations take 1, take 2 and take 4, and give 2
+abbrev pub some_amounts : List Bounded
+some_amounts =
+    (record { low = 1; high = 5; gives = 0; takes = 1 }) ∷ (record { low = 2; high = 5; gives = 0; takes = 2 })
+    ∷ (record { low = 4; high = 5; gives = 0; takes = 4 }) ∷ (record { low = 0; high = 3; gives = 2; takes = 0 }) ∷ []
+
+abbrev pub three_of_five : Object
+three_of_five = record {
+  kind = Escrow;
+  table = record {
+    name = codes "number";
+    states = 6;
+    initial = 3;
+    ops = ok_op (codes "take:1") ∷ ok_op (codes "take:2") ∷ ok_op (codes "take:4") ∷ ok_op (codes "give:2") ∷ [];
+    steps = steps_of 5 some_amounts;
+  };
+  set = λ s. true;
+  conflicts = λ p q. false;
+  amounts = amounts_of some_amounts;
+}
+
 -- ---- histories
+
+-- of 3, one takes 1 and another takes 2, and a third gives 2; then the second aborts
+abbrev pub takers_history : List Event
+takers_history = events (Begin 0 ∷ Begin 1 ∷ Begin 2 ∷ Op 0 0 0 ∷ Op 1 1 0 ∷ Op 3 2 0 ∷ Abort 1 ∷ [])
 
 -- one takes 5 and another gives 5, which are both open; the first commits, the second aborts, and a third finds nothing to take
 abbrev pub number_history : List Event

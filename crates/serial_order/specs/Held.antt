@@ -6,10 +6,10 @@ use Rattle.object_trait.specs.declared.event.EventKind.{EventKind}
 use Rattle.object_trait.specs.declared.event.EventKind.TheVariants.{Op, Commit, Abort, Rollback}
 use Rattle.serial_order.specs.Operations.{at_object, is_by, of}
 use Rattle.serial_order.specs.History.{Summary, is_open}
-use Rattle.serial_order.specs.View.{stops_at}
+use Rattle.serial_order.specs.View.{stops_at, is_alone}
 use Rattle.serial_order.specs.Machine.{May}
 use Rattle.serial_order.specs.Represent.{struck_at}
-use Rattle.serial_order.specs.Answer.{earliest, blocker}
+use Rattle.serial_order.specs.Answer.{earliest_rather, blocker}
 use Rattle.serial_order.specs.After.{summary_next, AreInRun}
 use Rattle.serial_order.specs.declared.entry.Entry.{Entry}
 
@@ -32,10 +32,11 @@ HeldAfter =
     (objects : List Object) (s : Summary) (happened : EventKind) (x : ℕ) → AreInRun s → May objects s happened
     → held_at x (summary_next s happened) ≡ held_after x s happened
 
--- what keeps t from k is the earliest operation held by another that conflicts with it
+-- what keeps t from k is, of the operations held by others that conflict with it, the earliest one whose transaction does so alone; where none does, the earliest
 abbrev pub BlockerIsHeld : Type 0
 BlockerIsHeld =
-    (o : Object) (s : Summary) (x t k : ℕ) → blocker o s x t k ≡ earliest (λ e. not (e.by == t) && stops_at o.kind o s.committed (at_object x s.survives) t k e) (held_at x s)
+    (o : Object) (s : Summary) (x t k : ℕ)
+    → blocker o s x t k ≡ earliest_rather (is_alone o s x t k) (λ e. not (e.by == t) && stops_at o.kind o s.committed (at_object x s.survives) t k e) (held_at x s)
 
 -- ---- what one transaction did
 

@@ -10,6 +10,7 @@ pub mod Replay
 pub mod After
 pub mod Held
 pub mod Laws
+pub mod Waiting
 pub mod Examples
 pub mod Epochs
 pub mod EpochExamples

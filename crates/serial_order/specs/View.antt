@@ -1,11 +1,12 @@
 -- What a transaction sees at an object: Weihl's views of update in place and of deferred update, of which escrow has the second.
-use Rattle.std.specs.Prelude.{ℕ, suc, ◌+◌, List, [], ◌∷◌, ◌++◌, Bool, ◌&&◌, not, ◌==◌, nat_lt, length, Some, is_some, unwrap_or}
+use Rattle.std.specs.Prelude.{ℕ, suc, ◌+◌, List, [], ◌∷◌, ◌++◌, Bool, true, ◌&&◌, not, ◌==◌, nat_lt, length, Some, is_some, unwrap_or}
 use Rattle.type_table.specs.Table.{is_same_call}
 use Rattle.type_table.specs.Run.{run}
 use Rattle.type_table.specs.declared.kind.Kind.{Kind}
 use Rattle.type_table.specs.declared.kind.Kind.TheVariants.{Undo, Intentions, Escrow}
 use Rattle.escrow_laws.specs.Firm.{with_op, keeps}
 use Rattle.object_trait.specs.Object.{Object}
+use Rattle.object_trait.specs.Alone.{keeps_alone}
 use Rattle.serial_order.specs.Operations.{ops, at_object, of, serial, pending}
 use Rattle.serial_order.specs.History.{Summary, is_open}
 use Rattle.serial_order.specs.declared.entry.Entry.{Entry}
@@ -44,6 +45,16 @@ abbrev pub stops_at : Kind → Object → List ℕ → List Entry → ℕ → �
 stops_at Undo o C V t k e = o.conflicts k e.op
 stops_at Intentions o C V t k e = o.conflicts k e.op
 stops_at Escrow o C V t k e = keeps o.table o.amounts (number_at o C V) (with_op (own_at C V) t k) (above_at t (pending C V)) t e.by
+
+-- its transaction alone keeps t from k, if it does
+abbrev pub alone_at : Kind → Object → List ℕ → List Entry → ℕ → ℕ → Entry → Bool
+alone_at Undo o C V t k e = true
+alone_at Intentions o C V t k e = true
+alone_at Escrow o C V t k e = keeps_alone o.table o.amounts (number_at o C V) (with_op (own_at C V) t k) t e.by
+
+-- at x
+abbrev pub is_alone : Object → Summary → ℕ → ℕ → ℕ → Entry → Bool
+is_alone o s x t k e = alone_at o.kind o s.committed (at_object x s.survives) t k e
 
 -- this operation of another open transaction keeps t from k at x
 abbrev pub conflicts_with : Object → Summary → ℕ → ℕ → ℕ → Entry → Bool

@@ -4,6 +4,7 @@
 
 ghost use Rattle.serial_order.specs.After.{SummaryAfter, TransactionsInRun, OpensAfter, HistoryOpensAfter, BeginnersAfter, NumbersInRun, OperationsInRun, LogsAreCounted, IdleIsClosed};
 ghost use Rattle.serial_order.specs.Held.{HeldAfter, BlockerIsHeld, OwnAfter};
+ghost use Rattle.serial_order.specs.Waiting.{BusyNamesWhoKeeps};
 ghost use Rattle.serial_order.specs.Laws.{RunIsHistory, RunGoesOn, SurvivesAsRead, FirstOpIsLeast, AnswerMayFollow, ReplayRuns, CommandAppends, RefusedAppendsNothing, ReplaysJoin, SortsIntoCommitOrder, StruckViewIsLegal, ViewsAreLegal, CommitKeepsViews, FreshRepresents, RepresentsOn, AllowsAlike, StopperIsBlocker, MachineMayApply, Headline, CheckedHeadline};
 
 use crate::entry::Entry;
@@ -63,12 +64,20 @@ pub fn held_after()
     ensures { HeldAfter }
 {}
 
-/// What keeps a transaction from an operation is the earliest operation held by another that
-/// conflicts with it.
+/// What keeps a transaction from an operation is, of the operations held by others that conflict with
+/// it, the earliest one whose transaction does so alone; where none does, the earliest.
 #[tactic(auto, using(crate::proofs::Held::blocker_is_held))]
 pub fn blocker_is_held()
     ensures { BlockerIsHeld }
 {}
+
+/// In escrow, whom `Busy` names as one that alone keeps a transaction from an operation does so while the
+/// transaction still waits for it, whatever the others do.
+pub fn busy_names_who_keeps()
+    ensures { BusyNamesWhoKeeps }
+{
+    runs_along();
+}
 
 /// The operations of one transaction that survive, after one more event.
 #[tactic(auto, using(crate::proofs::Held::own_after_one))]

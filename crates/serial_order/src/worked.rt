@@ -10,7 +10,7 @@ ghost use Rattle.table_checker.specs.At.{checked_at};
 ghost use Rattle.table_checker.specs.Checked.{Checked};
 ghost use Rattle.serial_order.specs.Operations.{ops};
 ghost use Rattle.serial_order.specs.History.{summary, commits, surviving, IsHistory};
-ghost use Rattle.serial_order.specs.View.{view, is_legal_after};
+ghost use Rattle.serial_order.specs.View.{view, is_legal_after, is_alone, conflicts_with};
 ghost use Rattle.serial_order.specs.Machine.{IsRun, MayFollow};
 ghost use Rattle.serial_order.specs.Serial.{serial_at, serial_state, IsSerial};
 ghost use Rattle.serial_order.specs.Represent.{struck_at, Represents, KeptAgrees};
@@ -20,7 +20,7 @@ ghost use Rattle.serial_order.specs.Replay.{open_count, refusal, replay};
 ghost use Rattle.serial_order.specs.After.{summary_next, is_open_after, AreBelow, CountsTo, beginners};
 ghost use Rattle.serial_order.specs.Held.{held_at, held_after, own_after};
 ghost use Rattle.serial_order.specs.Laws.{IsSerialAndKept};
-ghost use Rattle.serial_order.specs.Examples.{events, entry, seen_first, undo_one_way, undo_counter, deferred_counter, undo_semiqueue, undo_account, one_way_history, semiqueue_history, deferred_history, lock_history, two_objects_history, unlocked_history, refused_history, reader_history, half_history, half_deferred_history, up_and_back, number_object, number_history, short_history};
+ghost use Rattle.serial_order.specs.Examples.{events, entry, seen_first, undo_one_way, undo_counter, deferred_counter, undo_semiqueue, undo_account, one_way_history, semiqueue_history, deferred_history, lock_history, two_objects_history, unlocked_history, refused_history, reader_history, half_history, half_deferred_history, up_and_back, number_object, number_history, short_history, three_of_five, takers_history};
 ghost use Rattle.serial_order.specs.Epochs.{serial_over, types_after, types_at};
 ghost use Rattle.serial_order.specs.EpochExamples.{up, up_and_down_epochs};
 
@@ -267,4 +267,16 @@ pub fn numbers_are_taken_and_given()
 pub fn a_short_reply_is_held()
     ensures held { event_of_call number_object (summary short_history) 0 1 2 ≡ EventKind.Busy 2 1 0 0 }
     ensures own { event_of_call number_object (summary short_history) 0 0 2 ≡ EventKind.Op 2 0 0 }
+{}
+
+/// Of 3, one takes 1 and another 2, and a third gives 2 and asks for 4. Both keep it from that. The second
+/// does so alone, and is named, though it came later. Without the second nobody does.
+#[tactic(auto, unfolding(type_table::specs::Table::next, escrow_laws::specs::Bounds::steps_of))]
+pub fn who_keeps_alone_is_named()
+    ensures first { conflicts_with three_of_five (seen_first 6 takers_history) 0 2 2 (entry 0 0 0) ≡ true }
+    ensures first_not_alone { is_alone three_of_five (seen_first 6 takers_history) 0 2 2 (entry 0 0 0) ≡ false }
+    ensures second_alone { is_alone three_of_five (seen_first 6 takers_history) 0 2 2 (entry 1 0 1) ≡ true }
+    ensures named { event_of_call three_of_five (seen_first 6 takers_history) 0 2 2 ≡ EventKind.Busy 2 2 0 1 }
+    ensures without { event_of_call three_of_five (seen_first 7 takers_history) 0 2 2 ≡ EventKind.Op 2 2 0 }
+    ensures runs { IsRun (three_of_five ∷ []) takers_history }
 {}

@@ -1,15 +1,16 @@
 -- The log says who blocks.
 use Rattle.std.proofs.Common.{◌≡◌, ℕ, ◌<◌, not, ◌&&◌, ◌==◌, List, [], ◌∷◌, length, All, ap, sym, ◌∙◌}
-use Rattle.std.specs.List.{filter, find, AllByRecursion}
-use Rattle.std.specs.Option.{option_map}
+use Rattle.std.specs.List.{AllByRecursion}
+use Rattle.std.specs.Option.{option_or}
 use Rattle.std.proofs.lemmas.List.Elements.{All-from_recursion}
 use Rattle.type_table.specs.Table.{Table, IsTable}
 use Rattle.type_table.specs.Laws.{StepsWithin}
 use Rattle.type_table.specs.declared.kind.Kind.TheVariants.{Undo}
 use Rattle.object_trait.specs.Meaning.{Meaning, object}
-use Rattle.object_trait.specs.Steps.{stops_by, stopper}
+use Rattle.object_trait.specs.Steps.{alone_by, stops_by, holder_of, stopper}
 use Rattle.object_trait.specs.declared.log_entry.LogEntry.{LogEntry}
 use Rattle.object_trait.specs.Object.{conflicts_by}
+use Rattle.object_trait.proofs.Alone.{or-self}
 use Rattle.op_locks.specs.Locks.{blocking_holder}
 use Rattle.op_locks.specs.declared.held.Held.{Held}
 use Rattle.undo_manager.specs.Held.{held_in}
@@ -32,7 +33,9 @@ ops-fit within T table s end log steps = All-from_recursion (λ (u : UndoEntry).
 pub stopper-told : (m : Meaning) (t k : ℕ) → m.checked.kind ≡ Undo → blocking_holder (conflicts_by m.checked.kind m.checked.file) t k (held_in m.log) ≡ stopper m t k
 stopper-told m t k in_place =
     blocker-open (conflicts_by m.checked.kind m.checked.file) t k m.log
-    ∙ sym (ap (λ way. option_map (λ (e : LogEntry). e.by) (find (λ e. not (e.by == t) && stops_by way (object m) m.base m.log t k e) (filter (λ e. not e.done) m.log))) in_place)
+    ∙ sym
+    (ap (λ way. option_or (holder_of (λ e. alone_by way (object m) m.base m.log t k e && (not (e.by == t) && stops_by way (object m) m.base m.log t k e)) m.log) (holder_of (λ e. not (e.by == t) && stops_by way (object m) m.base m.log t k e) m.log)) in_place
+    ∙ or-self (holder_of (λ e. not (e.by == t) && (object m).conflicts k e.op) m.log))
 
 -- what is held are operations of the table
 pub held-fits : StepsWithin → (T : Table) → IsTable T → (s end : ℕ) (log : List UndoEntry) → LeadsTo T s log end → All (λ (e : Held). e.op < length T.ops) (held_in (entries log))

@@ -11,7 +11,7 @@ use Rattle.escrow_manager.specs.Marks.{IsSmall}
 use Rattle.escrow_manager.specs.Totals.{totals_with, AreFirm}
 use Rattle.escrow_manager.specs.declared.totals.Totals.{Totals}
 use Rattle.escrow_manager.proofs.Telling.{more-short, with-small}
-use Rattle.escrow_manager.proofs.Keeping.{meant, mark_at, op-found, top-small, small-of, sums-of}
+use Rattle.escrow_manager.proofs.Keeping.{meant, mark_at, op-found, top-small, small-of, sums-of, short-of}
 use Rattle.escrow_manager.proofs.Blocking.{mark_with, totals_after, first_of, stopper-none, stopper-marks}
 use Rattle.escrow_manager.proofs.manager.EscrowManagerRecovery.blocker.Goals as goal
 
@@ -83,8 +83,11 @@ are_firm-requires-clause-risen c = let few = (bounded c).1 in omega (arith, few)
 pub are_firm-requires-clause-needed : goal.are_firm-requires-clause-needed
 are_firm-requires-clause-needed c = let few = (bounded c).2 in omega (arith, few)
 
-pub first_keeper-requires-clause-risen : goal.first_keeper-requires-clause-risen
-first_keeper-requires-clause-risen c = let few = (bounded c.before.before.before.before).1 in omega (arith, few)
+pub named_keeper-requires-clause-risen : goal.named_keeper-requires-clause-risen
+named_keeper-requires-clause-risen c = let few = (bounded c.before.before.before.before).1 in omega (arith, few)
+
+pub named_keeper-requires-clause-short : goal.named_keeper-requires-clause-short
+named_keeper-requires-clause-short c = short-of c.self.invariant c.marks_fit.ensures c.firm_is_legal.ensures
 
 -- they are the totals after k
 same_mark : (c : goal.After-with-totals) → c.marked-mark.result ≡ mark_with (meant c.self.inside) c.args.t (op c.before.before.before)
@@ -110,7 +113,9 @@ returns c =
     let log = inside.log.items in
     let marks = inside.marks.items in
     rw (← c.self.view_is)
-    (c.first_keeper.ensures ∙ ap (λ x. first_of log marks inside.base x c.marked-mark.result c.greatest-top.result t) (same_totals c.before.before.before.before.before)
+    (c.named_keeper.ensures ∙ ap (λ x. first_of log marks inside.base x c.marked-mark.result c.greatest-top.result t) (same_totals c.before.before.before.before.before)
     ∙ ap (λ x. first_of log marks inside.base (totals_after m inside.totals t (op c.before.before.before.before.before.before.before.before)) x c.greatest-top.result t) (same_mark c.before.before.before.before.before)
     ∙ ap (λ x. first_of log marks inside.base (totals_after m inside.totals t (op c.before.before.before.before.before.before.before.before)) (mark_with m t (op c.before.before.before.before.before.before.before.before)) x t) (c.greatest-top.ensures.exact ∙ ap greatest c.deref-2.ensures)
-    ∙ sym (stopper-marks c.self.invariant t c.args.k (op c.before.before.before.before.before.before.before.before) (found c.before.before.before.before.before.before.before.before) c.marks_tell.ensures))
+    ∙ sym
+    (stopper-marks c.self.invariant t c.args.k (op c.before.before.before.before.before.before.before.before) (found c.before.before.before.before.before.before.before.before) c.marks_are_exact.ensures c.marks_fit.ensures c.firm_is_legal.ensures
+    c.marks_tell.ensures))
