@@ -16,8 +16,8 @@ use Rattle.serial_order.specs.Operations.{is_among, at_object, ops, serial}
 use Rattle.serial_order.specs.History.{Summary, commits}
 use Rattle.serial_order.specs.Machine.{IsRun}
 use Rattle.serial_order.specs.Serial.{surviving_at, serial_at}
-use Rattle.dynamic_atomicity.specs.Dynamic.{IsOrderOf, KeepsObjectPrecedes, executed_at, end_state, EndsAgree, CoveredIsAtomic, CommitOrderKeeps}
-use Rattle.dynamic_atomicity.specs.Converse.{breaking, Goes, AdmitsLegalOnly, StepsHaveOps, IsReached, CoverIsExact, UndoSerialIsExact, StrongIsExact}
+use Rattle.dynamic_atomicity.specs.Dynamic.{executed_at, end_state, EndsAgree, CoveredIsAtomic, CommitOrderKeeps}
+use Rattle.dynamic_atomicity.specs.Converse.{breaking, Goes, AdmitsLegalBreaks, StepsHaveOps, IsReached, BreaksAreEnough, UndoBreaksAreEnough, CoverIsExact, UndoSerialIsExact, StrongIsExact, StrongSerialIsExact}
 use Rattle.serial_order.specs.declared.entry.Entry.{Entry}
 use Rattle.serial_order.proofs.Facts.{IsLegalAt}
 use Rattle.type_table.proofs.Legal.{legal-behind, legal-after}
@@ -44,14 +44,14 @@ one_then_two = 0 ∷ 1 ∷ 2 ∷ 3 ∷ []
 abbrev two_then_one : List ℕ
 two_then_one = 0 ∷ 2 ∷ 1 ∷ 3 ∷ []
 
-module _ (objects : List Object) (x : ℕ) (along : RunsAlong) (ends : LegalEnds) (o : Object) (there : slice_get objects x ≡ Some o) (named : StepsHaveOps o.table) (admits : AdmitsLegalOnly objects x o) (w : List ℕ) (p q : ℕ) (free : o.conflicts p q ≡ false) where
+module _ (objects : List Object) (x : ℕ) (along : RunsAlong) (ends : LegalEnds) (o : Object) (there : slice_get objects x ≡ Some o) (named : StepsHaveOps o.table) (admits : AdmitsLegalBreaks objects x o) (w : List ℕ) (p q : ℕ) (free : o.conflicts p q ≡ false) where
   -- update in place: commit order breaks
   undo_exchanged : o.kind ≡ Undo → (r : List ℕ) → IsLegalAt o (w ++ q ∷ p ∷ r) → IsLegalAt o (w ++ p ∷ q ∷ r)
   undo_exchanged undo r legal =
       let known = undo_breaks along ends objects x o w p q r there named undo free legal in
       let H = breaking x 2 1 w p q r in
       let in_order : IsLegalAt o (ops (serial (commits H) (surviving_at x H))) =
-      admits H known.0 (commits H) (rw known.1 (record { once = (refl, (refl, (refl, (refl, tt)))); same = λ t. refl }))
+      admits 2 1 w p q r known.0 (commits H) (rw known.1 (record { once = (refl, (refl, (refl, (refl, tt)))); same = λ t. refl }))
       (rw known.1 (keeps_breaking x two_then_one 2 1 w p q r refl refl (refl, (refl, (refl, tt))))) in
       rw known.2 at in_order
 
@@ -66,14 +66,14 @@ module _ (objects : List Object) (x : ℕ) (along : RunsAlong) (ends : LegalEnds
     other_order : Goes o.table (w ++ q ∷ p ∷ []) r → IsLegalAt o (w ++ p ∷ q ∷ r)
     other_order goes =
         rw (ap (λ (s : Summary). ops (serial two_then_one (at_object x s.survives))) (summary_at_end objects x along ends o there named w p q 1 2 r) ∙ two_one objects x along ends o there named w p q r) at
-        (admits (breaking x 1 2 w p q r) (one_two_runs objects x along ends o there named w p q r free deferred q_legal p_legal goes) two_then_one
+        (admits 1 2 w p q r (one_two_runs objects x along ends o there named w p q r free deferred q_legal p_legal goes) two_then_one
         (rw committed_12 (record { once = (refl, (refl, (refl, (refl, tt)))); same = either }))
         (keeps_breaking x two_then_one 1 2 w p q r refl refl (refl, (refl, (refl, tt)))))
 
     one_order : Goes o.table (w ++ p ∷ q ∷ []) r → IsLegalAt o (w ++ q ∷ p ∷ r)
     one_order goes =
         rw (ap (λ (s : Summary). ops (serial one_then_two (at_object x s.survives))) (summary_at_end objects x along ends o there named w p q 2 1 r) ∙ one_two objects x along ends o there named w p q r) at
-        (admits (breaking x 2 1 w p q r) (two_one_runs objects x along ends o there named w p q r free deferred q_legal p_legal goes) one_then_two
+        (admits 2 1 w p q r (two_one_runs objects x along ends o there named w p q r free deferred q_legal p_legal goes) one_then_two
         (rw committed_21 (record { once = (refl, (refl, (refl, (refl, tt)))); same = λ t. sym (either t) }))
         (keeps_breaking x one_then_two 2 1 w p q r refl refl (refl, (refl, (refl, tt)))))
 
@@ -97,7 +97,7 @@ module _ (objects : List Object) (x : ℕ) (along : RunsAlong) (ends : LegalEnds
       λ r here. legal-behind along o.table begin w (p ∷ q ∷ r) s at_s (exchanges w r (legal-after along o.table begin w (q ∷ p ∷ r) s at_s here)) in
       (exchanged [] legal, λ ks here. exchanged ks here)
 
-  module _ (admits : AdmitsLegalOnly objects x o) (p q : ℕ) (free : o.conflicts p q ≡ false) where
+  module _ (admits : AdmitsLegalBreaks objects x o) (p q : ℕ) (free : o.conflicts p q ≡ false) where
     forward : o.kind ≡ Intentions → CommuteForward o.table o.set p q
     forward deferred s member p_next q_next =
         let w = (reached.reach s member).0 in
@@ -122,27 +122,34 @@ module _ (objects : List Object) (x : ℕ) (along : RunsAlong) (ends : LegalEnds
   enough : (way : TableKind) → o.kind ≡ of_table way → ((p q : ℕ) → o.conflicts p q ≡ false → Commutes way o.table o.set p q) → IsCovered o
   enough way is commute = subst (λ (kind : Kind). CoversBy kind o) (sym is) (covers_way way o (record { begins_inside = reached.begins_inside; closed = reached.closed; commute = commute }))
 
-pub cover_is_exact : RunsAlong → LegalEnds → CoveredIsAtomic → CoverIsExact
-cover_is_exact along ends atomic objects x o way there named is reached = (
+pub breaks_are_enough : RunsAlong → LegalEnds → BreaksAreEnough
+breaks_are_enough along ends objects x o way there named is reached admits =
+    enough objects x along ends o there named reached way is (λ p q free. commuting objects x along ends o there named reached admits p q free way is)
+
+pub cover_is_exact : CoveredIsAtomic → BreaksAreEnough → CoverIsExact
+cover_is_exact atomic breaks objects x o way there named is reached = (
   (λ covered H run ts order keeps. (atomic objects H x o run there covered ts order keeps).legal),
-  (λ admits. enough objects x along ends o there named reached way is (λ p q free. commuting objects x along ends o there named reached admits p q free way is)),
+  (λ admits. breaks objects x o way there named is reached (λ first second w p q r run. admits (breaking x first second w p q r) run)),
 )
 
 -- ---- update in place, by commit order alone
 
-pub undo_serial_is_exact : RunsAlong → LegalEnds → CoveredIsAtomic → CommitOrderKeeps → UndoSerialIsExact
-undo_serial_is_exact along ends atomic keeps objects x o there named undo reached = (
+pub undo_breaks_are_enough : RunsAlong → LegalEnds → UndoBreaksAreEnough
+undo_breaks_are_enough along ends objects x o there named undo reached legal_only =
+    enough objects x along ends o there named reached tabled.Undo undo (λ p q free. backward_by objects x along ends o there named reached p q (λ w r legal.
+    let known = undo_breaks along ends objects x o w p q r there named undo free legal in
+    rw known.2 at (legal_only w p q r known.0)))
+
+pub undo_serial_is_exact : CoveredIsAtomic → CommitOrderKeeps → UndoBreaksAreEnough → UndoSerialIsExact
+undo_serial_is_exact atomic keeps breaks objects x o there named undo reached = (
   (λ covered H run. let order = keeps objects H run in (atomic objects H x o run there covered (commits H) order.0 (order.1 x)).legal),
-  (λ legal_only. enough objects x along ends o there named reached tabled.Undo undo (λ p q free. backward_by objects x along ends o there named reached p q (λ w r legal.
-      let known = undo_breaks along ends objects x o w p q r there named undo free legal in
-      rw known.2 at (legal_only (breaking x 2 1 w p q r) known.0)))),
+  (λ legal_only. breaks objects x o there named undo reached (λ w p q r run. legal_only (breaking x 2 1 w p q r) run)),
 )
 
 -- ---- the strong form
 
 module _ (objects : List Object) (x : ℕ) (along : RunsAlong) (ends : LegalEnds) (o : Object) (there : slice_get objects x ≡ Some o) (named : StepsHaveOps o.table) (undo : o.kind ≡ Undo) (reached : IsReached o) (covered : IsCovered o)
-    (equi : (H : List Event) → IsRun objects H → (ts : List ℕ) → IsOrderOf (commits H) ts → KeepsObjectPrecedes x H ts
-    → AreEqui o.table (end_state o (executed_at x H)) (end_state o (serial ts (surviving_at x H)))) where
+    (equi : (H : List Event) → IsRun objects H → AreEqui o.table (end_state o (executed_at x H)) (end_state o (serial_at x H))) where
   -- what was executed
   executed-ops : (w : List ℕ) (p q : ℕ) → ops (executed_at x (breaking x 2 1 w p q [])) ≡ w ++ q ∷ p ∷ []
   executed-ops w p q =
@@ -164,8 +171,7 @@ module _ (objects : List Object) (x : ℕ) (along : RunsAlong) (ends : LegalEnds
       let at_s = (reached.reach s member).1 in
       let H = breaking x 2 1 w p q [] in
       let known = undo_breaks along ends objects x o w p q [] there named undo free (legal-after along T begin_here w (q ∷ p ∷ []) s at_s legal) in
-      let same : AreEqui T (end_state o (executed_at x H)) (end_state o (serial_at x H)) = equi H known.0 (commits H) (rw known.1 (record { once = (refl, (refl, (refl, (refl, tt)))); same = λ t. refl }))
-      (rw known.1 (keeps_breaking x two_then_one 2 1 w p q [] refl refl (refl, (refl, (refl, tt))))) in
+      let same : AreEqui T (end_state o (executed_at x H)) (end_state o (serial_at x H)) = equi H known.0 in
       let covers = covers_undo o covered undo in
       let turned : AreEqui T (run T begin_here (w ++ q ∷ p ∷ [])) (run T begin_here (w ++ p ∷ q ∷ [])) = rw (executed-ops w p q, known.2) at same in
       ((covers.commute p q free s member legal).0, rw (along T begin_here w (q ∷ p ∷ []), along T begin_here w (p ∷ q ∷ []), at_s) at turned)
@@ -173,10 +179,20 @@ module _ (objects : List Object) (x : ℕ) (along : RunsAlong) (ends : LegalEnds
   covers_strongly : CoversStrongly tabled.Undo o.table o.set o.conflicts
   covers_strongly = record { begins_inside = reached.begins_inside; closed = reached.closed; commute = both_ways_at }
 
-pub strong_is_exact : RunsAlong → LegalEnds → CoveredIsAtomic → StrongIsExact
-strong_is_exact along ends atomic objects x o there named undo reached covered = (
-  (λ strong H run ts order keeps.
-      let agree : EndsAgree Undo o x H ts = subst (λ (kind : Kind). EndsAgree kind o x H ts) undo (atomic objects H x o run there covered ts order keeps).ends in
+pub strong_serial_is_exact : RunsAlong → LegalEnds → CoveredIsAtomic → CommitOrderKeeps → StrongSerialIsExact
+strong_serial_is_exact along ends atomic keeps objects x o there named undo reached covered = (
+  (λ strong H run.
+      let order = keeps objects H run in
+      let agree : EndsAgree Undo o x H (commits H) = subst (λ (kind : Kind). EndsAgree kind o x H (commits H)) undo (atomic objects H x o run there covered (commits H) order.0 (order.1 x)).ends in
       agree.1 strong),
   (λ equi. subst (λ (kind : Kind). CoversStronglyBy kind o) (sym undo) (covers_strongly objects x along ends o there named undo reached covered equi)),
+)
+
+-- by each order that keeps what precedes
+pub strong_is_exact : CoveredIsAtomic → CommitOrderKeeps → StrongSerialIsExact → StrongIsExact
+strong_is_exact atomic keeps serial_exact objects x o there named undo reached covered = (
+  (λ strong H run ts order kept.
+      let agree : EndsAgree Undo o x H ts = subst (λ (kind : Kind). EndsAgree kind o x H ts) undo (atomic objects H x o run there covered ts order kept).ends in
+      agree.1 strong),
+  (λ equi. (serial_exact objects x o there named undo reached covered).1 (λ H run. let order = keeps objects H run in equi H run (commits H) order.0 (order.1 x))),
 )

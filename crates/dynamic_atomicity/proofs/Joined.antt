@@ -13,8 +13,8 @@ use Rattle.object_trait.specs.declared.event.EventKind.TheVariants.{Begin, Op, B
 use Rattle.serial_order.specs.Operations.{is_among}
 use Rattle.serial_order.specs.History.{commits, committed_by}
 use Rattle.serial_order.specs.Readings.{is_op_of}
-use Rattle.dynamic_atomicity.specs.Dynamic.{comes_first, AreOnce, IsOrderOf, is_op_at, KeepsObjectPrecedes, CoveredIsAtomic}
-use Rattle.dynamic_atomicity.specs.Joined.{At, store_history, Names, parts_at, order_at, AreJoined, first_after, first_commits, JoinedOrder, JoinedIsAtomic}
+use Rattle.dynamic_atomicity.specs.Dynamic.{comes_first, AreOnce, IsOrderOf, is_op_at, KeepsObjectPrecedes, CoveredIsAtomic, RunsAreAtomicLiving}
+use Rattle.dynamic_atomicity.specs.Joined.{At, store_history, Names, parts_at, order_at, AreJoined, first_after, first_commits, JoinedOrder, JoinedIsAtomic, JoinedIsAtomicLiving}
 use Rattle.serial_order.proofs.Events.{commits-snoc}
 use Rattle.dynamic_atomicity.proofs.Before.{first-inside, among-append, among-filter, once-append, once-filter, once-more}
 use Rattle.dynamic_atomicity.proofs.Grown.{IsFront, front-itself}
@@ -346,6 +346,9 @@ joined_order = λ N M joined i. at_store N M joined i
 
 pub joined_is_atomic : CoveredIsAtomic → JoinedIsAtomic
 joined_is_atomic atomic = λ objects N M ts runs order i x o there covered. atomic (objects i) (store_history i M) x o (runs i) there covered (order_at N M i ts) (order i).0 ((order i).1 x)
+
+pub joined_is_atomic_living : RunsAreAtomicLiving → JoinedIsAtomicLiving
+joined_is_atomic_living living = λ objects N M ts runs order i x o there covered. living (objects i) (store_history i M) x o (runs i) there covered (order_at N M i ts) (order i).0 ((order i).1 x)
 
 -- ---- joined, event by event
 

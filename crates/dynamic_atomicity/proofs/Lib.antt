@@ -12,3 +12,4 @@ pub mod Keeping
 pub mod Converse
 pub mod YesExact
 pub mod Witnessed
+pub mod Counter

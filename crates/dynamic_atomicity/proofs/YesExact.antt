@@ -75,7 +75,7 @@ module _ (inside : EndsWithin) (file : TypeFile) (table : IsTable file.table) (c
       ]
 
 -- where no step leaves the set, it is closed
-set_closed : StepsWithin → (T : Table) (members : List Bool) → IsTable T → NeverLeaves T members → IsClosed T (has members)
+pub set_closed : StepsWithin → (T : Table) (members : List Bool) → IsTable T → NeverLeaves T members → IsClosed T (has members)
 set_closed within T members table never = λ s k t member step.
     let inside = within T s k t table step in
     not-false (has members t) (rw (member, step) at (never s k inside.0 inside.1))

@@ -65,6 +65,26 @@ UndoBreaks =
     → IsRun objects (breaking x 2 1 w p q r) × (commits (breaking x 2 1 w p q r) ≡ 0 ∷ 2 ∷ 1 ∷ 3 ∷ [])
     × (ops (serial_at x (breaking x 2 1 w p q r)) ≡ w ++ p ∷ q ∷ r)
 
+-- in every run that may break, each order that keeps what precedes at x is legal there
+abbrev pub AdmitsLegalBreaks : List Object → ℕ → Object → Type 0
+AdmitsLegalBreaks objects x o =
+    (first second : ℕ) (w : List ℕ) (p q : ℕ) (r : List ℕ) → IsRun objects (breaking x first second w p q r)
+    → (ts : List ℕ) → IsOrderOf (commits (breaking x first second w p q r)) ts → KeepsObjectPrecedes x (breaking x first second w p q r) ts
+    → IsLegal o.table (Some o.table.initial) (ops (serial ts (surviving_at x (breaking x first second w p q r))))
+
+-- then the conflict table is enough: no other runs need be looked at
+abbrev pub BreaksAreEnough : Type 0
+BreaksAreEnough =
+    (objects : List Object) (x : ℕ) (o : Object) (way : TableKind) → slice_get objects x ≡ Some o → StepsHaveOps o.table → o.kind ≡ of_table way
+    → IsReached o → AdmitsLegalBreaks objects x o → IsCovered o
+
+-- update in place: nor another order than that of the commits
+abbrev pub UndoBreaksAreEnough : Type 0
+UndoBreaksAreEnough =
+    (objects : List Object) (x : ℕ) (o : Object) → slice_get objects x ≡ Some o → StepsHaveOps o.table → o.kind ≡ Undo → IsReached o
+    → ((w : List ℕ) (p q : ℕ) (r : List ℕ) → IsRun objects (breaking x 2 1 w p q r) → IsLegal o.table (Some o.table.initial) (ops (serial_at x (breaking x 2 1 w p q r))))
+    → IsCovered o
+
 -- a conflict table is enough exactly where the locks admit legal orders only
 abbrev pub CoverIsExact : Type 0
 CoverIsExact =
@@ -89,7 +109,14 @@ UndoSerialIsExact =
     → IsCovered o ↔ ((H : List Event) → IsRun objects H → IsLegal o.table (Some o.table.initial) (ops (serial_at x H)))
 
 -- update in place, of a table that is enough: it is so strongly exactly where the end of what was executed is equieffective to that of
--- each order that keeps what precedes
+-- commit order
+abbrev pub StrongSerialIsExact : Type 0
+StrongSerialIsExact =
+    (objects : List Object) (x : ℕ) (o : Object) → slice_get objects x ≡ Some o → StepsHaveOps o.table → o.kind ≡ Undo → IsReached o
+    → IsCovered o → IsCoveredStrongly o
+    ↔ ((H : List Event) → IsRun objects H → AreEqui o.table (end_state o (executed_at x H)) (end_state o (serial_at x H)))
+
+-- and to that of each order that keeps what precedes
 abbrev pub StrongIsExact : Type 0
 StrongIsExact =
     (objects : List Object) (x : ℕ) (o : Object) → slice_get objects x ≡ Some o → StepsHaveOps o.table → o.kind ≡ Undo → IsReached o

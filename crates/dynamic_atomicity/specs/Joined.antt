@@ -10,7 +10,7 @@ use Rattle.serial_order.specs.Operations.{is_among}
 use Rattle.serial_order.specs.History.{commits}
 use Rattle.serial_order.specs.Machine.{IsRun}
 use Rattle.serial_order.specs.Readings.{is_op_of}
-use Rattle.dynamic_atomicity.specs.Dynamic.{IsOrderOf, KeepsObjectPrecedes, IsLegalOrder}
+use Rattle.dynamic_atomicity.specs.Dynamic.{IsOrderOf, KeepsObjectPrecedes, KeepsLiving, IsLegalOrder}
 
 -- an event at a store
 pub record At : Type 0 where
@@ -63,4 +63,15 @@ JoinedOrder = (N : Names) (M : List At) → AreJoined N M → IsOrderOfAll N M (
 abbrev pub JoinedIsAtomic : Type 0
 JoinedIsAtomic =
     (objects : ℕ → List Object) (N : Names) (M : List At) (ts : List ℕ) → ((i : ℕ) → IsRun (objects i) (store_history i M)) → IsOrderOfAll N M ts
+    → (i x : ℕ) (o : Object) → slice_get (objects i) x ≡ Some o → IsCovered o → IsLegalOrder o x (store_history i M) (order_at N M i ts)
+
+-- an order of all committed transactions that is one at each store, and keeps there what precedes by operations that survive. It is more: an
+-- operation that a rollback or an abort struck holds no order
+abbrev pub IsLivingOrderOfAll : Names → List At → List ℕ → Type 0
+IsLivingOrderOfAll N M ts = (i : ℕ) → IsOrderOf (commits (store_history i M)) (order_at N M i ts) × ((x : ℕ) → KeepsLiving x (store_history i M) (order_at N M i ts))
+
+-- it is legal too
+abbrev pub JoinedIsAtomicLiving : Type 0
+JoinedIsAtomicLiving =
+    (objects : ℕ → List Object) (N : Names) (M : List At) (ts : List ℕ) → ((i : ℕ) → IsRun (objects i) (store_history i M)) → IsLivingOrderOfAll N M ts
     → (i x : ℕ) (o : Object) → slice_get (objects i) x ≡ Some o → IsCovered o → IsLegalOrder o x (store_history i M) (order_at N M i ts)

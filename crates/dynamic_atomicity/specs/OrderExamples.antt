@@ -5,10 +5,12 @@ use Rattle.type_table.specs.Table.{Table}
 use Rattle.type_table.specs.ConflictTable.{conflicts}
 use Rattle.type_table.specs.Examples.{ok_op}
 use Rattle.type_table.specs.declared.kind.Kind.TheVariants.{Undo, Intentions}
+use Rattle.table_checker.specs.Checked.{Checked}
+use Rattle.table_checker.specs.Examples.{counter_file, no_pairs}
 use Rattle.object_trait.specs.Object.{Object}
 use Rattle.object_trait.specs.declared.event.Event.{Event}
 use Rattle.object_trait.specs.declared.event.EventKind.{EventKind}
-use Rattle.object_trait.specs.declared.event.EventKind.TheVariants.{Begin, Op, Commit}
+use Rattle.object_trait.specs.declared.event.EventKind.TheVariants.{Begin, Op, Commit, Rollback}
 use Rattle.serial_order.specs.Examples.{events, no_amounts, small_account}
 use Rattle.dynamic_atomicity.specs.Dynamic.{Dated}
 use Rattle.dynamic_atomicity.specs.Joined.{At, Names}
@@ -79,3 +81,19 @@ two_stores =
     at_store 0 (Begin 0) ∷ at_store 1 (Begin 0) ∷ at_store 0 (Begin 1) ∷ at_store 1 (Begin 1)
     ∷ at_store 0 (Op 0 0 0) ∷ at_store 1 (Op 0 1 0) ∷ at_store 0 (Op 0 1 0) ∷ at_store 1 (Op 0 0 0)
     ∷ at_store 0 (Commit 0) ∷ at_store 1 (Commit 1) ∷ at_store 0 (Commit 1) ∷ at_store 1 (Commit 0) ∷ []
+
+-- at the first store transaction 0 commits before 1 counts down there, which takes that back; at the second 1 commits before 0 counts down
+abbrev pub struck_stores : List At
+struck_stores =
+    at_store 0 (Begin 0) ∷ at_store 1 (Begin 0) ∷ at_store 0 (Begin 1) ∷ at_store 1 (Begin 1)
+    ∷ at_store 0 (Op 0 0 0) ∷ at_store 1 (Op 0 1 0) ∷ at_store 0 (Commit 0) ∷ at_store 1 (Commit 1)
+    ∷ at_store 0 (Op 1 1 0) ∷ at_store 0 (Rollback 1 1) ∷ at_store 1 (Op 1 0 0) ∷ at_store 0 (Commit 1) ∷ at_store 1 (Commit 0) ∷ []
+
+-- ---- files
+
+-- the counter, accepted for deferred update, and without its pairs, which isn't
+abbrev pub paired_counter : Checked
+paired_counter = record { kind = Intentions; file = counter_file }
+
+abbrev pub loose_counter : Checked
+loose_counter = record { kind = Intentions; file = record counter_file { intentions = no_pairs; intentions_fits = refl } }

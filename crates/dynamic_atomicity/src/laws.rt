@@ -2,9 +2,9 @@
 //! joined, and the converse. Each function does nothing, and its contract is the law.
 
 ghost use Rattle.dynamic_atomicity.specs.Dynamic.{CommitOrderKeeps, CoveredIsAtomic, RunsAreAtomic, RunsAreAtomicLiving};
-ghost use Rattle.dynamic_atomicity.specs.Joined.{JoinedIsAtomic, JoinedOrder};
+ghost use Rattle.dynamic_atomicity.specs.Joined.{JoinedIsAtomic, JoinedIsAtomicLiving, JoinedOrder};
 ghost use Rattle.dynamic_atomicity.specs.Witnessed.{WitnessBreaks};
-ghost use Rattle.dynamic_atomicity.specs.Converse.{CoverIsExact, StrongIsExact, UndoBreaks, UndoSerialIsExact, YesIsExact};
+ghost use Rattle.dynamic_atomicity.specs.Converse.{BreaksAreEnough, CoverIsExact, StrongIsExact, StrongSerialIsExact, UndoBreaks, UndoBreaksAreEnough, UndoSerialIsExact, YesIsExact};
 
 use escrow_laws::{
     firm_after_apply, firm_after_commit, firm_after_strike, firm_is_legal, firm_is_safe,
@@ -71,6 +71,13 @@ pub fn joined_is_atomic()
     covered_is_atomic();
 }
 
+/// And so is each that keeps at every store what precedes by operations that survive.
+pub fn joined_is_atomic_living()
+    ensures { JoinedIsAtomicLiving }
+{
+    runs_are_atomic_living();
+}
+
 /// With update in place, a pair outside the table that doesn't commute gives a run that breaks.
 pub fn undo_breaks()
     ensures { UndoBreaks }
@@ -79,13 +86,20 @@ pub fn undo_breaks()
     legal_ends();
 }
 
-/// A conflict table is enough exactly where each run is dynamically atomic.
-pub fn cover_is_exact()
-    ensures { CoverIsExact }
+/// A conflict table is enough where each run of those that may break is dynamically atomic.
+pub fn breaks_are_enough()
+    ensures { BreaksAreEnough }
 {
     runs_along();
     legal_ends();
+}
+
+/// So it is enough exactly where each run is.
+pub fn cover_is_exact()
+    ensures { CoverIsExact }
+{
     covered_is_atomic();
+    breaks_are_enough();
 }
 
 /// And so is a yes of the checker, where the relation is complete and all states of the set are
@@ -99,9 +113,27 @@ pub fn yes_is_exact()
     cover_is_exact();
 }
 
-/// With update in place, a conflict table is enough exactly where commit order is legal.
+/// With update in place, a conflict table is enough where commit order is legal in each run of those that
+/// may break.
+pub fn undo_breaks_are_enough()
+    ensures { UndoBreaksAreEnough }
+{
+    runs_along();
+    legal_ends();
+}
+
+/// So it is enough exactly where commit order is legal in each run.
 pub fn undo_serial_is_exact()
     ensures { UndoSerialIsExact }
+{
+    covered_is_atomic();
+    commit_order_keeps();
+    undo_breaks_are_enough();
+}
+
+/// And it is so strongly exactly where what was executed and commit order end equieffective.
+pub fn strong_serial_is_exact()
+    ensures { StrongSerialIsExact }
 {
     runs_along();
     legal_ends();
@@ -109,13 +141,13 @@ pub fn undo_serial_is_exact()
     commit_order_keeps();
 }
 
-/// And it is so strongly exactly where all orders end equieffective.
+/// Or, the same, where what was executed and each order that keeps what precedes do.
 pub fn strong_is_exact()
     ensures { StrongIsExact }
 {
-    runs_along();
-    legal_ends();
     covered_is_atomic();
+    commit_order_keeps();
+    strong_serial_is_exact();
 }
 
 /// The history that a witness of a pair gives is a run where the pair isn't in the table, and in an order

@@ -1,18 +1,24 @@
 //! Worked orders: each function does nothing, and its contract is what comes out of them.
 #![tactic(auto, unfolding(type_table::specs::Table::next))]
 
-ghost use Rattle.std.specs.Prelude.{◌≡◌, List, true, false, [], ◌∷◌, Some, None};
+ghost use Rattle.std.specs.Prelude.{◌≡◌, ◌↔◌, ℕ, List, true, false, [], ◌∷◌, Some, None};
 ghost use Rattle.type_table.specs.Run.{IsLegal, Looks};
-ghost use Rattle.type_table.specs.Examples.{one_way};
+ghost use Rattle.type_table.specs.StateSet.{has};
+ghost use Rattle.type_table.specs.Examples.{counter_table, one_way};
+ghost use Rattle.table_checker.specs.Checked.{IsChecked};
+ghost use Rattle.table_checker.specs.Examples.{counter_file};
+ghost use Rattle.object_trait.specs.Object.{object_of};
 ghost use Rattle.serial_order.specs.Operations.{ops, serial};
 ghost use Rattle.serial_order.specs.History.{commits};
 ghost use Rattle.serial_order.specs.Machine.{IsRun};
 ghost use Rattle.serial_order.specs.Serial.{serial_at, surviving_at, IsSerial};
 ghost use Rattle.serial_order.specs.Examples.{entry, undo_one_way, undo_counter, undo_semiqueue, one_way_history, semiqueue_history, lock_history, half_deferred_history, number_object};
-ghost use Rattle.dynamic_atomicity.specs.Dynamic.{comes_first, dated, dated_at, end_state, executed_at, KeepsDated, KeepsObjectPrecedes};
+ghost use Rattle.dynamic_atomicity.specs.Dynamic.{comes_first, dated, dated_at, end_state, executed_at, KeepsDated, KeepsLiving, KeepsObjectPrecedes};
 ghost use Rattle.dynamic_atomicity.specs.Joined.{AreJoined, first_commits, store_history, order_at};
-ghost use Rattle.dynamic_atomicity.specs.Converse.{breaking};
-ghost use Rattle.dynamic_atomicity.specs.OrderExamples.{deferred_parting, fives_history, loose_account, one_way_other, parting, parting_history, same_names, two_stores, with_date};
+ghost use Rattle.dynamic_atomicity.specs.Converse.{breaking, AdmitsLegalOnly, IsComplete, IsReachable, StepsHaveOps};
+ghost use Rattle.dynamic_atomicity.specs.OrderExamples.{deferred_parting, fives_history, loose_account, loose_counter, one_way_other, paired_counter, parting, parting_history, same_names, struck_stores, two_stores, with_date};
+
+use crate::laws::yes_is_exact;
 
 /// Operations that survive have the transactions that had committed before them: one counts down after the
 /// other has committed. One of two that count up takes it back.
@@ -88,6 +94,36 @@ pub fn two_stores_have_one_order()
     ensures one_order { first_commits same_names two_stores ≡ 0 ∷ 1 ∷ [] }
     ensures at_second { order_at same_names two_stores 1 (first_commits same_names two_stores) ≡ 0 ∷ 1 ∷ [] }
 {}
+
+/// What a rollback struck holds no order. By all operations 0 precedes 1 at the first store, and 1 precedes 0 at
+/// the second. By those that survive, 1 before 0 keeps what precedes at both.
+pub fn what_was_struck_holds_no_order()
+    ensures first_runs { IsRun (undo_counter ∷ []) (store_history 0 struck_stores) }
+    ensures second_runs { IsRun (undo_counter ∷ []) (store_history 1 struck_stores) }
+    ensures at_first { order_at same_names struck_stores 0 (1 ∷ 0 ∷ []) ≡ 1 ∷ 0 ∷ [] }
+    ensures at_second { order_at same_names struck_stores 1 (1 ∷ 0 ∷ []) ≡ 1 ∷ 0 ∷ [] }
+    ensures first_kept { KeepsLiving 0 (store_history 0 struck_stores) (1 ∷ 0 ∷ []) }
+    ensures second_kept { KeepsLiving 0 (store_history 1 struck_stores) (1 ∷ 0 ∷ []) }
+    ensures precedes { KeepsObjectPrecedes 0 (store_history 0 struck_stores) (1 ∷ 0 ∷ []) → ⊥ }
+    ensures turned { KeepsLiving 0 (store_history 1 struck_stores) (0 ∷ 1 ∷ []) → ⊥ }
+    ensures first_end { end_state undo_counter (serial (1 ∷ 0 ∷ []) (surviving_at 0 (store_history 0 struck_stores))) ≡ Some 1 }
+    ensures second_end { end_state undo_counter (serial (1 ∷ 0 ∷ []) (surviving_at 0 (store_history 1 struck_stores))) ≡ Some 0 }
+{}
+
+/// The checker says yes of the counter under deferred update, so each order that keeps what precedes is legal. Without
+/// its pairs it has no yes, so not each is.
+pub fn a_yes_of_the_counter_is_exact()
+    ensures named { StepsHaveOps counter_table }
+    ensures complete { IsComplete counter_file }
+    ensures reached { (s : ℕ) → has counter_file.reach s ≡ true → IsReachable counter_table s }
+    ensures exact { IsChecked paired_counter ↔ AdmitsLegalOnly (object_of paired_counter ∷ []) 0 (object_of paired_counter) }
+    ensures yes { IsChecked paired_counter }
+    ensures legal { AdmitsLegalOnly (object_of paired_counter ∷ []) 0 (object_of paired_counter) }
+    ensures exact_without { IsChecked loose_counter ↔ AdmitsLegalOnly (object_of loose_counter ∷ []) 0 (object_of loose_counter) }
+    ensures not_legal { AdmitsLegalOnly (object_of loose_counter ∷ []) 0 (object_of loose_counter) → ⊥ }
+{
+    yes_is_exact();
+}
 
 /// An account in whose table it is left out that to pay in conflicts with a balance of 0: the run that breaks, in
 /// commit order and at the second of two objects.

@@ -1,0 +1,9 @@
+pub mod Commits
+pub mod Reaching
+pub mod Stores
+pub mod Admits
+pub mod Searching
+pub mod Breaking
+pub mod Numbers
+pub mod Parts
+pub mod Lasting

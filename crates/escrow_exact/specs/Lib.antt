@@ -1,0 +1,4 @@
+pub mod Ends
+pub mod Stores
+pub mod Laws
+pub mod Examples
