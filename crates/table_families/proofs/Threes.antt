@@ -11,7 +11,7 @@ digit_of-below Held = omega arith
 digit_of-below Booked = omega arith
 
 -- a later digit is one of the number without the first
-digit-later : (s i : ℕ) → digit_at s (suc i) ≡ digit_at (s / 3) i
+pub digit-later : (s i : ℕ) → digit_at s (suc i) ≡ digit_at (s / 3) i
 digit-later s i = rw (pow-succ' 3 i, ← div-div-eq-div-mul s 3 (3 ^ i)) refl
 
 -- a digit, in its place, is at most the number

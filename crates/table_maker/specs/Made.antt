@@ -2,9 +2,13 @@
 use Rattle.std.specs.Prelude.{◌≡◌, ℕ, ◌/◌, ◌%◌, ◌<◌, ◌≤◌, Bool, true, false, List, length, map, if◌then◌else◌, Option, Some, None, Result, Ok, Err, replicate}
 use Rattle.std.specs.List.{range_with_len}
 use Rattle.type_table.specs.Op.{has_twin}
-use Rattle.type_table.specs.Table.{Table, next}
+use Rattle.type_table.specs.Table.{Table, IsTable, next}
 use Rattle.type_table.specs.declared.op.Op.{Op}
+use Rattle.equi_cert.specs.Relation.{relates}
 use Rattle.declared_types.specs.declared.type_file.TypeFile.{TypeFile}
+use Rattle.table_checker.specs.declared.condition.Condition.TheVariants.{Forward, Backward}
+use Rattle.exact_tables.specs.Exact.{IsExact}
+use Rattle.table_maker.specs.MadeConflicts.{AreMadeConflicts}
 use Rattle.table_maker.specs.declared.make_error.MakeError.{MakeError}
 use Rattle.table_maker.specs.declared.make_error.MakeError.TheVariants.{BadParameter, TooLarge, NoMemory}
 
@@ -44,10 +48,19 @@ pub record IsTableOfFamily (f : Family) (T : Table) : Type 0 where
   pub ops : T.ops ≡ f.ops
   pub steps : (s k : ℕ) → s < f.states → k < length f.ops → next T s k ≡ f.step s k
 
--- the file has the family's table and the set of all its states
+-- the file is what its table and its set make it: a state is related to another exactly where it looks like it, and for each kind exactly
+-- the pairs conflict that fail at some state of the set
+pub record IsMadeFile (file : TypeFile) : Type 0 where
+  pub table : IsTable file.table
+  pub relation : IsExact file.table (relates file.relation)
+  pub undo : AreMadeConflicts Backward file file.undo
+  pub intentions : AreMadeConflicts Forward file file.intentions
+
+-- the file has the family's table and the set of all its states, and is what these make it
 pub record IsFileOfFamily (f : Family) (file : TypeFile) : Type 0 where
   pub table : IsTableOfFamily f file.table
   pub reach : file.reach ≡ replicate f.states true
+  pub made : IsMadeFile file
 
 -- `BadParameter` exactly where the parameters aren't good, else `TooLarge` exactly where the family has too many states or
 -- operations, else the family's file, or refused memory

@@ -1,9 +1,9 @@
 ghost use Rattle.std.specs.Prelude.{◌≡◌, true, length, IfOk, IfErr};
 ghost use Rattle.std.specs.List.{list_any};
 ghost use Rattle.equi_cert.specs.Relation.{relates};
+ghost use Rattle.type_table.specs.Table.{IsTable};
 ghost use Rattle.exact_tables.specs.Exact.{IsExact};
-ghost use Rattle.table_checker.specs.declared.condition.Condition.TheVariants.{Forward, Backward};
-ghost use Rattle.table_maker.specs.MadeConflicts.{AreMadeConflicts};
+ghost use Rattle.table_maker.specs.Made.{IsMadeFile};
 ghost use Rattle.table_maker.specs.declared.make_error.MakeError.TheVariants.{NoMemory};
 
 use crate::made_conflicts::made_conflicts;
@@ -25,9 +25,7 @@ pub fn make_tables(alloc: Global, table: &TypeTable, set: StateSet) -> Result<Ty
     requires some { list_any (λ member. member) set ≡ true }
     ensures table { IfOk result (λ file. file.table ≡ table.now) }
     ensures set { IfOk result (λ file. file.reach ≡ set) }
-    ensures relation { IfOk result (λ file. IsExact file.table (relates file.relation)) }
-    ensures undo { IfOk result (λ file. AreMadeConflicts Backward file file.undo) }
-    ensures intentions { IfOk result (λ file. AreMadeConflicts Forward file file.intentions) }
+    ensures made { IfOk result IsMadeFile }
     ensures memory { IfErr result (λ error. error ≡ NoMemory) }
 {
     let mut file = bare_file(alloc, table, set)?;
@@ -42,6 +40,7 @@ fn bare_file(alloc: Global, table: &TypeTable, set: StateSet) -> Result<TypeFile
     requires some { list_any (λ member. member) set ≡ true }
     ensures table { IfOk result (λ file. file.table ≡ table.now) }
     ensures set { IfOk result (λ file. file.reach ≡ set) }
+    ensures whole { IfOk result (λ file. IsTable file.table) }
     ensures relation { IfOk result (λ file. IsExact file.table (relates file.relation)) }
 {
     let relation = Distances::new(alloc, table)?.relation(alloc, table)?;

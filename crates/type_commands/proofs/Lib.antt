@@ -4,3 +4,4 @@ pub mod Words
 pub mod Asked
 pub mod Explaining
 pub mod RowOps
+pub mod Accepted

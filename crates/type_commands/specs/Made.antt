@@ -3,9 +3,7 @@ use Rattle.std.specs.Prelude.{◌≡◌, ℕ, List, Option, Some, None, Result, 
 use Rattle.command_files.specs.Answers.{Answers}
 use Rattle.command_files.specs.Files.{IsFileAt}
 use Rattle.command_files.specs.declared.status.Verdict.TheVariants.{Yes, No}
-use Rattle.table_checker.specs.declared.condition.Condition.TheVariants.{Forward, Backward}
-use Rattle.table_maker.specs.Made.{IsFileOfFamily}
-use Rattle.table_maker.specs.MadeConflicts.{AreMadeConflicts}
+use Rattle.table_maker.specs.Made.{IsFileOfFamily, IsMadeFile}
 use Rattle.table_maker.specs.declared.make_error.MakeError.{MakeError}
 use Rattle.table_maker.specs.declared.make_error.MakeError.TheVariants.{BadParameter, TooLarge, NoMemory}
 use Rattle.declared_text.specs.Canonical.{canonical_text as declared_text}
@@ -55,16 +53,11 @@ CannotBeMade (Some wanted) = IsGood wanted → Fits wanted → ⊥
 
 -- ---- `tables`
 
--- both conflict tables have exactly the pairs that fail somewhere in the set
-pub record HasMadeTables (file : TypeFile) : Type 0 where
-  pub undo : AreMadeConflicts Backward file file.undo
-  pub intentions : AreMadeConflicts Forward file file.intentions
-
--- the table and the set are those of the given file, and the conflict tables are made
+-- the table and the set are those of the given file, and the relation and the conflict tables are made of these
 pub record IsMadeOf (given file : TypeFile) : Type 0 where
   pub table : file.table ≡ given.table
   pub reach : file.reach ≡ given.reach
-  pub tables : HasMadeTables file
+  pub made : IsMadeFile file
 
 -- the text is that of a file with made tables in place of the given file's
 abbrev pub MakesTables : TypeFile → Answers

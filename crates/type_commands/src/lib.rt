@@ -13,7 +13,7 @@ mod write;
 
 pub use check::check_file;
 pub use explain::explain_file;
-pub use laws::bounds_by_amount;
+pub use laws::{bounds_by_amount, says_yes_of_made, says_yes_of_tables};
 pub use make::make_family;
 pub use tables::make_tables_of;
 

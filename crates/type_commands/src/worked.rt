@@ -13,7 +13,9 @@ ghost use Rattle.number_types.specs.Number.{Number, IsNumber};
 ghost use Rattle.number_types.specs.Operations.{number_table};
 ghost use Rattle.declared_types.specs.Declarations.{number_file, rows_of};
 ghost use Rattle.declared_types.specs.declared.declared_type.Declaration.TheVariants.{Number as Numbers};
+ghost use Rattle.type_commands.specs.Accepted.{IsFor, IsSaidStrongly};
 ghost use Rattle.type_commands.specs.Explain.{asked_rows};
+ghost use Rattle.type_commands.specs.Request.{counter, number, queue};
 ghost use Rattle.type_commands.specs.Rows.{type_row_line, rows_text};
 ghost use Rattle.type_commands.specs.Verdict.{CannotBeChecked, ChecksFile, IsToldEscrow, SaysOf};
 
@@ -42,6 +44,16 @@ pub fn the_credit_is_for_escrow()
     numbers_are_strong();
     a_text_declares_the_credit();
 }
+
+/// What `make` makes is for escrow where it is a counter, and not where it is a queue; a number is for nothing else.
+pub fn a_queue_is_not_for_escrow()
+    ensures counter { IsFor (counter 2 (1 ∷ [])) Kind.Escrow }
+    ensures queue { IsFor (queue (codes "a" ∷ []) 2) Kind.Undo }
+    ensures no_queue { IsFor (queue (codes "a" ∷ []) 2) Kind.Escrow → ⊥ }
+    ensures number { IsFor (number 5 (1 ∷ [])) Kind.Undo → ⊥ }
+    ensures strong { IsSaidStrongly Verdict.Yes (codes "yes strong\n") }
+    ensures one_way { IsSaidStrongly Verdict.Yes (codes "yes one-way\n") → ⊥ }
+{}
 
 /// That a number needs escrow is told by no answer, and by no fault of a text.
 pub fn a_number_is_told()

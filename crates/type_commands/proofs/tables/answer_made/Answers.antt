@@ -11,7 +11,7 @@ returns-in-Ok g c =
     let made : IsMadeOf c.args.file.now c.in-Ok.made = record {
       table = c.in-Ok.ensures.table;
       reach = c.in-Ok.ensures.set;
-      tables = record { undo = c.in-Ok.ensures.undo; intentions = c.in-Ok.ensures.intentions };
+      made = c.in-Ok.ensures.made;
     } in
     let answered : Comes (IsThis Yes (canonical_text c.in-Ok.made)) ⊥ c.answer_declared.result (g.W.Out.taken c.args.out.now) (g.W.Out.taken c.answer_declared.new.out) =
     rw c.table-declared.ensures at c.answer_declared.ensures in

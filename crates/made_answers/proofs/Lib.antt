@@ -1,0 +1,12 @@
+mod Yeses
+mod Strong
+mod Alone
+mod Sets
+mod Seats
+mod Queues
+mod Semiqueues
+mod Families
+mod Numeric
+mod Amounts
+mod Numbers
+mod Examples
