@@ -355,7 +355,7 @@ asked_passes listed are words left (asked.audit a) well are_for = audit_taken li
 asked_passes listed are words left (asked.work w) well are_for = work_taken listed w words well are_for
 asked_passes listed are words left (asked.serve s) well are_for = absurd (left.0.3 are_for.0 are_for.1)
 asked_passes listed are words left (asked.audit_database path) well are_for = absurd (left.0.1 path are_for)
-asked_passes listed are words left (asked.audit_ordered a) well are_for = absurd (left.1 a are_for)
+asked_passes listed are words left (asked.audit_ordered a) well are_for = absurd (left.1 _ are_for.are)
 asked_passes listed are words left (asked.help topic) well are_for = absurd (left.0.0 topic are_for)
 asked_passes listed are words left asked.version well are_for = absurd (left.0.2 are_for)
 

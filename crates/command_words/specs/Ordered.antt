@@ -1,18 +1,27 @@
 -- The words of an audit in an order that is given.
-use Rattle.std.specs.Prelude.{◌≡◌, ◌==◌, ℕ, ◌<◌, ◌^◌, length, List, [], ◌∷◌, All, codes}
+use Rattle.std.specs.Prelude.{◌≡◌, ◌⊎◌, ◌==◌, ℕ, ◌<◌, ◌^◌, length, List, [], ◌∷◌, All, Some, codes}
 use Rattle.std.specs.List.{after_first, before_first, position_or_len}
 use Rattle.clap.specs.Walk.{Text}
-use Rattle.command_words.specs.Lines.{SpellsNumber, IsPlain}
+use Rattle.command_words.specs.Lines.{IsPlain}
+use Rattle.decimals.specs.Decimals.{long_number_of}
 
 -- the text has a comma
 abbrev pub HasComma : Text → Type 0
 HasComma text = position_or_len (λ b. b == 44) text < length text
 
--- the text is these numbers, each below 2 ^ 32, with a comma between two
+-- the word is the number of a transaction, below 2 ^ 32: `0`, or decimal digits without a leading zero
+abbrev pub SpellsTransaction : Text → ℕ → Type 0
+SpellsTransaction word n = (long_number_of word ≡ Some n) × (n < 2 ^ 32)
+
+-- the text is these numbers, with a comma between two
 pub data SpellsNumbers : Text → List ℕ → Type 0 where
-  one : (text : Text) (n : ℕ) → ¬ (HasComma text) → SpellsNumber text n → n < 2 ^ 32 → SpellsNumbers text (n ∷ [])
-  more : (text : Text) (n : ℕ) (ns : List ℕ) → HasComma text → SpellsNumber (before_first (λ b. b == 44) text) n → n < 2 ^ 32
+  one : (text : Text) (n : ℕ) → ¬ (HasComma text) → SpellsTransaction text n → SpellsNumbers text (n ∷ [])
+  more : (text : Text) (n : ℕ) (ns : List ℕ) → HasComma text → SpellsTransaction (before_first (λ b. b == 44) text) n
       → SpellsNumbers (after_first (λ b. b == 44) text) ns → SpellsNumbers text (n ∷ ns)
+
+-- the list is empty and has no number, or it is these
+abbrev pub SpellsOrder : Text → List ℕ → Type 0
+SpellsOrder list ns = ((list ≡ []) × (ns ≡ [])) ⊎ SpellsNumbers list ns
 
 -- a history that is to be audited in an order
 pub record Ordered : Type 0 where
@@ -27,6 +36,6 @@ pub record Ordered : Type 0 where
 pub record AreOrderedWords (words : List Text) (a : Ordered) : Type 0 where
   pub list : Text
   pub are : words ≡ codes "audit" ∷ codes "--order" ∷ list ∷ a.history ∷ a.types
-  pub order : SpellsNumbers list a.order
+  pub order : SpellsOrder list a.order
   pub plain : IsPlain a.history × All IsPlain a.types
   pub some : 0 < length a.types

@@ -184,9 +184,13 @@ abbrev pub AreOfNoDirectTask : List Text → Type 0
 AreOfNoDirectTask words =
     ((topic : Topic) → words ≢ help_words topic) × ((path : Text) → ¬ (AreFor words (audit_database path))) × ¬ (AreFor words version) × AreOfNoServe words
 
--- nor for an audit in an order: what else they ask for is read by `clap`
+-- the words don't begin with `audit --order`
+abbrev pub AreOfNoGivenOrder : List Text → Type 0
+AreOfNoGivenOrder words = (rest : List Text) → words ≢ codes "audit" ∷ codes "--order" ∷ rest
+
+-- so what else they ask for is read by `clap`
 abbrev pub AreLeftToClap : List Text → Type 0
-AreLeftToClap words = AreOfNoDirectTask words × ((a : Ordered) → ¬ (AreFor words (audit_ordered a)))
+AreLeftToClap words = AreOfNoDirectTask words × AreOfNoGivenOrder words
 
 -- the words are no task's that has plain words
 abbrev pub AreNoTask : List Text → Type 0

@@ -288,8 +288,9 @@ Options, anywhere after audit and before any --:
 
 After --order come all committed transactions, each once: they are run in this
 order in place of that of their commits. No T may come after a U that executed
-an operation after T's commit, unless it was struck: T precedes U. The words
-are in this order, and no path begins with a hyphen.
+an operation after T's commit, unless it was struck: T precedes U. Where none is
+committed, T,T,.. is the empty word ''. The words are in this order, and no path
+begins with a hyphen.
 
 DATABASE is the path of the file of a store. Its history is that which colock
 history writes, and is audited with the file's own types, from the states where
@@ -419,8 +420,8 @@ with a hyphen follows --.
                      leave each byte old or new. A commit then syncs once, and
                      else twice.
   --archive FOLDER   Before an epoch ends, its history is written to a file of
-                     FOLDER, LIFE.history, where LIFE is the number of its last
-                     life.
+                     FOLDER, ID-LIFE.history, where ID is the store's id in 32
+                     hex digits, and LIFE the number of the epoch's last life.
   --drain S          How many seconds what is open may go on in an epoch that is
                      full, 0 to 4294967295, and 5 by default.
 

@@ -166,7 +166,7 @@ fn with_drain<'a>(seconds: &str, parts: Option<Parts<'a>>) -> Option<Parts<'a>>
 }
 
 /// The number of a text.
-pub(crate) fn number_of(text: &str) -> Option<u32>
+fn number_of(text: &str) -> Option<u32>
     ensures number { IfSome result (SpellsNumber text.now) }
     ensures other { IfNone result ((n : ℕ) → n < 2 ^ 32 → ¬ (SpellsNumber text.now n)) }
 {
@@ -218,6 +218,6 @@ fn fault_of(alloc: Global, words: &[&str]) -> WordFault {
 }
 
 /// Whether the word calls for help.
-fn asks_help(word: &str) -> bool {
+pub(crate) fn asks_help(word: &str) -> bool {
     word == "--help" || word == "-h"
 }

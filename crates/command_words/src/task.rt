@@ -164,7 +164,7 @@ pub enum WordFault {
     /// A fault of the command line, or a call for help by `--help` or `-h`.
     #[error("{text}")]
     Usage {
-        /// What `clap` says to the user, with its line ends.
+        /// What is said to the user, with its line ends.
         text: String,
     },
     /// A growth was refused.

@@ -7,7 +7,7 @@ ghost use Rattle.command_words.specs.Program.{AskSomething, AreMatchesOf, HasAud
 ghost use Rattle.command_words.specs.declared.task.Topic.{Topic};
 ghost use Rattle.type_table.specs.Kind.{kind_word};
 ghost use Rattle.type_table.specs.declared.kind.Kind.{Kind};
-ghost use Rattle.command_words.specs.Words.{AreLeftToClap, AreNoTask, AreOfNoDirectTask, AreOfNoServe, AreWordsOf, Asked, OnUsage, Text, asked_of, help_words, pair_of, pair_words};
+ghost use Rattle.command_words.specs.Words.{AreLeftToClap, AreNoTask, AreOfNoDirectTask, AreOfNoGivenOrder, AreOfNoServe, AreWordsOf, Asked, OnUsage, Text, asked_of, help_words, pair_of, pair_words};
 ghost use Rattle.command_words.specs.Words as asked;
 ghost use Rattle.command_words.specs.Lines.{Audit, Work};
 
@@ -24,31 +24,40 @@ use type_table::Kind;
 /// have one `--` among them. The options of `audit`, `work` and `stress` may be anywhere before it, in
 /// either form. A fault of the command line comes of no words of a task, where none of the paths,
 /// FAMILY, SIZE, the ITEMs, P and Q begins with a hyphen; `--help` among the words is such a fault. Which
-/// of the two faults comes is `clap`'s, but for `serve`. After `audit --database` comes one word, which
-/// is the path whatever it is; after `audit --order` come the transactions, HISTORY and the TYPEs, and no option.
+/// of the two faults comes is `clap`'s, but for `serve` and `audit --order`. After `audit --database` comes one word,
+/// which is the path whatever it is; after `audit --order` come the transactions, HISTORY and the TYPEs, and no option.
 pub fn read_words<'a>(alloc: Global, words: &'a [&'a str]) -> Result<Task<'a>, WordFault>
     ensures taken { IfOk result (AreWordsOf (texts words.now)) }
     ensures refused { IfErr result (λ fault. OnUsage fault (AreNoTask (texts words.now))) }
 {
     match words {
         ["serve", rest @ ..] => read_serve(alloc, rest),
-        _ => read_other(alloc, words),
+        _ => read_not_serve(alloc, words),
     }
 }
 
 /// The task of words that don't begin with `serve`.
-fn read_other<'a>(alloc: Global, words: &'a [&'a str]) -> Result<Task<'a>, WordFault>
+fn read_not_serve<'a>(alloc: Global, words: &'a [&'a str]) -> Result<Task<'a>, WordFault>
     requires { AreOfNoServe (texts words.now) }
     ensures taken { IfOk result (AreWordsOf (texts words.now)) }
     ensures refused { IfErr result (λ fault. OnUsage fault (AreNoTask (texts words.now))) }
 {
-    if let Some(task) = direct_task(words) {
-        return Ok(task);
+    match words {
+        ["audit", "--order", rest @ ..] => read_ordered(alloc, rest),
+        _ => read_other(alloc, words),
     }
-    match read_ordered(alloc, words) {
-        Ok(Some(task)) => Ok(task),
-        Ok(None) => read_order(alloc, words),
-        Err(AllocError) => Err(WordFault::NoMemory),
+}
+
+/// The task of words that begin neither with `serve` nor with `audit --order`.
+fn read_other<'a>(alloc: Global, words: &'a [&'a str]) -> Result<Task<'a>, WordFault>
+    requires no_serve { AreOfNoServe (texts words.now) }
+    requires no_order { AreOfNoGivenOrder (texts words.now) }
+    ensures taken { IfOk result (AreWordsOf (texts words.now)) }
+    ensures refused { IfErr result (λ fault. OnUsage fault (AreNoTask (texts words.now))) }
+{
+    match direct_task(words) {
+        Some(task) => Ok(task),
+        None => read_order(alloc, words),
     }
 }
 

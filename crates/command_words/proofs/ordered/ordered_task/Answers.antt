@@ -1,10 +1,12 @@
-use Rattle.std.proofs.Common.{◌∷◌, ◌<◌, List, length, ap, arith, refl, subst, sym, Bor}
+use Rattle.std.proofs.Common.{◌∷◌, ◌<◌, List, ℕ, length, ap, arith, refl, subst, sym, Bor}
 use Rattle.std.proofs.lemmas.Bool.{eqb-false}
 use Rattle.std.proofs.lemmas.List.{length-map}
 use Rattle.std.specs.Prelude.{All, codes}
 use Rattle.clap.specs.Walk.{texts}
 use Rattle.command_words.specs.Lines.{IsPlain}
+use Rattle.command_words.specs.Ordered.{SpellsOrder}
 use Rattle.command_words.specs.Words.{Text}
+use Rattle.command_words.proofs.OrderedLemmas.{list_is}
 use Rattle.command_words.proofs.ordered.ordered_task.Goals as goal
 
 pub returns-clause-taken : goal.returns-clause-taken
@@ -23,3 +25,8 @@ returns-clause-taken c =
         some = subst (λ (ts : List Text). 0 < length ts) types_are (omega (arith, eqb-false _ _ (sym some), many));
       },
     )
+
+pub returns-in_default-clause-other : goal.returns-in_default-clause-other
+returns-in_default-clause-other c =
+    let none : (ns : List ℕ) → ¬ (SpellsOrder c.args.list.now ns) = rw c.in_default.is at c.in_ok-order.ensures in
+    λ a are. none a.order (list_is c.args.list.now c.args.history.now (texts c.args.types.now) a are)
