@@ -3,8 +3,8 @@ use Rattle.std.specs.Prelude.{◌≡◌, ℕ, List, [], ◌∷◌, ◌++◌, Opt
 use Rattle.table_checker.specs.Checked.{Checked}
 use Rattle.object_trait.specs.Meaning.{Meaning}
 use Rattle.object_trait.specs.Steps.{IsFresh}
-use Rattle.store_laws.specs.Stored.{types_of}
-use Rattle.store.specs.Ends.{MayBegin, RefusesNew}
+use Rattle.store.specs.Ends.{MayBegin, RefusesNew, begun}
+use Rattle.type_table.specs.Limits.{longest_history}
 use Rattle.store.specs.declared.refusals.NewRefusal.{NewRefusal}
 use Rattle.colock_c.specs.Codes.{number, new_code}
 use Rattle.colock_c.specs.Holding.{objects_at, store_at}
@@ -18,5 +18,5 @@ pub data AddsObject (ms : List Meaning) (c : Checked) (n : ℕ) (new : Option He
 
 -- a store of these objects with no event yet, or the code of the refusal and the same objects
 pub data MakesStore (ms : List Meaning) (max n : ℕ) (new : Option Held) : Type 0 where
-  made : n ≡ number Done → MayBegin ms max → store_at new ≡ Some (record { types = types_of ms; history = []; max = max; forgotten = 0 }) → MakesStore ms max n new
-  not_made : (why : NewRefusal) → n ≡ number (new_code why) → RefusesNew ms max why → objects_at new ≡ Some ms → MakesStore ms max n new
+  made : n ≡ number Done → MayBegin longest_history ms max → store_at new ≡ Some (begun ms max) → MakesStore ms max n new
+  not_made : (why : NewRefusal) → n ≡ number (new_code why) → RefusesNew longest_history ms max why → objects_at new ≡ Some ms → MakesStore ms max n new

@@ -10,9 +10,8 @@ use Rattle.table_checker.specs.Checked.{Checked, IsChecked}
 use Rattle.declared_types.specs.Declarations.{file_of, IsDeclaredFor}
 use Rattle.table_checker.specs.Refusal.{IsFirstReason}
 use Rattle.declared_types.specs.declared.declared_type.Declaration.{Declaration}
-use Rattle.table_checker.specs.declared.condition.Condition.TheVariants.{Forward, Backward}
 use Rattle.table_checker.specs.declared.refusal.CheckRefusal.{CheckRefusal}
-use Rattle.table_maker.specs.MadeConflicts.{AreMadeConflicts}
+use Rattle.table_maker.specs.Made.{IsMadeFile}
 use Rattle.colock_c.specs.Codes.{number}
 use Rattle.colock_c.specs.Holding.{type_at}
 use Rattle.colock_c.specs.Words.{fault_words, refusal_words}
@@ -79,12 +78,11 @@ pub data HasNoFile (text : List ℕ) (kind : Kind) (was : ColockFault) (n : ℕ)
 
 -- ---- of a table whose relation and conflicts are made
 
--- the table and the set are those of the given file, and the conflict tables have exactly the pairs that fail somewhere in the set
+-- the table and the set are those of the given file, and the relation and the conflict tables are made of these
 pub record HasRemadeTables (given file : TypeFile) : Type 0 where
   pub table : file.table ≡ given.table
   pub reach : file.reach ≡ given.reach
-  pub undo : AreMadeConflicts Backward file file.undo
-  pub intentions : AreMadeConflicts Forward file file.intentions
+  pub made : IsMadeFile file
 
 -- the file has made tables in place of those of the type file that the text is
 abbrev pub IsTabledOf : List ℕ → TypeFile → Type 0

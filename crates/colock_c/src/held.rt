@@ -97,7 +97,7 @@ impl Held {
         ensures no_objects { objects_at (Some self) ≡ None → (result.1 ≡ Code.NotHeld) × (result.0 ≡ self) }
     {
         match self {
-            Held::OfObjects(objects) => match Store::new(alloc, objects, max_events) {
+            Held::OfObjects(objects) => match Store::lasting(alloc, objects, max_events) {
                 Ok(store) => (Held::OfStore(store), Code::Done),
                 Err((objects, refusal)) => (Held::OfObjects(objects), new_code(refusal)),
             },

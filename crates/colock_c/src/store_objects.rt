@@ -6,6 +6,7 @@ ghost use Rattle.object_trait.specs.Meaning.{Meaning};
 ghost use Rattle.object_trait.specs.Steps.{IsFresh};
 ghost use Rattle.objects.specs.Object.{meaning_of};
 ghost use Rattle.store.specs.Ends.{is_limit};
+ghost use Rattle.type_table.specs.Limits.{longest_history};
 ghost use Rattle.colock_c.specs.Codes.{number};
 ghost use Rattle.colock_c.specs.Holding.{objects_at, type_at};
 ghost use Rattle.colock_c.specs.Making.{AddsObject, MakesStore};
@@ -62,7 +63,7 @@ pub(crate) fn make(alloc: Global, held: &mut Held, max_events: u64) -> Code
 
 /// A limit of events, as a store takes it. What is too large for a limit is as 0, which is none.
 fn limit_of(max_events: u64) -> u32
-    ensures { (result ≡ max_events) ⊎ ((is_limit result ≡ false) × (is_limit max_events ≡ false)) }
+    ensures { (result ≡ max_events) ⊎ ((is_limit longest_history result ≡ false) × (is_limit longest_history max_events ≡ false)) }
 {
     if max_events <= u64::from(u32::MAX) {
         max_events as u32

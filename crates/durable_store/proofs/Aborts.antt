@@ -11,7 +11,9 @@ use Rattle.object_trait.specs.declared.event.EventKind.TheVariants.{Begin, Op, B
 use Rattle.serial_order.specs.History.{summary}
 use Rattle.serial_order.specs.After.{beginners}
 use Rattle.store.specs.Ends.{closing_but, is_other}
-use Rattle.store_laws.specs.Stored.{Stored}
+use Rattle.serial_order.specs.Machine.{IsRun}
+use Rattle.store.specs.OwnHistory.{ClosingIsOwn, IsOwnHistory}
+use Rattle.store_laws.specs.Stored.{Stored, objects}
 use Rattle.journal.specs.Journal.{written}
 use Rattle.durable_store.specs.declared.durable.Durable.{Durable}
 use Rattle.durable_store.specs.Types.{HasTypes}
@@ -40,9 +42,9 @@ closing-by-zero those happened =
     (filter (is_other those (summary (events_of_kinds happened))) (range_with_len 0 (summary (events_of_kinds happened)).begun))
 
 -- the aborts of what was open, but of those, are what the journal hasn't yet
-pub aborts-behind : {S : Type 0} (g : Ghosts S) (those : List ℕ) (d : Durable S) (s : Stored) (count : ℕ) → IsDurable g d → count ≡ length d.store.history → d.store.forgotten ≤ count
+pub aborts-behind : {S : Type 0} (g : Ghosts S) (those : List ℕ) (d : Durable S) (s : Stored) (count : ℕ) → ClosingIsOwn → IsRun (objects d.store) d.store.history → IsDurable g d → count ≡ length d.store.history → d.store.forgotten ≤ count
     → s ≡ record d.store { history = d.store.history ++ closing_but those d.store.history } → IsBehind g (record { store = s; journal = d.journal }) count
-aborts-behind g those d s count sound is remembered aborted =
+aborts-behind g those d s count closing run sound is remembered aborted =
     let more = closing_but those d.store.history in
     let history : s.history ≡ d.store.history ++ more = ap (λ (s : Stored). s.history) aborted in
     let rest : drop count s.history ≡ more = ap₂ drop is history ∙ drop-append_seam d.store.history more in
@@ -51,6 +53,8 @@ aborts-behind g those d s count sound is remembered aborted =
       journal = sound.journal;
       types = λ clean. subst (HasTypes (written g d.journal)) (sym (ap (λ (s : Stored). s.types) aborted)) (sound.types clean);
       settled = sound.settled;
+      limit = ap (λ (s : Stored). s.max) aborted ∙ sound.limit;
+      own = subst IsOwnHistory (sym aborted) (closing those d.store run sound.own);
       remembered = subst (λ (s : Stored). s.forgotten ≤ count) (sym aborted) remembered;
       inside = omega (arith, long, is);
       history = λ clean. ap₂ take is history ∙ take-append_seam d.store.history more ∙ sound.history clean;

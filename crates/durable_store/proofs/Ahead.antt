@@ -15,6 +15,7 @@ use Rattle.serial_order.specs.Epochs.{types_at}
 use Rattle.serial_order.proofs.EpochTypes.{is-at, length-types_at}
 use Rattle.store.specs.Renews.{Renews}
 use Rattle.store_laws.specs.Stored.{Stored}
+use Rattle.store.specs.OwnHistory.{IsOwnHistory}
 use Rattle.store_text.specs.declared.line.ObjectLine.{ObjectLine}
 use Rattle.journal.specs.declared.state_row.FirstState.{FirstState}
 use Rattle.journal.specs.Contents.{Contents, from_states}
@@ -83,7 +84,9 @@ ahead g d new sound renews =
     record {
       journal = sound.journal;
       settled = sound.settled;
+      limit = ap (λ (s : Stored). s.max) renews.is ∙ sound.limit;
       none = ap (λ (s : Stored). s.history) renews.is;
+      own = subst IsOwnHistory (sym renews.is) tt;
       as_many = λ clean. ap length types ∙ length-types_at d.store.types renews.kept renews.as_many ∙ (sound.types clean).as_many ∙ sym (sound.types clean).as_many_states;
       types = λ clean.
           subst (λ ts. HasTypes (from_states (written g d.journal) (firsts ts)) ts) (sym types)

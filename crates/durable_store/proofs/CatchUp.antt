@@ -37,4 +37,6 @@ caught-up g d count new es (Ok x) late rest kept more same was crash = record {
       ∙ sym (map-append (λ k. let e : Event = record { worker = 0; kind = k } in e) (written g d.journal).events (kinds es))
       ∙ ap (λ (c : Contents). events_of_kinds c.events) (sym (more clean));
   settled = λ clean db left. late.settled (was clean) db (crash db left) ∙ sym (same clean);
+  limit = late.limit;
+  own = late.own;
 }

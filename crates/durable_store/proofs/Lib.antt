@@ -4,4 +4,6 @@ pub mod Begun
 pub mod CatchUp
 pub mod Firsts
 pub mod Found
+mod Followed
+mod Stepped
 pub mod New

@@ -2,8 +2,10 @@
 use Rattle.std.specs.Prelude.{◌≡◌, ℕ, ◌≤◌, List, ◌++◌, map, take, drop, length}
 use Rattle.sqlite_trees.specs.declared.store.Store.{Ghosts}
 use Rattle.sqlite_trees.specs.Tree.{Trees}
+use Rattle.type_table.specs.Limits.{most_events}
 use Rattle.object_trait.specs.declared.event.Event.{Event}
 use Rattle.object_trait.specs.declared.event.EventKind.{EventKind}
+use Rattle.store.specs.OwnHistory.{IsOwnHistory}
 use Rattle.journal.specs.Contents.{Contents}
 use Rattle.journal.specs.Journal.{Clean, IsJournal, IsSettled, durable, may_leave, written}
 use Rattle.durable_store.specs.declared.durable.Durable.{Durable}
@@ -17,22 +19,31 @@ kinds events = map (λ (e : Event). e.kind) events
 abbrev pub events_of_kinds : List EventKind → List Event
 events_of_kinds happened = map (λ k. let e : Event = record { worker = 0; kind = k } in e) happened
 
+-- one of them
+abbrev pub event_of_kind : EventKind → Event
+event_of_kind kind = record { worker = 0; kind = kind }
+
 -- with these events more
 abbrev pub with_all : Contents → List Event → Contents
 with_all c more = record c { events = c.events ++ kinds more }
 
--- the journal has the whole history, the types are those of its objects, and a crash at this moment leaves what was settled
+-- the journal has the whole history, which the store's commands made; the types are those of its objects; and a crash at this moment leaves
+-- what was settled
 pub record IsDurable {S : Type 0} (g : Ghosts S) (d : Durable S) : Type 0 where
   pub journal : IsJournal g d.journal
   pub history : Clean g d.journal → d.store.history ≡ events_of_kinds (written g d.journal).events
   pub types : Clean g d.journal → HasTypes (written g d.journal) d.store.types
   pub settled : Clean g d.journal → IsSettled g d.journal
+  pub limit : d.store.max ≡ most_events
+  pub own : IsOwnHistory d.store
 
 -- but for the events after the first ones, as many as these, which the journal hasn't yet
 pub record IsBehind {S : Type 0} (g : Ghosts S) (d : Durable S) (count : ℕ) : Type 0 where
   pub journal : IsJournal g d.journal
   pub types : Clean g d.journal → HasTypes (written g d.journal) d.store.types
   pub settled : Clean g d.journal → IsSettled g d.journal
+  pub limit : d.store.max ≡ most_events
+  pub own : IsOwnHistory d.store
   pub remembered : d.store.forgotten ≤ count
   pub inside : count ≤ length d.store.history
   pub history : Clean g d.journal → take count d.store.history ≡ events_of_kinds (written g d.journal).events

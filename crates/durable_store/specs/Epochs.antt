@@ -1,5 +1,5 @@
 -- A new epoch of a durable store.
-use Rattle.std.specs.Prelude.{◌≡◌, ◌⊎◌, List, [], map, length}
+use Rattle.std.specs.Prelude.{◌≡◌, ◌⊎◌, List, [], ◌∷◌, map, length}
 use Rattle.sqlite_trees.specs.declared.store.Store.{Ghosts}
 use Rattle.sqlite_trees.specs.Tree.{Trees}
 use Rattle.table_checker.specs.Checked.{Checked}
@@ -7,8 +7,10 @@ use Rattle.journal.specs.declared.state_row.FirstState.{FirstState}
 use Rattle.journal.specs.Contents.{Contents, IsFile, contents_of, from_states, in_life}
 use Rattle.journal.specs.Journal.{Clean, IsJournal, IsSettled, may_leave, written}
 use Rattle.store_laws.specs.Stored.{Stored}
+use Rattle.store.specs.OwnHistory.{IsOwnHistory}
 use Rattle.store.specs.Renews.{Renews}
 use Rattle.durable_store.specs.declared.durable.Durable.{Durable}
+use Rattle.type_table.specs.Limits.{most_events}
 use Rattle.durable_store.specs.Types.{HasTypes}
 use Rattle.durable_store.specs.Recovered.{next_life}
 
@@ -24,11 +26,14 @@ renewed c types = in_life (from_states c (firsts types)) (next_life c.headers)
 pub record IsAhead {S : Type 0} (g : Ghosts S) (d : Durable S) : Type 0 where
   pub journal : IsJournal g d.journal
   pub settled : Clean g d.journal → IsSettled g d.journal
+  pub limit : d.store.max ≡ most_events
   pub none : d.store.history ≡ []
+  pub own : IsOwnHistory d.store
   pub as_many : Clean g d.journal → length d.store.types ≡ length (written g d.journal).states
   pub types : Clean g d.journal → HasTypes (from_states (written g d.journal) (firsts d.store.types)) d.store.types
 
 -- a crash leaves what it could have left before, or the new epoch, at the states that the store had kept
 abbrev pub LeavesEpoch : {S : Type 0} (g : Ghosts S) → Durable S → Durable S → Type 0
 LeavesEpoch g old new = (db : Trees) → may_leave g new.journal db
-    → (Clean g old.journal × IsFile db × ((s : Stored) × Renews old.store s × (contents_of db ≡ renewed (written g old.journal) s.types))) ⊎ may_leave g old.journal db
+    → (Clean g old.journal × IsFile db × ((s : Stored) × Renews old.store s × (contents_of db ≡ renewed (written g old.journal) s.types))
+    × ((written g old.journal).headers ≡ old.journal.header ∷ [])) ⊎ may_leave g old.journal db

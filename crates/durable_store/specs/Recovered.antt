@@ -1,21 +1,40 @@
 -- What an open finds: the types and the history of the file, and an abort of each transaction that was open and isn't prepared.
-use Rattle.std.specs.Prelude.{◌≡◌, ℕ, suc, List, [], ◌∷◌, ◌++◌}
+use Rattle.std.specs.Prelude.{◌≡◌, ⊤, ℕ, suc, List, [], ◌∷◌, ◌++◌}
 use Rattle.sqlite_trees.specs.declared.store.Store.{Ghosts}
 use Rattle.store_laws.specs.Stored.{Stored}
 use Rattle.store.specs.Ends.{closing_but}
+use Rattle.store.specs.Replays.{AreMade}
+use Rattle.table_checker.specs.Checked.{Checked}
+use Rattle.durable_store.specs.declared.open_error.OpenError.{OpenError}
+use Rattle.durable_store.specs.declared.open_error.OpenError.TheVariants.{NotMade}
 use Rattle.journal.specs.declared.header.Header.{Header}
 use Rattle.journal.specs.Contents.{Contents, in_life}
 use Rattle.journal.specs.Journal.{Clean, IsOpen, ShowsCommit, durable, written}
 use Rattle.durable_store.specs.declared.durable.Durable.{Durable}
 use Rattle.durable_store.specs.Types.{HasTypes}
 use Rattle.durable_store.specs.Durable.{events_of_kinds, with_all}
+use Rattle.type_table.specs.Limits.{most_events}
 
 -- ---- the store
 
--- a store of the file's types with its history
+-- a store of the file's types with its history, and room for as many events as its text may have
 pub record IsStoreOf (c : Contents) (s : Stored) : Type 0 where
   pub types : HasTypes c s.types
   pub history : s.history ≡ events_of_kinds c.events
+  pub limit : s.max ≡ most_events
+
+-- a new store of these types
+abbrev pub begun_store : List Checked → Stored
+begun_store types = record { types = types; history = []; max = most_events; forgotten = 0 }
+
+-- the error that a store doesn't make an event of the file
+abbrev pub IsStrayError : OpenError → Type 0
+IsStrayError (NotMade place) = ⊤
+IsStrayError error = ⊥
+
+-- there is a store of the file's types that doesn't make its events, one after another, where no memory is refused
+abbrev pub IsNotFollowed : Contents → Type 0
+IsNotFollowed c = (types : List Checked) × HasTypes c types × (AreMade (begun_store types) (events_of_kinds c.events) → ⊥)
 
 -- the number of the next life
 abbrev pub next_life : List Header → ℕ

@@ -1,6 +1,6 @@
 //! The objects of a file, of its types at the states where its history begins.
 
-ghost use Rattle.std.specs.Prelude.{◌≡◌, ◌<◌, length, map, Some, IfOk, OnOk, IfSome, slice_get};
+ghost use Rattle.std.specs.Prelude.{◌≡◌, ◌<◌, length, map, Some, IfOk, OnOk, IfErr, IfSome, slice_get};
 ghost use Rattle.std.specs.Arc.{arc_value};
 ghost use Rattle.objects.specs.Object.{meaning_of};
 ghost use Rattle.store.specs.Ends.{AreFresh};
@@ -9,6 +9,7 @@ ghost use Rattle.journal.specs.Said.{contents};
 ghost use Rattle.durable_store.specs.Begun.{HaveOneType, BeginAt, AreRead, BeginsAt, IsAtPlace};
 ghost use Rattle.durable_store.specs.Created.{IsReadFormat};
 ghost use Rattle.durable_store.specs.Types.{HasTypes};
+ghost use Rattle.durable_store.specs.Recovered.{IsStrayError};
 ghost use Rattle.declared_text.specs.Declared.{Declares};
 
 use crate::format::check_format;
@@ -31,6 +32,7 @@ use table_checker::CheckedType;
 pub(crate) fn objects_of(alloc: Global, said: &FileContents) -> Result<Vec<Object>, OpenError>
     ensures fresh { IfOk result (λ objects. AreFresh (map meaning_of objects.items)) }
     ensures types { IfOk result (λ objects. HasTypes (contents said.now) (types_of (map meaning_of objects.items))) }
+    ensures strays { IfErr result (λ e. IsStrayError e → ⊥) }
 {
     let begun = file_types(alloc, said)?;
     Ok(new_objects(alloc, &begun)?)
@@ -45,6 +47,7 @@ pub(crate) fn objects_of(alloc: Global, said: &FileContents) -> Result<Vec<Objec
 pub fn file_types(alloc: Global, said: &FileContents) -> Result<Vec<Arc<CheckedType>>, OpenError>
     ensures types { IfOk result (λ types. HasTypes (contents said.now) (map arc_value types.items)) }
     ensures format { OnOk result (IsReadFormat said.now.header.format) }
+    ensures strays { IfErr result (λ e. IsStrayError e → ⊥) }
 {
     check_format(said)?;
     let declared = declared_in(alloc, &said.types)?;
@@ -60,7 +63,8 @@ pub fn file_types(alloc: Global, said: &FileContents) -> Result<Vec<Arc<CheckedT
 ///
 /// `Text` or `NoMemory`.
 pub(crate) fn declared_in(alloc: Global, texts: &[TypeText]) -> Result<Vec<DeclaredType>, OpenError>
-    ensures { IfOk result (λ declared. AreRead texts.now declared.items) }
+    ensures read { IfOk result (λ declared. AreRead texts.now declared.items) }
+    ensures strays { IfErr result (λ e. IsStrayError e → ⊥) }
 {
     let mut declared = Vec::new(alloc);
     for (position, text) in texts.iter().enumerate() {
@@ -72,7 +76,8 @@ pub(crate) fn declared_in(alloc: Global, texts: &[TypeText]) -> Result<Vec<Decla
 
 /// The type that the text at this position declares.
 fn declared_at(alloc: Global, position: usize, text: &TypeText) -> Result<DeclaredType, OpenError>
-    ensures { IfOk result (λ declared. Declares text.now declared) }
+    ensures declares { IfOk result (λ declared. Declares text.now declared) }
+    ensures strays { IfErr result (λ e. IsStrayError e → ⊥) }
 {
     match read_declared(alloc, text.as_bytes()) {
         Ok(declared) => Ok(declared),
@@ -96,6 +101,7 @@ fn types_at(
     ensures states { OnOk result (length states.now ≡ length lines.now) }
     ensures as_many { IfOk result (λ begun. length begun.items ≡ length lines.now) }
     ensures at { IfOk result (λ begun. BeginAt (map arc_value types.now) states.now (map arc_value begun.items)) }
+    ensures strays { IfErr result (λ e. IsStrayError e → ⊥) }
 {
     if states.len() != lines.len() {
         return Err(OpenError::Journal(JournalError::Foreign));
@@ -128,7 +134,8 @@ fn begun_type(
     requires before { length begun.now.items ≡ x }
     requires alike { HaveOneType lines.now (map arc_value types.now) }
     requires known { BeginAt (map arc_value types.now) states.now (map arc_value begun.now.items) }
-    ensures { IfOk result (λ at. IsAtPlace (map arc_value types.now) states.now x (arc_value at)) }
+    ensures at { IfOk result (λ at. IsAtPlace (map arc_value types.now) states.now x (arc_value at)) }
+    ensures strays { IfErr result (λ e. IsStrayError e → ⊥) }
 {
     match place_of(&lines[..x], &states[..x], lines[x], states[x]) {
         Some(other) => Ok(Arc::clone(&begun[other])?),
@@ -161,7 +168,8 @@ fn type_at(
     checked: &CheckedType,
     first: FirstState,
 ) -> Result<Arc<CheckedType>, OpenError>
-    ensures { IfOk result (λ at. BeginsAt checked.now first (arc_value at)) }
+    ensures at { IfOk result (λ at. BeginsAt checked.now first (arc_value at)) }
+    ensures strays { IfErr result (λ e. IsStrayError e → ⊥) }
 {
     match checked.at(alloc, first.state)? {
         Some(at) => Ok(Arc::new(alloc, at)?),

@@ -3,7 +3,7 @@
 ghost use Rattle.std.specs.Prelude.{◌≡◌, ◌⊎◌, ◌<◌, [], ◌∷◌, length, Some, slice_get, IfErr, IfOk, OnOk, ℕ, ◌++◌, ◌&&◌, false, drop, take};
 ghost use Rattle.sqlite_trees.specs.Tree.{Trees};
 ghost use Rattle.journal.specs.Contents.{IsFile, contents_of};
-ghost use Rattle.journal.specs.Journal.{Clean, ShowsCommit, durable, may_leave, written, IsNumbered, IsOpen, IsJournal};
+ghost use Rattle.journal.specs.Journal.{Clean, IsAsWritten, ShowsCommit, durable, may_leave, written, IsNumbered, IsOpen, IsJournal};
 ghost use Rattle.table_checker.specs.Checked.{Checked};
 ghost use Rattle.store.specs.Renews.{RefusesRenew, Renews};
 ghost use Rattle.durable_store.specs.Durable.{IsDurable, KeepsSettled, OutcomesStay, WritesSince, kinds, events_of_kinds, IsBehind, with_all};
@@ -17,14 +17,14 @@ ghost use Rattle.store.specs.Ends.{closing, closing_but};
 ghost use Rattle.durable_store.specs.Recovered.{Recovers, recovered_but};
 ghost use Rattle.serial_order.specs.declared.command.Command.TheVariants as command;
 
-use journal::{FirstState, Journal, JournalError, TypeText};
+use journal::{FirstState, Header, Journal, JournalError, TypeText};
 use object_calls::Answer;
 use object_trait::{Event, EventKind};
 use objects::Object;
 use serial_order::Refusal;
 use sqlite_trees::store::Alter;
 use std::alloc::{AllocError, Global};
-use store::{RenewRefusal, Store};
+use store::{RenewRefusal, Store, steps_are_followed};
 use store_text::ObjectLine;
 
 // the most objects whose states a journal writes anew
@@ -45,6 +45,13 @@ impl<S: Alter> Durable<S> {
         ensures { result.now ≡ self.now.store }
     {
         &self.store
+    }
+
+    /// What its file says of itself.
+    pub fn header(&self) -> &Header
+        ensures { result.now ≡ self.now.journal.header }
+    {
+        self.journal.header()
     }
 
     /// The number of the present life: no other store over this file has had it or will have it.
@@ -70,6 +77,7 @@ impl<S: Alter> Durable<S> {
         ensures clean { Clean S.Store self.new.journal → Clean S.Store self.old.journal }
         ensures crash { OutcomesStay S.Store self.old self.new }
     {
+        steps_are_followed();
         let count = self.store.event_count();
         let begun = self.store.begin(0);
         self.write_since(count)?;
@@ -97,6 +105,7 @@ impl<S: Alter> Durable<S> {
         ensures clean { Clean S.Store self.new.journal → Clean S.Store self.old.journal }
         ensures crash { OutcomesStay S.Store self.old self.new }
     {
+        steps_are_followed();
         let count = self.store.event_count();
         let answered = self.store.call_bytes(0, t, x, name);
         self.write_since(count)?;
@@ -119,6 +128,7 @@ impl<S: Alter> Durable<S> {
         ensures clean { Clean S.Store self.new.journal → Clean S.Store self.old.journal }
         ensures crash { OutcomesStay S.Store self.old self.new }
     {
+        steps_are_followed();
         let count = self.store.event_count();
         let ended = self.store.commit(0, t);
         self.write_since(count)?;
@@ -140,6 +150,7 @@ impl<S: Alter> Durable<S> {
         ensures clean { Clean S.Store self.new.journal → Clean S.Store self.old.journal }
         ensures crash { OutcomesStay S.Store self.old self.new }
     {
+        steps_are_followed();
         let count = self.store.event_count();
         let ended = self.store.abort(0, t);
         self.write_since(count)?;
@@ -162,6 +173,7 @@ impl<S: Alter> Durable<S> {
         ensures clean { Clean S.Store self.new.journal → Clean S.Store self.old.journal }
         ensures crash { OutcomesStay S.Store self.old self.new }
     {
+        steps_are_followed();
         let count = self.store.event_count();
         let rolled_back = self.store.rollback(0, t, n);
         self.write_since(count)?;
@@ -205,6 +217,9 @@ impl<S: Alter> Durable<S> {
         ensures clean { Clean S.Store self.new.journal → Clean S.Store self.old.journal }
         ensures crash { OutcomesStay S.Store self.old self.new }
     {
+        steps_are_followed();
+        // (read for its clause that the history is a run)
+        self.store.history();
         let count = self.store.event_count();
         self.store.abort_all_but(those);
         self.write_since(count)
@@ -321,8 +336,7 @@ impl<S: Alter> Durable<S> {
         ensures shows { OnOk result (ShowsCommit S.Store self.new.journal) }
         ensures numbered { IsNumbered S.Store self.old.journal → IsNumbered S.Store self.new.journal }
         ensures clean { Clean S.Store self.new.journal → Clean S.Store self.old.journal }
-        ensures crash { (db : Trees) → may_leave S.Store self.new.journal db
-            → (Clean S.Store self.old.journal × IsFile db × (contents_of db ≡ written S.Store self.old.journal)) ⊎ may_leave S.Store self.old.journal db }
+        ensures crash { (db : Trees) → may_leave S.Store self.new.journal db → IsAsWritten S.Store self.old.journal db ⊎ may_leave S.Store self.old.journal db }
     {
         self.journal.commit()?;
         self.journal.is_settled();
@@ -405,7 +419,8 @@ impl<S: Alter> Durable<S> {
         ensures last { OnOk result (Clean S.Store self.new.journal → (written S.Store self.old.journal).headers ≡ self.old.journal.header ∷ []) }
         ensures clean { Clean S.Store self.new.journal → Clean S.Store self.old.journal }
         ensures crash { (db : Trees) → may_leave S.Store self.new.journal db
-            → (Clean S.Store self.old.journal × IsFile db × (contents_of db ≡ renewed (written S.Store self.old.journal) self.old.store.types)) ⊎ may_leave S.Store self.old.journal db }
+            → (Clean S.Store self.old.journal × IsFile db × (contents_of db ≡ renewed (written S.Store self.old.journal) self.old.store.types)
+            × ((written S.Store self.old.journal).headers ≡ self.old.journal.header ∷ [])) ⊎ may_leave S.Store self.old.journal db }
     {
         let states = first_states(alloc, &self.store)?;
         if states.len() > MOST_STATES {

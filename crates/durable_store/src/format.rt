@@ -1,7 +1,8 @@
 //! The versions of the tables of a store.
 
-ghost use Rattle.std.specs.Prelude.{OnOk};
+ghost use Rattle.std.specs.Prelude.{IfErr, OnOk};
 ghost use Rattle.durable_store.specs.Created.{IsReadFormat};
+ghost use Rattle.durable_store.specs.Recovered.{IsStrayError};
 
 use crate::open_error::OpenError;
 use journal::{FileContents, JournalError};
@@ -19,7 +20,8 @@ const FIRST_FORMAT: u32 = 1;
 ///
 /// `Journal` with `Foreign`: it is of another one.
 pub(crate) fn check_format(said: &FileContents) -> Result<(), OpenError>
-    ensures { OnOk result (IsReadFormat said.now.header.format) }
+    ensures format { OnOk result (IsReadFormat said.now.header.format) }
+    ensures strays { IfErr result (λ e. IsStrayError e → ⊥) }
 {
     if FIRST_FORMAT <= said.header.format && said.header.format <= FORMAT {
         Ok(())

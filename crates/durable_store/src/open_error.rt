@@ -1,3 +1,5 @@
+ghost use Rattle.durable_store.specs.Recovered.{IsStrayError};
+
 use journal::JournalError;
 use line_text::{FaultKind, TextFault};
 use object_types::ObjectFault;
@@ -31,7 +33,9 @@ pub enum OpenError {
 
 impl OpenError {
     /// Of the text of type k.
-    pub(crate) fn of_text(k: usize, fault: TextFault) -> OpenError {
+    pub(crate) fn of_text(k: usize, fault: TextFault) -> OpenError
+        ensures { IsStrayError result → ⊥ }
+    {
         match fault.kind {
             FaultKind::NoMemory => OpenError::NoMemory,
             _ => OpenError::Text(k),
@@ -62,7 +66,9 @@ impl<T: Drop> From<AllocFailed<T>> for OpenError {
 }
 
 impl From<ObjectFault> for OpenError {
-    ghost from_gives = { λ _ _. Unit {0} };
+    ghost use Rattle.durable_store.specs.Recovered.{IsStrayError};
+
+    ghost from_gives = { λ _ error. IsStrayError error → ⊥ };
 
     fn from(fault: ObjectFault) -> OpenError {
         match fault {

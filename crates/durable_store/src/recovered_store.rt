@@ -2,8 +2,11 @@
 
 ghost use Rattle.std.specs.Prelude.{◌≡◌, ◌++◌, ◌∷◌, [], IfOk, OnOk, ◌⊎◌, length, IfErr, IsTrue};
 ghost use Rattle.journal.specs.Said.{contents};
-ghost use Rattle.durable_store.specs.Durable.{events_of_kinds, IsDurable};
-ghost use Rattle.durable_store.specs.Recovered.{IsStoreOf, IsRecoveredBut, Recovers, recovered_but};
+ghost use Rattle.store.specs.Follows.{IsMade};
+ghost use Rattle.store.specs.OwnHistory.{IsOwnHistory};
+ghost use Rattle.store.specs.Replays.{AreMade};
+ghost use Rattle.durable_store.specs.Durable.{event_of_kind, events_of_kinds, IsDurable};
+ghost use Rattle.durable_store.specs.Recovered.{IsNotFollowed, IsStoreOf, IsStrayError, IsRecoveredBut, Recovers, recovered_but};
 ghost use Rattle.sqlite_trees.specs.Tree.{Trees};
 ghost use Rattle.sqlite_trees.specs.View.{IsClean};
 ghost use Rattle.journal.specs.Contents.{IsFile, contents_of};
@@ -18,6 +21,7 @@ use objects::Object;
 use sqlite_trees::store::Alter;
 use std::alloc::Global;
 use store::{Store, Stray, follow};
+use type_table::{MOST_EVENTS, limits_agree};
 
 // how many events a store remembers while it follows those of a file
 const MOST_REMEMBERED: usize = 65_536;
@@ -28,7 +32,8 @@ const MOST_REMEMBERED: usize = 65_536;
 ///
 /// # Errors
 ///
-/// The file isn't one of a store or failed, or memory was refused. The trees come back.
+/// The file isn't one of a store or failed, or memory was refused. The trees come back. `NotMade` comes only where a store
+/// of the file's types makes no such history: what a durable store has written is never refused so.
 pub fn open<S: Alter>(
     alloc: Global,
     trees: S,
@@ -43,6 +48,7 @@ pub fn open<S: Alter>(
     ensures found { IfOk result (λ d. Clean S.Store d.journal → IsRecoveredBut S.Store prepared.now (contents_of (S.Store.view trees).committed) d) }
     ensures crash { IfErr result (λ e. (db : Trees) → S.Store.recovers e.1 db
         → (IsFile db × (contents_of db ≡ recovered_but prepared.now (contents_of (S.Store.view trees).committed))) ⊎ S.Store.recovers trees db) }
+    ensures followed { IfErr result (λ e. IsStrayError e.0 → IsClean (S.Store.view e.1) → IsNotFollowed (contents_of (S.Store.view trees).committed)) }
 {
     match open_counted(alloc, trees, prepared) {
         Ok((store, _)) => Ok(store),
@@ -70,6 +76,7 @@ pub fn open_counted<S: Alter>(
     ensures counted { IfOk result (λ r. Clean S.Store r.0.journal → r.1 ≡ length (contents_of (S.Store.view trees).committed).events) }
     ensures crash { IfErr result (λ e. (db : Trees) → S.Store.recovers e.1 db
         → (IsFile db × (contents_of db ≡ recovered_but prepared.now (contents_of (S.Store.view trees).committed))) ⊎ S.Store.recovers trees db) }
+    ensures followed { IfErr result (λ e. IsStrayError e.0 → IsClean (S.Store.view e.1) → IsNotFollowed (contents_of (S.Store.view trees).committed)) }
 {
     let (journal, said) = match Journal::open(alloc, trees) {
         Ok(opened) => opened,
@@ -103,6 +110,7 @@ pub(crate) fn resume<S: Alter>(
     ensures found { IfOk result (λ d. Clean S.Store d.journal → IsRecoveredBut S.Store prepared.now (contents said.now) d) }
     ensures crash { IfErr result (λ e. (db : Trees) → S.Store.recovers e.1 db
         → (Clean S.Store journal × IsFile db × (contents_of db ≡ recovered_but prepared.now (contents said.now))) ⊎ may_leave S.Store journal db) }
+    ensures followed { IfErr result (λ e. IsStrayError e.0 → (e.1 ≡ journal.store) × IsNotFollowed (contents said.now)) }
 {
     journal.is_settled();
     match store_of(alloc, said) {
@@ -121,6 +129,7 @@ fn recovered_or_back<S: Alter>(
     ensures recovers { IfOk result (λ d. Recovers S.Store prepared.now made d) }
     ensures crash { IfErr result (λ e. (db : Trees) → S.Store.recovers e.1 db
         → (Clean S.Store made.journal × IsFile db × (contents_of db ≡ recovered_but prepared.now (written S.Store made.journal))) ⊎ may_leave S.Store made.journal db) }
+    ensures strays { IfErr result (λ e. IsStrayError e.0 → ⊥) }
 {
     let mut made = made;
     match made.recover(prepared) {
@@ -129,16 +138,19 @@ fn recovered_or_back<S: Alter>(
     }
 }
 
-/// A store of the types of a file with its history.
+/// A store of the types of a file with its history, which never has more events than its text may have.
 ///
 /// # Errors
 ///
 /// `Text`, `Untyped`, `NoStore`, `NotMade` or `NoMemory`.
 pub(crate) fn store_of(alloc: Global, said: &FileContents) -> Result<Store<Object>, OpenError>
-    ensures { IfOk result (λ s. IsStoreOf (contents said.now) s) }
+    ensures store { IfOk result (λ s. IsStoreOf (contents said.now) s) }
+    ensures followed { IfErr result (λ e. IsStrayError e → IsNotFollowed (contents said.now)) }
+    ensures own { IfOk result (λ s. IsOwnHistory s) }
 {
+    limits_agree();
     let objects = objects_of(alloc, said)?;
-    let mut store = match Store::new(alloc, objects, u32::MAX) {
+    let mut store = match Store::new(alloc, objects, MOST_EVENTS) {
         Ok(store) => store,
         Err((_, refusal)) => return Err(OpenError::NoStore(refusal)),
     };
@@ -159,6 +171,9 @@ pub(crate) fn store_of(alloc: Global, said: &FileContents) -> Result<Store<Objec
 fn follow_all(store: &mut Store<Object>, happened: &[EventKind]) -> Result<(), OpenError>
     ensures types { OnOk result (store.new.types ≡ store.old.types) }
     ensures history { OnOk result (store.new.history ≡ store.old.history ++ events_of_kinds happened.now) }
+    ensures limit { OnOk result (store.new.max ≡ store.old.max) }
+    ensures made { OnOk result (AreMade store.old (events_of_kinds happened.now)) }
+    ensures strays { IfErr result (λ e. IsStrayError e → AreMade store.old (events_of_kinds happened.now) → ⊥) }
 {
     for (place, kind) in happened.iter().enumerate() {
         follow_one(store, place, *kind)?;
@@ -174,6 +189,9 @@ fn follow_all(store: &mut Store<Object>, happened: &[EventKind]) -> Result<(), O
 fn follow_one(store: &mut Store<Object>, place: usize, kind: EventKind) -> Result<(), OpenError>
     ensures types { OnOk result (store.new.types ≡ store.old.types) }
     ensures history { OnOk result (store.new.history ≡ store.old.history ++ events_of_kinds (kind ∷ [])) }
+    ensures limit { OnOk result (store.new.max ≡ store.old.max) }
+    ensures made { OnOk result (IsMade store.old (event_of_kind kind)) }
+    ensures strays { IfErr result (λ e. IsStrayError e → IsMade store.old (event_of_kind kind) → ⊥) }
 {
     match follow(store, &Event { worker: 0, kind }) {
         Ok(()) => {}

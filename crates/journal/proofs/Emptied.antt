@@ -53,13 +53,13 @@ module _ (old middle new : View) (row : Row) (reals : ℕ) (may : MayEmpty old) 
   left : IsNamedOnce (middle.trees catalog_tree)
   left = subst (λ (v : View). IsNamedOnce (v.trees catalog_tree)) (sym gone.is) (each-filter (λ r. has_rowid (pos 1) r ≡ false → column r name_column ≢ Text (codes "event")) (λ r. not (has_rowid (pos 1) r)) (old.trees catalog_tree) (may.named gone.sound))
 
-  others : (t : ℕ) → t ≢ 0 → t < 5 → new.trees t ≡ old.trees t
+  others : (t : ℕ) → t ≢ 0 → t < 7 → new.trees t ≡ old.trees t
   others t differs low =
       let none : (t == 0) ≡ false = ne_eqb t 0 differs in
       let small : (t == catalog_tree) ≡ false = ne_eqb t catalog_tree (λ is. omega (arith, is, low)) in
       ap (λ (v : View). v.trees t) made.is ∙ rw (small, none) (ap (λ (v : View). v.trees t) gone.is ∙ rw (small, none) refl)
 
-  shapes : (t : ℕ) → t < 5 → new.shape t ≡ Table
+  shapes : (t : ℕ) → t < 7 → new.shape t ≡ Table
   shapes t low =
       elim (cases_eq t 0) [
         | inl is ↦ ap (λ (v : View). v.shape t) made.is ∙ rw is refl

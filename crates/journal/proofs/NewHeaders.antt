@@ -33,6 +33,8 @@ module _ (old new : View) (n : ℕ) (was now : Header) (sets : SetsTree old new 
       types = before.types;
       objects = before.objects;
       states = before.states;
+      prepared = before.prepared;
+      outcomes = before.outcomes;
     });
     count_is = λ _. kept.count_is sets.sound ∙ ap (λ (c : Contents). length c.events) (sym told);
     header_is = λ _. ap (λ (c : Contents). c.headers) told;

@@ -35,6 +35,8 @@ module _ (db : Trees) (said : FileContents) (told : HasRowsOf db said) where
     types = rows-of type_row type_told type_read_back (db 2) said.types.items told.types;
     objects = rows-of object_row object_told object_read_back (db 3) said.objects.items told.objects;
     states = rows-of state_row state_told state_read_back (db 4) said.states.items told.states;
+    prepared = told.prepared;
+    outcomes = told.outcomes;
   }
 
   events-are : map event_told (db 0) ≡ said.events.items

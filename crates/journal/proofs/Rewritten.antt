@@ -65,7 +65,7 @@ module _ (old middle new : View) (n : ℕ) (header : Header) (states : List Firs
   before = kept.file gone.sound
 
   -- the other tables are as they were
-  stays : (t : ℕ) → t ≢ 0 → t ≢ 4 → t < 5 → new.trees t ≡ old.trees t
+  stays : (t : ℕ) → t ≢ 0 → t ≢ 4 → t < 7 → new.trees t ≡ old.trees t
   stays t differs apart low = again.others t apart ∙ gone.others t differs low
 
   events : new.trees 0 ≡ []
@@ -95,6 +95,8 @@ module _ (old middle new : View) (n : ℕ) (header : Header) (states : List Firs
       types = rw types before.types;
       objects = rw objects before.objects;
       states = again.rows_are ∙ ap (value_rows state_row 0) (sym states-told);
+      prepared = stays 5 (λ is. omega (arith, is)) (λ is. omega (arith, is)) (lit< tt) ∙ before.prepared;
+      outcomes = stays 6 (λ is. omega (arith, is)) (λ is. omega (arith, is)) (lit< tt) ∙ before.outcomes;
     };
     count_is = λ _. rw events refl;
     header_is = λ _. rw headers (kept.header_is gone.sound);

@@ -31,6 +31,8 @@ module _ (old new : View) (n : ℕ) (header : Header) (e : EventKind) (sets : Se
     types = before.types;
     objects = before.objects;
     states = before.states;
+    prepared = before.prepared;
+    outcomes = before.outcomes;
   })
 
   -- and it is a file of a store again

@@ -30,13 +30,15 @@ contents_of db = record {
   states = map state_told (db 4);
 }
 
--- each table has the rows of what it says, at the positions 0, 1, 2 and so on, and no other
+-- each table has the rows of what it says, at the positions 0, 1, 2 and so on, and no other; those for commits over several stores have none
 pub record IsFile (db : Trees) : Type 0 where
   pub events : db 0 ≡ value_rows event_row 0 (contents_of db).events
   pub headers : db 1 ≡ value_rows header_row 0 (contents_of db).headers
   pub types : db 2 ≡ value_rows type_row 0 (contents_of db).types
   pub objects : db 3 ≡ value_rows object_row 0 (contents_of db).objects
   pub states : db 4 ≡ value_rows state_row 0 (contents_of db).states
+  pub prepared : db 5 ≡ []
+  pub outcomes : db 6 ≡ []
 
 -- with an event more
 abbrev pub contents_with_event : Contents → EventKind → Contents

@@ -13,7 +13,7 @@ pub record MayEmpty (v : View) : Type 0 where
 pub record Empties (old new : View) : Type 0 where
   pub sound : old.is_broken ≡ false
   pub events : new.trees 0 ≡ []
-  pub others : (t : ℕ) → t ≢ 0 → t < 5 → new.trees t ≡ old.trees t
+  pub others : (t : ℕ) → t ≢ 0 → t < 7 → new.trees t ≡ old.trees t
   pub tables : HasTables new
   pub numbered : IsTrue new.is_numbered
   pub named : IsNamedOnce (new.trees catalog_tree)

@@ -13,9 +13,9 @@ use Rattle.journal.specs.declared.journal.Journal.{Journal}
 use Rattle.journal.specs.Contents.{Contents, IsFile, contents_of}
 use Rattle.journal.specs.Tables.{IsUnused}
 
--- the five tables are there
+-- the seven tables are there
 pub record HasTables (v : View) : Type 0 where
-  pub each : (t : ℕ) → t < 5 → v.shape t ≡ Table
+  pub each : (t : ℕ) → t < 7 → v.shape t ≡ Table
 
 -- where the name is in a row of the list of a file's objects
 abbrev pub name_column : ℕ
@@ -57,6 +57,10 @@ module _ {S : Type 0} (g : Ghosts S) where
 
   abbrev pub IsJournal : Journal S → Type 0
   IsJournal it = IsClean (g.view it.store) → IsKeptFile (g.view it.store) it.count it.header
+
+  -- the file that a commit at this moment may leave: all that was written, under this header
+  abbrev pub IsAsWritten : Journal S → Trees → Type 0
+  IsAsWritten it db = Clean it × IsFile db × (contents_of db ≡ written it) × ((contents_of db).headers ≡ it.header ∷ [])
 
   -- a crash at this moment leaves the file as it was at the last commit
   abbrev pub IsSettled : Journal S → Type 0

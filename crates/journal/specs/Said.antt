@@ -27,3 +27,5 @@ pub record HasRowsOf (db : Trees) (said : FileContents) : Type 0 where
   pub types : db 2 ≡ value_rows type_row 0 said.types.items
   pub objects : db 3 ≡ value_rows object_row 0 said.objects.items
   pub states : db 4 ≡ value_rows state_row 0 said.states.items
+  pub prepared : db 5 ≡ []
+  pub outcomes : db 6 ≡ []

@@ -12,7 +12,7 @@ use crate::header::Header;
 use crate::journal_error::JournalError;
 use crate::object_row::TypeText;
 use crate::state_row::FirstState;
-use crate::table::read_all;
+use crate::table::{has_no_rows, read_all};
 use object_trait::EventKind;
 use sqlite_trees::store::Store;
 use sqlite_value::row::Row;
@@ -33,6 +33,12 @@ pub const OBJECTS: u32 = 3;
 
 /// The table of the states at which they began.
 pub const STATES: u32 = 4;
+
+/// The table of transactions that are prepared, which has no rows.
+pub const PREPARED: u32 = 5;
+
+/// The table of what others decided of them, which has none either.
+pub const OUTCOMES: u32 = 6;
 
 /// Where the name is in a row of the list of a file's objects.
 pub const NAME: usize = 2;
@@ -72,6 +78,9 @@ pub fn read_contents<S: Store>(
     let objects = read_all(alloc, store, OBJECTS, row)?;
     let states = read_all(alloc, store, STATES, row)?;
     let events = read_all(alloc, store, EVENTS, row)?;
+    if !has_no_rows(store, PREPARED, row)? || !has_no_rows(store, OUTCOMES, row)? {
+        return Err(JournalError::Foreign);
+    }
     Ok(FileContents {
         header,
         types,

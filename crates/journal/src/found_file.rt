@@ -11,7 +11,9 @@ ghost use Rattle.journal.specs.Journal.{Clean, HasTables, IsJournal, IsNamedOnce
 ghost use Rattle.journal.specs.Said.{contents};
 
 use crate::cells::is_number;
-use crate::contents::{EVENTS, FileContents, HEADER, NAME, OBJECTS, STATES, TYPES, read_contents};
+use crate::contents::{
+    EVENTS, FileContents, HEADER, NAME, OBJECTS, OUTCOMES, PREPARED, STATES, TYPES, read_contents,
+};
 use crate::journal::Journal;
 use crate::journal_error::JournalError;
 use sqlite_trees::store::{Alter, Shape, Store};
@@ -92,6 +94,8 @@ fn has_tables<S: Store>(store: &S) -> bool
         && is_table(store, TYPES)
         && is_table(store, OBJECTS)
         && is_table(store, STATES)
+        && is_table(store, PREPARED)
+        && is_table(store, OUTCOMES)
 }
 
 /// Whether a tree is a table.

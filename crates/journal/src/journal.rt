@@ -2,8 +2,8 @@
 
 ghost use Rattle.std.specs.Prelude.{◌≡◌, ◌⊎◌, ◌∷◌, [], IsTrue, OnOk, ◌<◌, drop, map, take, IfOk, ◌+◌, ◌≤◌, ℕ, List, false, length};
 ghost use Rattle.sqlite_trees.specs.Tree.{Trees};
-ghost use Rattle.journal.specs.Contents.{IsFile, contents_of, contents_with_event, from_states, in_life};
-ghost use Rattle.journal.specs.Journal.{Clean, IsJournal, IsNumbered, IsOpen, IsSettled, ShowsCommit, durable, may_leave, written};
+ghost use Rattle.journal.specs.Contents.{contents_with_event, from_states, in_life};
+ghost use Rattle.journal.specs.Journal.{Clean, IsAsWritten, IsJournal, IsNumbered, IsOpen, IsSettled, ShowsCommit, durable, may_leave, written};
 ghost use Rattle.sqlite_trees.specs.declared.store.Shape.TheVariants.{Table};
 ghost use Rattle.sqlite_trees.specs.View.{IsClean};
 ghost use Rattle.journal.specs.declared.state_row.FirstState.{FirstState as First};
@@ -72,14 +72,20 @@ impl<S: Store> Journal<S> {
         ensures written { OnOk result (Clean S.Store self.new → written S.Store self.new ≡ written S.Store self.old) }
         ensures header { self.new.header ≡ self.old.header }
         ensures clean { Clean S.Store self.new → Clean S.Store self.old }
-        ensures crash { (db : Trees) → may_leave S.Store self.new db
-            → (Clean S.Store self.old × IsFile db × (contents_of db ≡ written S.Store self.old)) ⊎ may_leave S.Store self.old db }
+        ensures crash { (db : Trees) → may_leave S.Store self.new db → IsAsWritten S.Store self.old db ⊎ may_leave S.Store self.old db }
         ensures is_open { OnOk result (Clean S.Store self.new → IsOpen S.Store self.new) }
         ensures shows { OnOk result (ShowsCommit S.Store self.new) }
         ensures numbered { IsNumbered S.Store self.old → IsNumbered S.Store self.new }
     {
         self.store.commit()?;
         Ok(())
+    }
+
+    /// What the file says of itself.
+    pub fn header(&self) -> &Header
+        ensures { result.now ≡ self.now.header }
+    {
+        &self.header
     }
 
     /// The number of the present life.

@@ -1,6 +1,6 @@
 //! Tables of values, at the positions 0, 1, 2 and so on.
 
-ghost use Rattle.std.specs.Prelude.{◌≡◌, ◌+◌, ◌<◌, ◌^◌, List, drop, length, map, take, Some, IfOk, IsSome, OnOk};
+ghost use Rattle.std.specs.Prelude.{◌≡◌, ◌+◌, ◌<◌, ◌^◌, List, [], drop, length, map, take, Some, IfOk, IsSome, IsTrue, OnOk};
 ghost use Rattle.sqlite_value.specs.Order.{Row as Columns};
 ghost use Rattle.sqlite_trees.specs.Tree.{Trees, put_row};
 ghost use Rattle.sqlite_trees.specs.View.{IsClean, KeepsSchema, SetsTree};
@@ -63,6 +63,24 @@ pub fn read_all<S: Store, E: Entry + Drop>(
     row.clear();
     store.seek(0, table, row, Direction::Forward)?;
     read_on(alloc, store, 0, usize::MAX, row)
+}
+
+/// Whether a table has no row.
+///
+/// # Errors
+///
+/// The store failed, or memory was refused.
+pub fn has_no_rows<S: Store>(store: &mut S, table: u32, row: &mut Row) -> Result<bool, JournalError>
+    requires unused { IsClean (S.Store.view store.old) → IsUnused (S.Store.view store.old) }
+    requires shape { IsClean (S.Store.view store.old) → (S.Store.view store.old).shape table ≡ Shape.Table }
+    ensures told { IfOk result (λ none. IsTrue none → IsClean (S.Store.view store.new) → (S.Store.view store.old).trees table ≡ []) }
+    ensures same { OnOk result (IsClean (S.Store.view store.new) → OnlyReads (S.Store.view store.old) (S.Store.view store.new)) }
+    ensures clean { IsClean (S.Store.view store.new) → IsClean (S.Store.view store.old) }
+    ensures crash { (db : Trees) → S.Store.recovers store.new db → S.Store.recovers store.old db }
+{
+    row.clear();
+    store.seek(0, table, row, Direction::Forward)?;
+    Ok(!store.next(0, row)?)
 }
 
 /// The values of a table from this position on, in order, and at most this many.

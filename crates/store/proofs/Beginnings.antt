@@ -83,10 +83,10 @@ module _ (ms : List Meaning) (calls : List (List NamedCall)) (capacity i : ℕ) 
 -- ---- a new store
 
 -- it is whole, with the empty history
-pub new-whole : NewIsKept → (ms : List Meaning) (calls : List (List NamedCall)) (rows : List (Option Row)) (H : List Event) (capacity max : ℕ)
-    → MayBegin ms max → AreChecked (types_of ms) → HasCalls (types_of ms) calls → rows ≡ [] → H ≡ []
+pub new-whole : NewIsKept → (greatest : ℕ) (ms : List Meaning) (calls : List (List NamedCall)) (rows : List (Option Row)) (H : List Event) (capacity max : ℕ)
+    → MayBegin greatest ms max → AreChecked (types_of ms) → HasCalls (types_of ms) calls → rows ≡ [] → H ≡ []
     → IsWholeStore ms calls rows H capacity max
-new-whole is_kept ms calls rows H capacity max may checked known none nothing =
+new-whole is_kept greatest ms calls rows H capacity max may checked known none nothing =
     let kept : IsKept (keeping ms rows) [] =
     is_kept (keeping ms rows) (record {
       checked = λ x m there. checked x m.checked (slice_get-map (λ (n : Meaning). n.checked) ms x ∙ ap (option_map (λ (n : Meaning). n.checked)) there);

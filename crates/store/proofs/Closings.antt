@@ -89,14 +89,14 @@ closing-more those H n =
     ∙ map-append (closing_abort H) (filter (is_other those (summary H)) (range_with_len 0 n)) (filter (is_other those (summary H)) (n ∷ []))
 
 -- where it is, there is one abort more
-closing-opened : (those : List ℕ) (H : List Event) (n : ℕ) → is_other those (summary H) n ≡ true
+pub closing-opened : (those : List ℕ) (H : List Event) (n : ℕ) → is_other those (summary H) n ≡ true
     → H ++ closing_below those H (n + 1) ≡ (H ++ closing_below those H n) ++ closing_abort H n ∷ []
 closing-opened those H n going =
     ap (λ es. H ++ es) (closing-more those H n ∙ ap (λ b. closing_below those H n ++ map (closing_abort H) (cond b (n ∷ []) [])) going)
     ∙ sym (append_assoc H (closing_below those H n) (closing_abort H n ∷ []))
 
 -- else there is none
-closing-ended : (those : List ℕ) (H : List Event) (n : ℕ) → is_other those (summary H) n ≡ false → H ++ closing_below those H (n + 1) ≡ H ++ closing_below those H n
+pub closing-ended : (those : List ℕ) (H : List Event) (n : ℕ) → is_other those (summary H) n ≡ false → H ++ closing_below those H (n + 1) ≡ H ++ closing_below those H n
 closing-ended those H n ended =
     ap (λ es. H ++ es)
     (closing-more those H n ∙ ap (λ b. closing_below those H n ++ map (closing_abort H) (cond b (n ∷ []) [])) ended ∙ append-nil (closing_below those H n))
@@ -117,7 +117,7 @@ closed-none says those ms rows s n kept none =
 -- ---- what is known meanwhile
 
 -- one that is to be aborted is open, and none of those
-other-is : (among going : Bool) → (not among && going) ≡ true → (among ≡ false) × (going ≡ true)
+pub other-is : (among going : Bool) → (not among && going) ≡ true → (among ≡ false) × (going ≡ true)
 other-is false going is = (refl, is)
 other-is true going is = absurd (false≢true is)
 

@@ -21,3 +21,4 @@ pub mod Follows
 pub mod FollowedOps
 pub mod Unreplied
 pub mod Replays
+pub mod OwnHistories

@@ -1,7 +1,7 @@
 -- The end of a transaction, and the beginning and the end of a store.
 use Rattle.std.specs.Prelude.{◌≡◌, ℕ, ◌<◌, List, [], length, map, filter, ◌≤◌, Bool, true, false, not, ◌&&◌, nat_le, nat_lt, Some, slice_get, slice_index_or}
 use Rattle.std.specs.List.{range_with_len}
-use Rattle.type_table.specs.Limits.{longest_history, most_objects}
+use Rattle.type_table.specs.Limits.{most_objects}
 use Rattle.object_trait.specs.Meaning.{Meaning}
 use Rattle.object_trait.specs.Steps.{IsFresh, open_transactions}
 use Rattle.object_trait.specs.declared.event.Event.{Event}
@@ -14,6 +14,7 @@ use Rattle.serial_order.specs.declared.command.Command.TheVariants as command
 use Rattle.object_calls.specs.declared.end.End.{End}
 use Rattle.object_calls.specs.declared.end.End.TheVariants as end
 use Rattle.store_laws.specs.Kept.{IsObject}
+use Rattle.store_laws.specs.Stored.{Stored, types_of}
 use Rattle.store.specs.declared.refusals.NewRefusal.{NewRefusal}
 use Rattle.store.specs.declared.refusals.NewRefusal.TheVariants.{NoObjects, TooManyObjects, NotFresh, BadMax, NoMemory}
 
@@ -30,24 +31,28 @@ end_command end.Abort t = command.Abort t
 abbrev pub AreFresh : List Meaning → Type 0
 AreFresh ms = (x : ℕ) (m : Meaning) → slice_get ms x ≡ Some m → IsFresh m
 
--- a limit that a history may have
-abbrev pub is_limit : ℕ → Bool
-is_limit max = nat_lt 1 max && nat_le max longest_history
+-- a limit that a history may have, of which this is the greatest
+abbrev pub is_limit : ℕ → ℕ → Bool
+is_limit greatest max = nat_lt 1 max && nat_le max greatest
 
--- why no store is made of these objects, memory aside: the first reason that holds
-abbrev pub RefusesNew : List Meaning → ℕ → NewRefusal → Type 0
-RefusesNew ms max NoObjects = length ms ≡ 0
-RefusesNew ms max TooManyObjects = most_objects < length ms
-RefusesNew ms max NotFresh = (0 < length ms) × (length ms ≤ most_objects) × (AreFresh ms → ⊥)
-RefusesNew ms max BadMax = (0 < length ms) × (length ms ≤ most_objects) × AreFresh ms × (is_limit max ≡ false)
-RefusesNew ms max NoMemory = (0 < length ms) × (length ms ≤ most_objects) × AreFresh ms × (is_limit max ≡ true)
+-- why no store of such a limit is made of these objects, memory aside: the first reason that holds
+abbrev pub RefusesNew : ℕ → List Meaning → ℕ → NewRefusal → Type 0
+RefusesNew greatest ms max NoObjects = length ms ≡ 0
+RefusesNew greatest ms max TooManyObjects = most_objects < length ms
+RefusesNew greatest ms max NotFresh = (0 < length ms) × (length ms ≤ most_objects) × (AreFresh ms → ⊥)
+RefusesNew greatest ms max BadMax = (0 < length ms) × (length ms ≤ most_objects) × AreFresh ms × (is_limit greatest max ≡ false)
+RefusesNew greatest ms max NoMemory = (0 < length ms) × (length ms ≤ most_objects) × AreFresh ms × (is_limit greatest max ≡ true)
 
 -- what a store may be made of
-pub record MayBegin (ms : List Meaning) (max : ℕ) : Type 0 where
+pub record MayBegin (greatest : ℕ) (ms : List Meaning) (max : ℕ) : Type 0 where
   pub some : 0 < length ms
   pub few : length ms ≤ most_objects
   pub fresh : AreFresh ms
-  pub limit : is_limit max ≡ true
+  pub limit : is_limit greatest max ≡ true
+
+-- a store of these objects, with the empty history
+abbrev pub begun : List Meaning → ℕ → Stored
+begun ms max = record { types = types_of ms; history = []; max = max; forgotten = 0 }
 
 -- ---- the end
 

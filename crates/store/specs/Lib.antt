@@ -7,4 +7,5 @@ pub mod Renews
 pub mod Renewals
 pub mod Follows
 pub mod Replays
+pub mod OwnHistory
 pub mod Examples

@@ -10,12 +10,12 @@ use crate::refusals::NewRefusal;
 use object_calls::CallTable;
 use object_trait::Recovery;
 use std::alloc::{AllocError, Global};
-use type_table::{LONGEST_HISTORY, MOST_OBJECTS};
+use type_table::MOST_OBJECTS;
 
 /// The least limit of events: a begin and an end.
 const LEAST_EVENTS: u32 = 2;
 
-/// The calls of each of these objects' types, where a store may be made of them.
+/// The calls of each of these objects' types, where a store may be made of them, with a limit of at most `greatest` events.
 ///
 /// # Errors
 ///
@@ -24,11 +24,12 @@ pub(crate) fn checked_calls<R: Recovery>(
     alloc: Global,
     objects: &Vec<R>,
     max_events: u32,
+    greatest: u32,
 ) -> Result<Vec<CallTable>, NewRefusal>
-    ensures may { IfOk result (λ calls. MayBegin (map R.meaning objects.now.items) max_events) }
+    ensures may { IfOk result (λ calls. MayBegin greatest (map R.meaning objects.now.items) max_events) }
     ensures checked { IfOk result (λ calls. AreChecked (types_of (map R.meaning objects.now.items))) }
     ensures calls { IfOk result (λ calls. HasCalls (types_of (map R.meaning objects.now.items)) calls.items) }
-    ensures refused { IfErr result (λ r. RefusesNew (map R.meaning objects.now.items) max_events r) }
+    ensures refused { IfErr result (λ r. RefusesNew greatest (map R.meaning objects.now.items) max_events r) }
 {
     if objects.is_empty() {
         return Err(NewRefusal::NoObjects);
@@ -39,7 +40,7 @@ pub(crate) fn checked_calls<R: Recovery>(
     if !are_fresh(objects) {
         return Err(NewRefusal::NotFresh);
     }
-    if !is_limit(max_events) {
+    if !is_limit(max_events, greatest) {
         return Err(NewRefusal::BadMax);
     }
     let Ok(calls) = calls_of(alloc, objects) else {
@@ -48,11 +49,11 @@ pub(crate) fn checked_calls<R: Recovery>(
     Ok(calls)
 }
 
-/// Whether this may be the most events of a history.
-fn is_limit(max_events: u32) -> bool
-    ensures { result ≡ is_limit max_events }
+/// Whether this may be the most events of a history, which are at most `greatest`.
+fn is_limit(max_events: u32, greatest: u32) -> bool
+    ensures { result ≡ is_limit greatest max_events }
 {
-    LEAST_EVENTS <= max_events && max_events <= LONGEST_HISTORY
+    LEAST_EVENTS <= max_events && max_events <= greatest
 }
 
 /// Whether each object is as it was made.

@@ -7,7 +7,8 @@ ghost use Rattle.serial_order.specs.Machine.{IsRun};
 ghost use Rattle.serial_order.specs.Replay.{open_count};
 ghost use Rattle.serial_order.specs.Serial.{IsSerial};
 ghost use Rattle.store_laws.specs.Stored.{objects, types_of, MayStep, Steps};
-ghost use Rattle.store.specs.Ends.{MayBegin, RefusesNew, end_command, closing, closing_abort, closing_but, is_other, IsHandedOut};
+ghost use Rattle.type_table.specs.Limits.{most_events, longest_history};
+ghost use Rattle.store.specs.Ends.{MayBegin, RefusesNew, begun, end_command, closing, closing_abort, closing_but, is_other, IsHandedOut};
 ghost use Rattle.store.specs.KeptState.{IsKeptState};
 ghost use Rattle.store_laws.specs.Events.{end_event};
 ghost use Rattle.object_trait.specs.Meaning.{Meaning};
@@ -35,7 +36,7 @@ use store_laws::{
     rows_say_who_is_open, stays_kept, types_stay,
 };
 use table_checker::CheckedType;
-use type_table::{MOST_OPEN, runs_along};
+use type_table::{LONGEST_HISTORY, MOST_EVENTS, MOST_OPEN, limits_agree, runs_along};
 
 /// Transactions over shared objects, each of which has a checked type and a way of recovering from
 /// aborts.
@@ -75,7 +76,8 @@ impl<R: Recovery> Model for Store<R> {
 }
 
 impl<R: Recovery> Store<R> {
-    /// A store of these objects, whose history will have at most `max_events` events.
+    /// A store of these objects, whose history will have at most `max_events` events, from 2 to 1,000,000: then its text
+    /// can be read.
     ///
     /// # Errors
     ///
@@ -86,13 +88,46 @@ impl<R: Recovery> Store<R> {
         objects: Vec<R>,
         max_events: u32,
     ) -> Result<Store<R>, (Vec<R>, NewRefusal)>
-        ensures made { IfOk result (λ s. MayBegin (map R.meaning objects.items) max_events
-            × (s ≡ record { types = types_of (map R.meaning objects.items); history = []; max = max_events; forgotten = 0 })) }
-        ensures refused { IfErr result (λ e. RefusesNew (map R.meaning objects.items) max_events e.1) }
+        ensures made { IfOk result (λ s. MayBegin most_events (map R.meaning objects.items) max_events × (s ≡ begun (map R.meaning objects.items) max_events)) }
+        ensures refused { IfErr result (λ e. RefusesNew most_events (map R.meaning objects.items) max_events e.1) }
+        ensures back { IfErr result (λ e. e.0.items ≡ objects.items) }
+    {
+        limits_agree();
+        Store::within(alloc, objects, max_events, MOST_EVENTS)
+    }
+
+    /// A store that goes on for longer: of `max_events` events, from 2 to 4,294,967,295. Who forgets events needs no
+    /// more memory for them.
+    ///
+    /// # Errors
+    ///
+    /// As `new`.
+    pub fn lasting(
+        alloc: Global,
+        objects: Vec<R>,
+        max_events: u32,
+    ) -> Result<Store<R>, (Vec<R>, NewRefusal)>
+        ensures made { IfOk result (λ s. MayBegin longest_history (map R.meaning objects.items) max_events × (s ≡ begun (map R.meaning objects.items) max_events)) }
+        ensures refused { IfErr result (λ e. RefusesNew longest_history (map R.meaning objects.items) max_events e.1) }
+        ensures back { IfErr result (λ e. e.0.items ≡ objects.items) }
+    {
+        limits_agree();
+        Store::within(alloc, objects, max_events, LONGEST_HISTORY)
+    }
+
+    /// A store of these objects, with a limit of at most `greatest` events.
+    fn within(
+        alloc: Global,
+        objects: Vec<R>,
+        max_events: u32,
+        greatest: u32,
+    ) -> Result<Store<R>, (Vec<R>, NewRefusal)>
+        ensures made { IfOk result (λ s. MayBegin greatest (map R.meaning objects.items) max_events × (s ≡ begun (map R.meaning objects.items) max_events)) }
+        ensures refused { IfErr result (λ e. RefusesNew greatest (map R.meaning objects.items) max_events e.1) }
         ensures back { IfErr result (λ e. e.0.items ≡ objects.items) }
     {
         new_is_kept();
-        let calls = match checked_calls(alloc, &objects, max_events) {
+        let calls = match checked_calls(alloc, &objects, max_events, greatest) {
             Ok(calls) => calls,
             Err(refusal) => return Err((objects, refusal)),
         };
@@ -442,7 +477,7 @@ impl<R: Renew> Store<R> {
         closed_is_epoch();
         states_are_inside();
         let objects = renewed_objects(alloc, &self.objects)?;
-        match Store::new(alloc, objects, self.max_events) {
+        match Store::lasting(alloc, objects, self.max_events) {
             Ok(store) => Ok(store),
             Err(_) => Err(AllocError),
         }

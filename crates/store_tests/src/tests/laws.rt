@@ -7,11 +7,12 @@ use object_trait::{
     untouched_shows_the_same, untouched_stays,
 };
 use serial_order::{
-    allows_alike, answer_may_follow, beginners_after, blocker_is_held, checked_headline,
-    command_appends, commit_keeps_views, first_op_is_least, fresh_represents, headline, held_after,
-    idle_is_closed, logs_are_counted, machine_may_apply, opens_after, operations_in_run, own_after,
-    replay_runs, replays_join, represents_on, run_goes_on, run_is_history, sorts_into_commit_order,
-    struck_view_is_legal, summary_after, survives_as_read, transactions_in_run, views_are_legal,
+    allows_alike, answer_may_follow, beginners_after, blocker_is_held, busy_names_who_keeps,
+    checked_headline, command_appends, commit_keeps_views, first_op_is_least, fresh_represents,
+    headline, held_after, idle_is_closed, logs_are_counted, machine_may_apply, opens_after,
+    operations_in_run, own_after, replay_runs, replays_join, represents_on, run_goes_on,
+    run_is_history, sorts_into_commit_order, struck_view_is_legal, summary_after, survives_as_read,
+    transactions_in_run, views_are_legal,
 };
 use store_laws::{
     answer_is_defined, answers_as_defined, asked_is_replayed, begin_moves, end_moves,
@@ -49,6 +50,7 @@ fn laws_are_called() {
     operations_in_run();
     held_after();
     blocker_is_held();
+    busy_names_who_keeps();
     own_after();
     logs_are_counted();
     idle_is_closed();

@@ -13,6 +13,6 @@ loop-position-preserved c =
     record {
       count = omega (arith, long, c.loop-position.invariant.count);
       each = each-more Declares texts c.loop-position.declared.items c.push.new.self.items position c.index-texts-position.result c.in_ok-found.found c.loop-position.invariant.count
-          (slice_get_read texts (length texts) position c.index-texts-position.result refl c.loop-position-test.true c.index-texts-position.is) c.in_ok-found.ensures c.loop-position.invariant.each
+          (slice_get_read texts (length texts) position c.index-texts-position.result refl c.loop-position-test.true c.index-texts-position.is) c.in_ok-found.ensures.declares c.loop-position.invariant.each
           c.in_ok-push.ensures.items;
     }

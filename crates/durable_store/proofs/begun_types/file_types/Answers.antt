@@ -19,7 +19,7 @@ returns-clause-types c =
     let begun = map value_of c.in_ok-begun.begun.items in
     let lines : c.deref-lines.result.now ≡ said.objects = c.deref-lines.ensures.value in
     let states : c.deref-4.result.now ≡ said.states = c.deref-4.ensures.value in
-    let read : AreRead said.types declared = subst (λ ts. AreRead ts declared) c.deref.ensures.value c.in_ok-declared.ensures in
+    let read : AreRead said.types declared = subst (λ ts. AreRead ts declared) c.deref.ensures.value c.in_ok-declared.ensures.read in
     let of : AreTypesOf declared said.objects types =
     subst (λ ls. AreTypesOf declared ls types) lines (subst (λ fs. AreTypesOf fs c.deref-lines.result.now types) c.deref-2.ensures.value c.in_ok-types.ensures.accepted) in
     let at : BeginAt types said.states begun =

@@ -10,5 +10,5 @@ loop-x-preserved c =
     record {
       count = omega (arith, long, c.loop-x.invariant.count);
       known = at-more (map arc_value c.args.types.now) c.args.states.now c.loop-x.begun.items c.push.new.self.items c.loop-x.x c.in_ok-at.at c.loop-x.invariant.count c.loop-x.invariant.known
-          c.in_ok-at.ensures c.in_ok-push.ensures.items;
+          c.in_ok-at.ensures.at c.in_ok-push.ensures.items;
     }

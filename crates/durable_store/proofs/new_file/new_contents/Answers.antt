@@ -17,7 +17,7 @@ returns c =
     let declared = c.in_ok-declared.declared.items in
     let types = map value_of c.in_ok-types.types.items in
     let states = c.in_ok-states.states.items in
-    let read : AreRead texts declared = subst (λ ts. AreRead ts declared) c.deref.ensures.value c.in_ok-declared.ensures in
+    let read : AreRead texts declared = subst (λ ts. AreRead ts declared) c.deref.ensures.value c.in_ok-declared.ensures.read in
     let of : AreTypesOf declared lines types =
     subst (λ ls. AreTypesOf declared ls types) c.deref-3.ensures.value (subst (λ fs. AreTypesOf fs c.deref-3.result.now types) c.deref-2.ensures.value c.in_ok-types.ensures.accepted) in
     let are : states ≡ firsts types = c.in_ok-states.ensures ∙ ap (λ ts. firsts (map value_of ts)) c.deref-4.ensures.value in

@@ -1,6 +1,6 @@
 use Rattle.std.proofs.Common.{inl, inr, ap, ◌∙◌, IsTrue}
 use Rattle.sqlite_trees.specs.View.{Commits, IsClean, View}
-use Rattle.journal.specs.Contents.{contents_of}
+use Rattle.journal.specs.Contents.{Contents, contents_of}
 use Rattle.journal.proofs.Writes.{clean_if_sound, file_of, open_if_sound}
 use Rattle.journal.proofs.journal.Journal.commit.Goals as goal
 
@@ -17,7 +17,9 @@ returns-clause-crash g c db left = elim (c.commit.ensures.crash db left) [
   | inl done ↦ (
       let old = g.S.Store.view c.args.self.now.store in
       let clean : IsClean old = clean_if_sound old (g.met.S.Store.shut_if_dirty _) (g.met.S.Store.broken_if_shut _) done.0 in
-      inl (clean, file_of _ _ done.1 ((c.requires clean).file done.0), ap contents_of done.1))
+      let is = ap contents_of done.1 in
+      let file = c.requires clean in
+      inl (clean, file_of _ _ done.1 (file.file done.0), is, ap (λ (x : Contents). x.headers) is ∙ file.header_is done.0))
   | inr before ↦ inr before
 ]
 
@@ -26,6 +28,8 @@ returns-in_err-commit-clause-crash g c db left = elim (c.commit.ensures.crash db
   | inl done ↦ (
       let old = g.S.Store.view c.args.self.now.store in
       let clean : IsClean old = clean_if_sound old (g.met.S.Store.shut_if_dirty _) (g.met.S.Store.broken_if_shut _) done.0 in
-      inl (clean, file_of _ _ done.1 ((c.requires clean).file done.0), ap contents_of done.1))
+      let is = ap contents_of done.1 in
+      let file = c.requires clean in
+      inl (clean, file_of _ _ done.1 (file.file done.0), is, ap (λ (x : Contents). x.headers) is ∙ file.header_is done.0))
   | inr before ↦ inr before
 ]

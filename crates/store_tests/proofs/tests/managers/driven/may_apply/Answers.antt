@@ -1,6 +1,7 @@
-use Rattle.std.proofs.Common.{◌≡◌, ◌<◌, ◌∙◌, false, length, List, is_some, sym, ap, subst, arith}
-use Rattle.object_trait.specs.Steps.{stops}
+use Rattle.std.proofs.Common.{◌≡◌, ◌<◌, ◌∙◌, false, not, ◌&&◌, ◌==◌, length, List, is_some, sym, ap, subst, arith}
+use Rattle.object_trait.specs.Steps.{stops, stops_alone, holder_of}
 use Rattle.object_trait.specs.declared.log_entry.LogEntry.{LogEntry}
+use Rattle.object_trait.proofs.Alone.{or-none}
 use Rattle.store_tests.proofs.Blocking.{unstopped}
 use Rattle.store_tests.proofs.tests.managers.driven.may_apply.Goals as goal
 
@@ -12,6 +13,8 @@ returns-then-legal g c = λ yes.
     record {
       operation = c.has.ensures c.if-not-has.false;
       legal = c.legal.ensures.0 c.if-legal.true;
-      free = unstopped (stops m c.args.t c.args.k) c.args.t m.log (ap is_some (sym c.blocker.ensures) ∙ none);
+      free = unstopped (stops m c.args.t c.args.k) c.args.t m.log
+          (or-none (holder_of (λ e. stops_alone m c.args.t c.args.k e && (not (e.by == c.args.t) && stops m c.args.t c.args.k e)) m.log) (holder_of (λ e. not (e.by == c.args.t) && stops m c.args.t c.args.k e) m.log)
+          (ap is_some (sym c.blocker.ensures) ∙ none));
       room = subst (λ (log : List LogEntry). length log < 4294967295) (sym c.requires) few;
     }

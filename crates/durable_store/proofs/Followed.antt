@@ -1,0 +1,38 @@
+-- A store follows the events of a file, and forgets some of them meanwhile.
+use Rattle.std.proofs.Common.{◌≡◌, ◌∙◌, ℕ, zero, suc, ◌+◌, ◌<◌, List, [], ◌∷◌, ◌++◌, map, take, length, Some, refl, sym, ap, ap₂, subst, arith}
+use Rattle.std.specs.Prelude.{slice_get}
+use Rattle.std.proofs.lemmas.Option.{same_Some}
+use Rattle.std.proofs.lemmas.List.{append_assoc, append-nil}
+use Rattle.object_trait.specs.declared.event.Event.{Event}
+use Rattle.object_trait.specs.declared.event.EventKind.{EventKind}
+use Rattle.table_checker.specs.Checked.{Checked}
+use Rattle.serial_order.specs.declared.command.Command.{Command}
+use Rattle.store_laws.specs.Stored.{Stored, objects}
+use Rattle.store.specs.Follows.{IsMade, MakesEvent, with_event}
+use Rattle.store.specs.Replays.{AreMade, with_events}
+use Rattle.durable_store.specs.Durable.{event_of_kind, events_of_kinds}
+
+-- an event is made by a store with the same types, the same history and the same limit, however much either remembers
+pub made-alike : (s z : Stored) (e : Event) → s.types ≡ z.types → s.history ≡ z.history → s.max ≡ z.max → IsMade s e → IsMade z e
+made-alike s z e types history max made =
+    let At : List Checked → List Event → ℕ → ℕ → Stored = λ ts H m f. record { types = ts; history = H; max = m; forgotten = f } in
+    let one : MakesEvent (At s.types s.history s.max z.forgotten) made.command e.kind = (made.accepted, made.makes) in
+    let two = subst (λ ts. MakesEvent (At ts s.history s.max z.forgotten) made.command e.kind) types one in
+    let three = subst (λ H. MakesEvent (At z.types H s.max z.forgotten) made.command e.kind) history two in
+    let four = subst (λ m. MakesEvent (At z.types z.history m z.forgotten) made.command e.kind) max three in
+    record { command = made.command; accepted = four.0; makes = four.1 }
+
+-- where all are made, the next one is
+pub made-next : (s : Stored) (es : List Event) (at : ℕ) (e : Event) → AreMade s es → slice_get es at ≡ Some e → IsMade (with_events s (take at es)) e
+made-next s [] at e made there = absurd (cc)
+made-next s (d ∷ es) zero e made there =
+    subst (λ (z : Stored). IsMade z e) (sym (ap (λ H. record s { history = H }) (append-nil s.history))) (subst (IsMade s) (same_Some d e there) made.0)
+made-next s (d ∷ es) (suc at) e made there =
+    subst (λ (z : Stored). IsMade z e) (ap (λ H. record s { history = H }) (append_assoc s.history (d ∷ []) (take at es))) (made-next (with_event s d) es at e made.1 there)
+
+-- the events of the first ones are the first events
+pub taken-events : (happened : List EventKind) (n : ℕ) → take n (events_of_kinds happened) ≡ events_of_kinds (take n happened)
+taken-events [] zero = refl
+taken-events [] (suc n) = refl
+taken-events (k ∷ more) zero = refl
+taken-events (k ∷ more) (suc n) = ap (λ es. event_of_kind k ∷ es) (taken-events more n)
