@@ -15,10 +15,11 @@ use Rattle.command_words.specs.Words.{AreNoTask, AreWordsOf}
 use Rattle.command_words.specs.declared.task.Task.{Task}
 use Rattle.commands.specs.Concluded.{Concludes, IsPartHandedOn, IsHandedOn}
 use Rattle.command_words.specs.declared.task.Task.TheVariants as task
-use Rattle.commands.specs.Program.{Answer, Begun, Does, DoesNothing, DoesTask, DoesWords, IsAmiss, IsToServe, PassesOn, SaysOnError, SaysOfServing, Shown, Started, Written}
+use Rattle.commands.specs.Program.{Answer, Begun, Does, DoesNothing, DoesTask, DoesWords, IsAmiss, IsToServe, PassesOn, SaysOnError, ServesAndKeeps, SaysOfServing, Shown, Started, Written}
 use Rattle.serve_command.proofs.Unsaid.{nothing_said}
 use Rattle.serve_command.specs.Found.{SaysFound}
-use Rattle.serve_command.specs.Served.{ComesOfServing}
+use Rattle.serve_command.specs.Archived.{ArchivesEpochs}
+use Rattle.serve_command.specs.Served.{ComesOfServing, ServesDatabase}
 
 -- ---- bytes
 
@@ -124,6 +125,14 @@ pub served : (given : Shown) (database : Bor (List ℕ)) (fast : Bool) (archive 
     → OnOk answer (SaysFound given.clean (given.databases database.now) database.now err new_err) → PassesOn given (task.Serve database fast archive drain) answer err new_err
 served given database fast archive drain (Ok v) err new_err says = inr says
 served given database fast archive drain (Err fault) err new_err says = inr tt
+
+-- a yes of serving, with what the archive has kept then
+pub keeps_too : (given : Shown) (path : List ℕ) (folder : Option (List ℕ)) (begins : List ℕ → Type 0) (answer : Result Verdict Fault) (old new : Option (List ℕ))
+    → ComesOfServing begins (ServesDatabase given.clean (given.databases path) (given.made path) given.input given.rest) answer old new
+    → OnOk answer (ArchivesEpochs given.clean (given.databases path) (given.made path) (given.kept folder) (given.kept_now folder))
+    → ComesOfServing begins (ServesAndKeeps given path folder) answer old new
+keeps_too given path folder begins (Ok v) old new comes keeps = (comes.0, (comes.1, keeps), comes.2)
+keeps_too given path folder begins (Err fault) old new comes keeps = comes
 
 passed_on : (given : Shown) (task : Task) (answer : Result Verdict Fault) (err new_err : Option (List ℕ)) → PassesOn given task answer err new_err → OnOk answer (SaysOnError given task err new_err)
 passed_on given task (Ok v) err new_err passes = elim passes [

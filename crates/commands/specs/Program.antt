@@ -1,6 +1,7 @@
 -- What the program does, from its words to its status: this page is read from top to bottom.
 use Rattle.std.specs.Prelude.{◌≡◌, ◌⊎◌, ⊤, ℕ, List, [], take, Option, IfSome, Result, Ok, Err}
 use Rattle.std.specs.Io.KnownBytes.{Appends}
+use Rattle.std.specs.Option.{option_map}
 use Rattle.command_files.specs.Answers.{Answers, AnyAnswer, ComesOr, IsThis}
 use Rattle.command_files.specs.Files.{IsFaulty}
 use Rattle.command_files.specs.Status.{status_of}
@@ -16,8 +17,10 @@ use Rattle.command_words.specs.declared.task.Task.TheVariants.{Check, Explain, M
 use Rattle.database_commands.specs.Audited.{AuditsDatabase}
 use Rattle.database_commands.specs.Created.{CreatesStore, HasCreateFault}
 use Rattle.database_commands.specs.History.{TellsHistory}
+use Rattle.serve_command.specs.Archived.{ArchivesEpochs}
 use Rattle.serve_command.specs.Found.{SaysFound}
 use Rattle.serve_command.specs.Served.{BeginsServing, ComesOfServing, ServesDatabase}
+use Rattle.serving.specs.Archives.{KeptHistory}
 use Rattle.sqlite_trees.specs.Tree.{Trees}
 use Rattle.store_commands.specs.Audited.{AuditsFiles, HasAuditFault}
 use Rattle.store_commands.specs.Ordered.{AuditsOrdered, HasOrderedFault}
@@ -30,7 +33,8 @@ use Rattle.type_commands.specs.Request.{texts, wanted_of}
 use Rattle.type_commands.specs.Verdict.{CannotBeChecked, ChecksFile}
 
 -- what is given beside the words, if known: what is held at the paths of files, the last commit of the database at a path, before
--- and after, that no wrong answer of a disk was taken as true, and what the input gives, before and after
+-- and after, that no wrong answer of a disk was taken as true, what the input gives, before and after, and which histories the archive in a
+-- folder keeps, before and after
 pub record Shown : Type 1 where
   pub files : Held
   pub databases : List ℕ → Option Trees
@@ -38,9 +42,18 @@ pub record Shown : Type 1 where
   pub clean : Type 0
   pub input : Option (List ℕ)
   pub rest : Option (List ℕ)
+  pub kept : Option (List ℕ) → Option (List KeptHistory)
+  pub kept_now : Option (List ℕ) → Option (List KeptHistory)
 
-abbrev pub shown : Held → (List ℕ → Option Trees) → (List ℕ → Option Trees) → Type 0 → Option (List ℕ) → Option (List ℕ) → Shown
-shown files databases made clean input rest = record { files = files; databases = databases; made = made; clean = clean; input = input; rest = rest }
+abbrev pub shown : Held → (List ℕ → Option Trees) → (List ℕ → Option Trees) → Type 0 → Option (List ℕ) → Option (List ℕ)
+    → (Option (List ℕ) → Option (List KeptHistory)) → (Option (List ℕ) → Option (List KeptHistory)) → Shown
+shown files databases made clean input rest kept kept_now =
+    record { files = files; databases = databases; made = made; clean = clean; input = input; rest = rest; kept = kept; kept_now = kept_now }
+
+-- a yes of serving, and the archive in the folder has kept the history of each epoch that ended, and nothing else
+abbrev pub ServesAndKeeps : Shown → List ℕ → Option (List ℕ) → Answers
+ServesAndKeeps given path folder v text = ServesDatabase given.clean (given.databases path) (given.made path) given.input given.rest v text
+    × ArchivesEpochs given.clean (given.databases path) (given.made path) (given.kept folder) (given.kept_now folder)
 
 -- the texts that answer a task, with a yes or with a no, by what is given
 abbrev pub Answer : Shown → Task → Answers
@@ -56,7 +69,7 @@ Answer given (AuditOrdered order history types) = AuditsOrdered given.files orde
 Answer given (Create database objects types) = CreatesStore given.clean (given.made database.now) given.files objects.now (texts types.items)
 Answer given (History database) = TellsHistory given.clean (given.databases database.now)
 Answer given (AuditDatabase database) = AuditsDatabase given.clean (given.databases database.now)
-Answer given (Serve database fast archive drain) = ServesDatabase given.clean (given.databases database.now) (given.made database.now) given.input given.rest
+Answer given (Serve database fast archive drain) = ServesAndKeeps given database.now (option_map (λ f. f.now) archive)
 Answer given (Help topic) = IsThis verdict.Yes (text_of_topic topic)
 Answer given Version = IsThis verdict.Yes version_text
 
@@ -92,7 +105,7 @@ abbrev pub Begun : Shown → Task → List ℕ → Type 0
 Begun given (Run script types) text = BeginsRunFile given.files script.now (texts types.items) text
 Begun given (Work jobs types workers tries) text = BeginsWorkFile given.files workers tries jobs.now (texts types.items) text
 Begun given (Stress jobs types workers tries seed) text = BeginsWorkFile given.files workers tries jobs.now (texts types.items) text
-Begun given (Serve database fast archive drain) text = BeginsServing given.clean (given.databases database.now) (given.made database.now) text
+Begun given (Serve database fast archive drain) text = BeginsServing given.clean (given.databases database.now) (given.made database.now) given.input given.rest text
 Begun given task text = AnyAnswer (Answer given task) text
 
 -- a text that the output may have begun where the program failed

@@ -6,6 +6,8 @@ ghost use Rattle.command_files.specs.Answers.{IsEarlyFault};
 ghost use Rattle.command_words.specs.Words.{AreNoTask, AreWordsOf};
 ghost use Rattle.commands.specs.Program.{DoesNothing, DoesTask, DoesWords, PassesOn, shown};
 ghost use Rattle.outputs.specs.Gathered.{taken_by, under, waiting};
+ghost use Rattle.std.specs.Option.{option_map};
+ghost use Rattle.serve_command.specs.Archived.{ArchivesEpochs};
 ghost use Rattle.serve_command.specs.Found.{SaysFound};
 ghost use Rattle.serve_command.specs.Served.{BeginsServing, ComesOfServing, ServesDatabase};
 
@@ -17,7 +19,7 @@ use command_words::{Task, VERSION, WordFault, read_words};
 use database_commands::{NewStore, audit_database, create_store, tell_history};
 use database_files::{Databases, TornWrites};
 use outputs::Out;
-use serve_command::{Archives, Serving, serve_database};
+use serve_command::{Archives, Serving, fault_of_archive, serve_database};
 use std::alloc::Global;
 use std::io::Read;
 use std::rt::Clock;
@@ -50,7 +52,7 @@ pub fn do_words<
     requires nothing_waits { waiting console.out ≡ [] }
     requires nothing_taken { IfSome (W.taken (under console.out)) (λ bytes. bytes ≡ []) }
     requires err_takes { E.fault console.err ≡ None }
-    ensures does { IfOk words.entry (λ all. DoesWords (shown (S.holds given.old.source) (D.holds given.old.databases) (D.holds given.new.databases) (D.is_clean given.new.databases) (I.remaining given.old.input) (I.remaining given.new.input))
+    ensures does { IfOk words.entry (λ all. DoesWords (shown (S.holds given.old.source) (D.holds given.old.databases) (D.holds given.new.databases) (D.is_clean given.new.databases) (I.remaining given.old.input) (I.remaining given.new.input) (K.kept_in given.old.archives) (K.kept_in given.new.archives))
         (map (λ w. w.bytes.items) all.items) result.0 (W.taken (under console.out)) (W.taken (under result.1.out)) (E.taken console.err) (E.taken result.1.err)) }
     ensures no_words { IfErr words.entry (λ fault. DoesNothing fault result.0 (W.taken (under console.out)) (W.taken (under result.1.out))) }
 {
@@ -79,7 +81,7 @@ fn do_given<
     requires nothing_waits { waiting console.out ≡ [] }
     requires nothing_taken { IfSome (W.taken (under console.out)) (λ bytes. bytes ≡ []) }
     requires err_takes { E.fault console.err ≡ None }
-    ensures { DoesWords (shown (S.holds given.old.source) (D.holds given.old.databases) (D.holds given.new.databases) (D.is_clean given.new.databases) (I.remaining given.old.input) (I.remaining given.new.input))
+    ensures { DoesWords (shown (S.holds given.old.source) (D.holds given.old.databases) (D.holds given.new.databases) (D.is_clean given.new.databases) (I.remaining given.old.input) (I.remaining given.new.input) (K.kept_in given.old.archives) (K.kept_in given.new.archives))
         (map (λ w. w.bytes.items) words.now) result.0 (W.taken (under console.out)) (W.taken (under result.1.out)) (E.taken console.err) (E.taken result.1.err) }
 {
     let alloc = rt.alloc();
@@ -108,7 +110,7 @@ fn do_read<
     requires nothing_waits { waiting console.out ≡ [] }
     requires nothing_taken { IfSome (W.taken (under console.out)) (λ bytes. bytes ≡ []) }
     requires err_takes { E.fault console.err ≡ None }
-    ensures { DoesWords (shown (S.holds given.old.source) (D.holds given.old.databases) (D.holds given.new.databases) (D.is_clean given.new.databases) (I.remaining given.old.input) (I.remaining given.new.input))
+    ensures { DoesWords (shown (S.holds given.old.source) (D.holds given.old.databases) (D.holds given.new.databases) (D.is_clean given.new.databases) (I.remaining given.old.input) (I.remaining given.new.input) (K.kept_in given.old.archives) (K.kept_in given.new.archives))
         (map (λ w. w.now) words.now) result.0 (W.taken (under console.out)) (W.taken (under result.1.out)) (E.taken console.err) (E.taken result.1.err) }
 {
     let alloc = rt.alloc();
@@ -166,15 +168,21 @@ fn do_serve<'a, R: AllocGlobal + Clock, S, D: Databases, K: Archives, I: Read, W
 ) -> (Result<Verdict, Fault<'a>>, Console<W, E>)
     requires out_takes { W.fault (under console.out) ≡ None }
     requires err_takes { E.fault console.err ≡ None }
-    ensures comes { let path = asked.entry.path in ComesOfServing (BeginsServing (D.is_clean given.new.databases) (D.holds given.old.databases path.now) (D.holds given.new.databases path.now))
+    ensures comes { let path = asked.entry.path in ComesOfServing (BeginsServing (D.is_clean given.new.databases) (D.holds given.old.databases path.now) (D.holds given.new.databases path.now) (I.remaining given.old.input) (I.remaining given.new.input))
         (ServesDatabase (D.is_clean given.new.databases) (D.holds given.old.databases path.now) (D.holds given.new.databases path.now) (I.remaining given.old.input) (I.remaining given.new.input))
         result.0 (taken_by W.taken console.out) (taken_by W.taken result.1.out) }
     ensures source { given.new.source ≡ given.old.source }
+    ensures archives { let path = asked.entry.path in let folder = option_map (λ f. f.now) asked.entry.archive in
+        OnOk result.0 (ArchivesEpochs (D.is_clean given.new.databases) (D.holds given.old.databases path.now) (D.holds given.new.databases path.now) (K.kept_in given.old.archives folder) (K.kept_in given.new.archives folder)) }
     ensures says { OnOk result.0 (SaysFound (D.is_clean given.new.databases) (D.holds given.old.databases asked.entry.path.now) asked.entry.path.now (E.taken console.err) (E.taken result.1.err)) }
 {
     let Console { out, mut err } = console;
-    let Ok(mut archive) = given.archives.archive(asked.archive) else {
-        return (Err(Fault::NoMemory), Console { out, err });
+    let mut archive = match given.archives.open(asked.archive) {
+        Ok(archive) => archive,
+        Err(fault) => {
+            let folder = asked.archive.unwrap_or(asked.path);
+            return (Err(fault_of_archive(folder, fault)), Console { out, err });
+        }
     };
     let (answer, out) = serve_database(
         rt,
@@ -186,6 +194,7 @@ fn do_serve<'a, R: AllocGlobal + Clock, S, D: Databases, K: Archives, I: Read, W
         out,
         &mut err,
     );
+    given.archives.close(asked.archive, archive);
     (answer, Console { out, err })
 }
 
@@ -207,9 +216,9 @@ fn do_task<
 ) -> (Result<Verdict, Fault<'a>>, Console<W, E>)
     requires out_takes { W.fault (under console.out) ≡ None }
     requires err_takes { E.fault console.err ≡ None }
-    ensures does { DoesTask (shown (S.holds given.old.source) (D.holds given.old.databases) (D.holds given.new.databases) (D.is_clean given.new.databases) (I.remaining given.old.input) (I.remaining given.new.input))
+    ensures does { DoesTask (shown (S.holds given.old.source) (D.holds given.old.databases) (D.holds given.new.databases) (D.is_clean given.new.databases) (I.remaining given.old.input) (I.remaining given.new.input) (K.kept_in given.old.archives) (K.kept_in given.new.archives))
         task.entry result.0 (taken_by W.taken console.out) (taken_by W.taken result.1.out) }
-    ensures err { PassesOn (shown (S.holds given.old.source) (D.holds given.old.databases) (D.holds given.new.databases) (D.is_clean given.new.databases) (I.remaining given.old.input) (I.remaining given.new.input))
+    ensures err { PassesOn (shown (S.holds given.old.source) (D.holds given.old.databases) (D.holds given.new.databases) (D.is_clean given.new.databases) (I.remaining given.old.input) (I.remaining given.new.input) (K.kept_in given.old.archives) (K.kept_in given.new.archives))
         task.entry result.0 (E.taken console.err) (E.taken result.1.err) }
 {
     let alloc = rt.alloc();

@@ -1,3 +1,4 @@
+pub mod NewEpochs
 pub mod ServedLemmas
 pub mod Unsaid
 pub mod ArchivedEpochs

@@ -1,5 +1,5 @@
 -- What is served at trees is served at the path of their database.
-use Rattle.std.proofs.Common.{◌≡◌, ◌∙◌, inl, inr, ℕ, ◌-◌, List, length, ◌++◌, refl, sym, ap, subst, Option, Some, None, Result, Ok, Err, arith, ◌⊎◌, false}
+use Rattle.std.proofs.Common.{◌≡◌, ◌∙◌, inl, inr, ℕ, suc, ◌-◌, List, length, ◌++◌, refl, sym, ap, subst, Option, Some, None, Result, Ok, Err, arith, ◌⊎◌, false}
 use Rattle.std.proofs.Math.Seq.{take-append-le}
 use Rattle.std.proofs.KnownBytes.{Appends-trans}
 use Rattle.std.proofs.lemmas.List.{append-nil, length-append, length-map}
@@ -10,10 +10,10 @@ use Rattle.sqlite_trees.specs.Tree.{Trees}
 use Rattle.sqlite_trees.specs.View.{IsClean}
 use Rattle.store_laws.specs.Stored.{Stored}
 use Rattle.journal.specs.Contents.{Contents, contents_of}
-use Rattle.journal.specs.Journal.{Clean, written}
+use Rattle.journal.specs.Journal.{Clean, ShowsCommit, written}
 use Rattle.durable_store.specs.declared.durable.Durable.{Durable}
 use Rattle.store.specs.Ends.{closing}
-use Rattle.durable_store.specs.Durable.{events_of_kinds, with_all}
+use Rattle.durable_store.specs.Durable.{IsDurable, events_of_kinds, with_all}
 use Rattle.durable_store.specs.Epochs.{firsts, renewed}
 use Rattle.durable_store.specs.Recovered.{IsRecovered}
 use Rattle.request_text.specs.declared.request.Asked.{Asked}
@@ -23,6 +23,7 @@ use Rattle.serving.specs.EpochEnd.{end_answers}
 use Rattle.serving.specs.Served.{Serves}
 use Rattle.serving.specs.Told.{AppendsPart, answers_text, greeting}
 use Rattle.serving.specs.Server.{life_of}
+use Rattle.serving.proofs.Premises.{serves-weaker}
 use Rattle.command_files.specs.Answers.{IsEarlyFault}
 use Rattle.command_files.specs.Status.{is_input}
 use Rattle.command_files.specs.declared.fault.Fault.{Fault}
@@ -30,6 +31,7 @@ use Rattle.command_files.specs.declared.fault.Fault.TheVariants.{Usage, Text, No
 use Rattle.command_files.specs.declared.status.Verdict.{Verdict}
 use Rattle.command_files.specs.declared.status.Verdict.TheVariants.{Yes}
 use Rattle.serve_command.specs.Found.{Finds, SaysFound, found_text}
+use Rattle.serve_command.proofs.NewEpochs.{begins-epoch}
 use Rattle.serve_command.specs.Served.{BeginsEpoch, BeginsBefore, BeginsServing, ComesOfServing, IsOpened, IsServed, ServesDatabase, ServesIn, StopsIn, ClientWork, epoch_events, told_text}
 
 -- ---- under another premise
@@ -44,8 +46,9 @@ work-under sure w = record {
   last = w.last;
   reached = w.reached;
   ended = w.ended;
+  lives = λ c. w.lives (sure c);
   opened = λ c. w.opened (sure c);
-  serves = λ c. w.serves (sure c);
+  serves = serves-weaker sure w.serves;
 }
 
 -- where the last commit is what is held
@@ -66,7 +69,7 @@ served-under {clean} {clean'} {held} {db} {given} {given_now} {text} left sure s
   told = s.told;
   now = s.now;
   renews = s.renews;
-  left_is = λ c. at-path db (λ x. BeginsEpoch x s.now) left (same c) (s.left_is (sure c));
+  left_is = λ c. at-path db (λ x. BeginsEpoch s.work.file s.work.last x s.now) left (same c) (s.left_is (sure c));
 }
 
 -- where what is held at a path may be left, and is this
@@ -75,24 +78,41 @@ is-left left may_be_left x may is = subst (λ (held : Option Trees). IfSome held
 
 under : {clean clean' : Type 0} (held left : Option Trees) (db : Trees) (may_be_left : Trees → Type 0) (given given_now taken taken_now : Option (List ℕ)) (r : Result Verdict Fault) → (clean' → clean)
     → OnOk r (clean' → IfSome left (λ x. db ≡ x)) → OnErr r (clean' → IfSome left may_be_left)
-    → ComesOfServing (BeginsBefore clean held may_be_left) (ServesDatabase clean held (Some db) given given_now) r taken taken_now
-    → ComesOfServing (BeginsServing clean' held left) (ServesDatabase clean' held left given given_now) r taken taken_now
+    → ComesOfServing (BeginsBefore clean held may_be_left given given_now) (ServesDatabase clean held (Some db) given given_now) r taken taken_now
+    → ComesOfServing (BeginsServing clean' held left given given_now) (ServesDatabase clean' held left given given_now) r taken taken_now
 under held left db may_be_left given given_now taken taken_now (Ok v) sure same may c = (c.0, (c.1.0, served-under left sure same c.1.1), c.2)
 under held left db may_be_left given given_now taken taken_now (Err fault) sure same may c = elim c [
   | inl none ↦ inl none
   | inr part ↦
-      let (work, told, found) = part.1.1 in
-      inr (part.0, (part.1.0, (work-under sure work, told, λ c t tells x is. found (sure c) t tells x (is-left left may_be_left x (may c) is)), part.1.2))
+      let it = part.1.1 in
+      inr (
+        part.0,
+        (
+          part.1.0,
+          record {
+            work = work-under sure it.work;
+            told = it.told;
+            read = it.read;
+            leaves = λ c.
+                let leaves = it.leaves (sure c) in
+                record {
+                  left = λ x is. leaves.left x (is-left left may_be_left x (may c) is);
+                  found = λ t tells x is. leaves.found t tells x (is-left left may_be_left x (may c) is);
+                };
+          },
+          part.1.2,
+        ),
+      )
 ]
 
 -- and of an output that is this one
 pub comes-under : {clean clean' : Type 0} {taken taken_now taken' taken_now' : Option (List ℕ)} (held left : Option Trees) (db : Trees) (may_be_left : Trees → Type 0) (given given_now : Option (List ℕ)) (r : Result Verdict Fault)
     → taken ≡ taken' → taken_now ≡ taken_now' → (clean' → clean) → OnOk r (clean' → IfSome left (λ x. db ≡ x)) → OnErr r (clean' → IfSome left may_be_left)
-    → ComesOfServing (BeginsBefore clean held may_be_left) (ServesDatabase clean held (Some db) given given_now) r taken taken_now
-    → ComesOfServing (BeginsServing clean' held left) (ServesDatabase clean' held left given given_now) r taken' taken_now'
+    → ComesOfServing (BeginsBefore clean held may_be_left given given_now) (ServesDatabase clean held (Some db) given given_now) r taken taken_now
+    → ComesOfServing (BeginsServing clean' held left given given_now) (ServesDatabase clean' held left given given_now) r taken' taken_now'
 comes-under {clean} {clean'} {taken} {taken_now} {taken'} {taken_now'} held left db may_be_left given given_now r is is_now sure same may c =
-    subst (λ t. ComesOfServing (BeginsServing clean' held left) (ServesDatabase clean' held left given given_now) r t taken_now') is
-    (subst (λ t. ComesOfServing (BeginsServing clean' held left) (ServesDatabase clean' held left given given_now) r taken t) is_now
+    subst (λ t. ComesOfServing (BeginsServing clean' held left given given_now) (ServesDatabase clean' held left given given_now) r t taken_now') is
+    (subst (λ t. ComesOfServing (BeginsServing clean' held left given given_now) (ServesDatabase clean' held left given given_now) r taken t) is_now
     (under held left db may_be_left given given_now taken taken_now r sure same may c))
 
 -- ---- by how it ended
@@ -105,9 +125,9 @@ of-fault P (Err x) e is p = p
 
 -- the work of lines that were served
 abbrev work-of : {S : Type 0} (g : Ghosts S) (clean : Type 0) (lines : List (List ℕ)) (told : List Answered) (last : ℕ) (reached : Stored) (ended : Option Asked) (held : Option Trees) (db : Trees) (began : Durable S)
-    → (clean → Clean g began.journal) → (Clean g began.journal → IfSome held (λ x. db ≡ x)) → (Clean g began.journal → IsRecovered g (contents_of db) began)
-    → (clean → Serves epoch_events (written g began.journal) (life_of began) lines began.store told last reached ended) → ClientWork clean held
-work-of g clean lines told last reached ended held db began sure same found serves = record {
+    → IsDurable g began → ShowsCommit g began.journal → (clean → Clean g began.journal) → (Clean g began.journal → IfSome held (λ x. db ≡ x)) → (Clean g began.journal → IsRecovered g (contents_of db) began)
+    → Serves clean epoch_events (written g began.journal) (life_of began) lines began.store told last reached ended → ClientWork clean held
+work-of g clean lines told last reached ended held db began sound shows sure same found serves = record {
   life = life_of began;
   file = written g began.journal;
   began = began.store;
@@ -116,32 +136,27 @@ work-of g clean lines told last reached ended held db began sure same found serv
   last = last;
   reached = reached;
   ended = ended;
+  lives = λ c. let now = sure c in (began.journal.header, (sound.journal now).header_is (shows now).sound, refl);
   opened = λ c.
       let is = found (sure c) in
       at-path db (λ x. IsOpened (contents_of x) (written g began.journal) began.store) held (same (sure c)) (record { types = is.types; history = is.history; left = is.written });
   serves = serves;
 }
 
--- the file of a new epoch
-begins : (c : Contents) (types : List Checked) (db : Trees) (s : Stored) → s.types ≡ types → contents_of db ≡ renewed c types → BeginsEpoch db s
-begins c types db s same is = record {
-  events = ap (λ (x : Contents). x.events) is;
-  states = ap (λ (x : Contents). x.states) is ∙ ap firsts (sym same);
-}
-
 -- a client that was served
-served-at : {S : Type 0} {g : Ghosts S} {given taken given_now taken_now : Option (List ℕ)} {trees : S} (db : Trees) (began : Durable S) (held : Option Trees) → (Clean g began.journal → IfSome held (λ x. db ≡ x))
+served-at : {S : Type 0} {g : Ghosts S} {given taken given_now taken_now : Option (List ℕ)} {trees : S} (db : Trees) (began : Durable S) (held : Option Trees) → IsDurable g began → ShowsCommit g began.journal → (Clean g began.journal → IfSome held (λ x. db ≡ x))
     → (Clean g began.journal → IsRecovered g (contents_of db) began) → ServesIn g began given taken trees given_now taken_now
     → (text : List ℕ) × IsServed (IsClean (g.view trees)) held (Some (g.view trees).committed) given given_now text × Appends taken taken_now text
-served-at {S} {g} {given} {taken} {given_now} {taken_now} {trees} db began held same found s =
+served-at {S} {g} {given} {taken} {given_now} {taken_now} {trees} db began held sound shows same found s =
     subst (λ (x : S). (text : List ℕ) × IsServed (IsClean (g.view x)) held (Some (g.view x).committed) given given_now text × Appends taken taken_now text) (sym s.are)
     (let sc = s.serves in
     let has = sc.tells in (
       (greeting (life_of began) ++ answers_text has.told) ++ answers_text (end_answers sc.served.end),
       record {
-        work = work-of g (Clean g s.now.journal) has.served.lines has.told sc.served.session.life sc.served.session.store.store sc.served.end held db began s.clean same found
-            (λ c. subst (λ all. Serves epoch_events (written g began.journal) (life_of began) has.served.lines began.store all sc.served.session.life sc.served.session.store.store sc.served.end)
-            (ap (λ more. has.told ++ more) has.waits ∙ append-nil has.told) (has.served.serves (sc.clean c)));
+        work = work-of g (Clean g s.now.journal) has.served.lines has.told sc.served.session.life sc.served.session.store.store sc.served.end held db began sound shows s.clean same found
+            (serves-weaker sc.clean
+            (subst (λ all. Serves (Clean g sc.served.session.store.journal) epoch_events (written g began.journal) (life_of began) has.served.lines began.store all sc.served.session.life sc.served.session.store.store sc.served.end)
+            (ap (λ more. has.told ++ more) has.waits ∙ append-nil has.told) has.served.serves));
         seen = has.seen;
         half = has.served.half;
         rest = has.rest;
@@ -151,7 +166,10 @@ served-at {S} {g} {given} {taken} {given_now} {taken_now} {trees} db began held 
         told = refl;
         now = s.now.store;
         renews = sc.renews.store;
-        left_is = λ c. begins (with_all (written g sc.served.session.store.journal) (closing sc.served.session.store.store.history)) s.now.store.types (g.view s.now.journal.store).committed s.now.store refl (sc.renews.durable c);
+        left_is = λ c.
+            let (ended, reached, _) = has.served.lasts.reaches (sc.clean c) in
+            let lives = ap suc (sym has.served.lasts.named) in
+            begins-epoch g (written g began.journal) ended sc.served.session.store s.now sc.served.session.life reached s.sound s.shows c (sc.renews.durable c) (sc.renews.life c ∙ lives);
       },
       Appends-trans taken sc.answered taken_now (greeting (life_of began) ++ answers_text has.told) (answers_text (end_answers sc.served.end))
           (Appends-trans taken sc.greeted sc.answered (greeting (life_of began)) (answers_text has.told) sc.greets has.appended) sc.ends,
@@ -161,15 +179,15 @@ served-at {S} {g} {given} {taken} {given_now} {taken_now} {trees} db began held 
 part-more : (a b : Option (List ℕ)) (x y : List ℕ) → AppendsPart a b x → AppendsPart a b (x ++ y)
 part-more a b x y (n, within, part) = (n, omega (arith, length-append x y), subst (Appends a b) (sym (take-append-le n x y within)) part)
 
-cut-at : {S : Type 0} {g : Ghosts S} {taken taken_now : Option (List ℕ)} {trees : S} (db : Trees) (began : Durable S) (held : Option Trees) → (Clean g began.journal → IfSome held (λ x. db ≡ x))
-    → (Clean g began.journal → IsRecovered g (contents_of db) began) → StopsIn g began taken trees taken_now
-    → (text : List ℕ) × BeginsBefore (IsClean (g.view trees)) held (g.recovers trees) text × AppendsPart taken taken_now text
-cut-at {S} {g} {taken} {taken_now} {trees} db began held same found s =
-    subst (λ (x : S). (text : List ℕ) × BeginsBefore (IsClean (g.view x)) held (g.recovers x) text × AppendsPart taken taken_now text) (sym s.are)
+cut-at : {S : Type 0} {g : Ghosts S} {given taken given_now taken_now : Option (List ℕ)} {trees : S} (db : Trees) (began : Durable S) (held : Option Trees) → IsDurable g began → ShowsCommit g began.journal → (Clean g began.journal → IfSome held (λ x. db ≡ x))
+    → (Clean g began.journal → IsRecovered g (contents_of db) began) → StopsIn g began given taken trees given_now taken_now
+    → (text : List ℕ) × BeginsBefore (IsClean (g.view trees)) held (g.recovers trees) given given_now text × AppendsPart taken taken_now text
+cut-at {S} {g} {given} {taken} {given_now} {taken_now} {trees} db began held sound shows same found s =
+    subst (λ (x : S). (text : List ℕ) × BeginsBefore (IsClean (g.view x)) held (g.recovers x) given given_now text × AppendsPart taken taken_now text) (sym s.are)
     (let stops = s.stops in
-    let work : ClientWork (Clean g s.now.journal) held = work-of g (Clean g s.now.journal) stops.lines stops.answers stops.life stops.reached stops.ended held db began s.clean same found stops.serves in (
+    let work : ClientWork (Clean g s.now.journal) held = work-of g (Clean g s.now.journal) stops.lines stops.answers stops.life stops.reached stops.ended held db began sound shows s.clean same found stops.serves in (
       told_text work,
-      (work, refl, s.found),
+      record { work = work; told = refl; read = stops.read; leaves = λ clean. record { left = s.left clean; found = s.found clean } },
       elim stops.told [
         | inl part ↦ part-more taken taken_now (greeting (life_of began) ++ answers_text stops.answers) (answers_text (end_answers stops.ended)) part
         | inr part ↦ part.1
@@ -178,11 +196,11 @@ cut-at {S} {g} {taken} {taken_now} {trees} db began held same found s =
 
 -- what comes of a store that was opened
 pub comes-at : {S : Type 0} {g : Ghosts S} (given taken given_now taken_now : Option (List ℕ)) (trees : S) (db : Trees) (began : Durable S) (held : Option Trees) (r : Result Verdict Fault)
-    → (Clean g began.journal → IfSome held (λ x. db ≡ x)) → (Clean g began.journal → IsRecovered g (contents_of db) began) → IfOk r (λ v. v ≡ Yes)
-    → OnOk r (ServesIn g began given taken trees given_now taken_now) → IfErr r (λ fault. (taken_now ≡ taken) ⊎ ((is_input fault ≡ false) × StopsIn g began taken trees taken_now))
-    → ComesOfServing (BeginsBefore (IsClean (g.view trees)) held (g.recovers trees)) (ServesDatabase (IsClean (g.view trees)) held (Some (g.view trees).committed) given given_now) r taken taken_now
-comes-at given taken given_now taken_now trees db began held (Ok v) same found says told cut = let (text, served, more) = served-at db began held same found told in (text, (says, served), more)
-comes-at given taken given_now taken_now trees db began held (Err fault) same found says told cut = elim cut [ inl none ↦ inl none | inr part ↦ inr (part.0, cut-at db began held same found part.1) ]
+    → IsDurable g began → ShowsCommit g began.journal → (Clean g began.journal → IfSome held (λ x. db ≡ x)) → (Clean g began.journal → IsRecovered g (contents_of db) began) → IfOk r (λ v. v ≡ Yes)
+    → OnOk r (ServesIn g began given taken trees given_now taken_now) → IfErr r (λ fault. (taken_now ≡ taken) ⊎ ((is_input fault ≡ false) × StopsIn g began given taken trees given_now taken_now))
+    → ComesOfServing (BeginsBefore (IsClean (g.view trees)) held (g.recovers trees) given given_now) (ServesDatabase (IsClean (g.view trees)) held (Some (g.view trees).committed) given given_now) r taken taken_now
+comes-at given taken given_now taken_now trees db began held (Ok v) sound shows same found says told cut = let (text, served, more) = served-at db began held sound shows same found told in (text, (says, served), more)
+comes-at given taken given_now taken_now trees db began held (Err fault) sound shows same found says told cut = elim cut [ inl none ↦ inl none | inr part ↦ inr (part.0, cut-at db began held sound shows same found part.1) ]
 
 -- a fault that is nothing of what the user gave
 pub is-no-input : (fault : Fault) → IsEarlyFault ⊥ fault → is_input fault ≡ false

@@ -1,5 +1,5 @@
 -- What `serve DATABASE` writes to its client, and what it leaves.
-use Rattle.std.specs.Prelude.{◌≡◌, ◌⊎◌, false, ℕ, List, [], ◌++◌, Option, None, Some, IfSome, IsTrue, Result, Ok, Err}
+use Rattle.std.specs.Prelude.{◌≡◌, ◌⊎◌, false, ℕ, suc, List, [], ◌++◌, map, Option, None, Some, IfSome, IsTrue, Result, Ok, Err}
 use Rattle.std.specs.Io.KnownBytes.{Appends, Consumes, IsAtEnd}
 use Rattle.command_files.specs.Answers.{Answers}
 use Rattle.command_files.specs.Status.{is_input}
@@ -12,23 +12,27 @@ use Rattle.sqlite_trees.specs.View.{IsClean, View}
 use Rattle.store_laws.specs.Stored.{Stored}
 use Rattle.store.specs.Ends.{closing}
 use Rattle.store.specs.Renews.{Renews}
-use Rattle.journal.specs.Contents.{Contents, contents_of}
-use Rattle.journal.specs.Journal.{Clean}
+use Rattle.journal.specs.Contents.{Contents, IsFile, contents_of}
+use Rattle.journal.specs.Journal.{Clean, ShowsCommit}
+use Rattle.journal.specs.declared.header.Header.{Header}
 use Rattle.durable_store.specs.declared.durable.Durable.{Durable}
-use Rattle.durable_store.specs.Durable.{events_of_kinds}
+use Rattle.durable_store.specs.Durable.{IsDurable, events_of_kinds}
 use Rattle.durable_store.specs.Epochs.{firsts}
 use Rattle.durable_store.specs.Recovered.{recovered}
 use Rattle.durable_store.specs.Types.{HasTypes}
 use Rattle.request_text.specs.declared.request.Asked.{Asked}
 use Rattle.request_text.specs.declared.request.TransactionName.{TransactionName}
 use Rattle.serving.specs.declared.answer_line.Answered.{Answered}
+use Rattle.serving.specs.Acknowledged.{AreLast}
 use Rattle.serving.specs.CommitsFound.{CommitsAreFound, HasCommit, TellsCommit}
 use Rattle.serving.specs.EpochEnd.{end_answers}
 use Rattle.serving.specs.Epochs.{aborted}
+use Rattle.serving.specs.Group.{AreFirstLines}
+use Rattle.serving.specs.Left.{Began, IsInLife, IsLeftAfter, Survives, began_at}
 use Rattle.serving.specs.Lines.{AreLines}
 use Rattle.serving.specs.Served.{Serves}
 use Rattle.serving.specs.Told.{AppendsPart, answers_text, greeting}
-use Rattle.serving.specs.Whole.{ServesClient, StopsServing}
+use Rattle.serving.specs.Whole.{ServesClient, StopsServing, session_of}
 
 -- with this many events an epoch is full
 abbrev pub epoch_events : ℕ
@@ -40,8 +44,8 @@ pub record IsOpened (said file : Contents) (began : Stored) : Type 0 where
   pub history : began.history ≡ events_of_kinds said.events ++ closing (events_of_kinds said.events)
   pub left : file ≡ recovered said
 
--- lines of a client that were done, in their order, by the store of what a file said, and so they were answered, epoch after epoch; all of it if no
--- wrong answer of a disk was taken as true
+-- lines of a client that were done, in their order, by a store, and so they were answered, epoch after epoch; if no wrong answer of a disk was
+-- taken as true, it is the store of what a file said, and what is read of the file is so
 pub record ClientWork (clean : Type 0) (held : Option Trees) : Type 0 where
   pub life : ℕ
   pub file : Contents
@@ -51,17 +55,27 @@ pub record ClientWork (clean : Type 0) (held : Option Trees) : Type 0 where
   pub last : ℕ
   pub reached : Stored
   pub ended : Option Asked
+  pub lives : clean → IsInLife file life
   pub opened : clean → IfSome held (λ db. IsOpened (contents_of db) file began)
-  pub serves : clean → Serves epoch_events file life lines began told last reached ended
+  pub serves : Serves clean epoch_events file life lines began told last reached ended
 
 -- the lines that a client gets of it
 abbrev pub told_text : {clean : Type 0} {held : Option Trees} → ClientWork clean held → List ℕ
 told_text w = (greeting w.life ++ answers_text w.told) ++ answers_text (end_answers w.ended)
 
--- the file begins a new epoch at the states of this store
-pub record BeginsEpoch (db : Trees) (s : Stored) : Type 0 where
+-- the ids of stores in the headers of a file
+abbrev pub ids_in : Contents → List (List ℕ)
+ids_in c = map (λ (h : Header). h.id) c.headers
+
+-- a file that came from this one begins a new epoch at the states of this store, after this life: with the same texts and objects, of the store
+-- with the same id, in the next life
+pub record BeginsEpoch (file : Contents) (last : ℕ) (db : Trees) (s : Stored) : Type 0 where
   pub events : (contents_of db).events ≡ []
   pub states : (contents_of db).states ≡ firsts s.types
+  pub types : (contents_of db).types ≡ file.types
+  pub objects : (contents_of db).objects ≡ file.objects
+  pub id : ids_in (contents_of db) ≡ ids_in file
+  pub life : IsInLife (contents_of db) (suc last)
 
 -- a text that a client gets: the greeting, the answers and that of the end; of the input these bytes were taken, which are those lines and
 -- after them a half one, or what comes after the end; what was open is aborted, and the file begins a new epoch
@@ -76,24 +90,32 @@ pub record IsServed (clean : Type 0) (held left : Option Trees) (given given_now
   pub told : text ≡ told_text work
   pub now : Stored
   pub renews : Renews (aborted work.reached) now
-  pub left_is : clean → IfSome left (λ db. BeginsEpoch db now)
+  pub left_is : clean → IfSome left (λ db. BeginsEpoch work.file work.last db now)
 
 -- what serving answers: never no
 abbrev pub ServesDatabase : Type 0 → Option Trees → Option Trees → Option (List ℕ) → Option (List ℕ) → Answers
 ServesDatabase clean held left given given_now v text = (v ≡ Yes) × IsServed clean held left given given_now text
 
--- whatever may be left has each commit that was answered
-abbrev pub LeavesCommits : List (List ℕ) → List Answered → (Trees → Type 0) → Type 0
-LeavesCommits lines answers may_be_left = (t : TransactionName) → TellsCommit lines answers t → (db : Trees) → may_be_left db → HasCommit (contents_of db) t
+-- where it began
+abbrev pub work_began : {clean : Type 0} {held : Option Trees} → ClientWork clean held → Began
+work_began w = record { most = epoch_events; file = w.file; life = w.life; store = w.began }
 
--- a text of which a client may have got a beginning, where serving stopped: the greeting, the answers to lines that were done, and that of the
--- end; and what may be left then has each commit that it answers
-abbrev pub BeginsBefore : Type 0 → Option Trees → (Trees → Type 0) → List ℕ → Type 0
-BeginsBefore clean held may_be_left text = (work : ClientWork clean held) × (text ≡ told_text work) × (clean → LeavesCommits work.lines work.told may_be_left)
+-- whatever may be left is the file after the lines of the first bytes that were read, and has each commit that was answered
+pub record LeavesWork {clean : Type 0} {held : Option Trees} (w : ClientWork clean held) (bytes : List ℕ) (given_now : Option (List ℕ)) (may_be_left : Trees → Type 0) : Type 0 where
+  pub left : (db : Trees) → may_be_left db → IsFile db × ((waiting : List Answered) × IsLeftAfter (work_began w) (AreLast w.lines w.ended given_now) bytes w.told waiting (contents_of db))
+  pub found : (t : TransactionName) → TellsCommit w.lines w.told t → (db : Trees) → may_be_left db → HasCommit (work_began w) (AreLast w.lines w.ended given_now) (contents_of db) t
 
--- this, and what is held at the path then has these commits
-abbrev pub BeginsServing : Type 0 → Option Trees → Option Trees → List ℕ → Type 0
-BeginsServing clean held left text = BeginsBefore clean held (λ db. left ≡ Some db) text
+-- a text of which a client may have got a beginning, where serving stopped: the greeting, the answers to the first lines of its input, which
+-- were done, and that of the end; and what may be left then is what these lines and others that were read asked for
+pub record BeginsBefore (clean : Type 0) (held : Option Trees) (may_be_left : Trees → Type 0) (given given_now : Option (List ℕ)) (text : List ℕ) : Type 0 where
+  pub work : ClientWork clean held
+  pub told : text ≡ told_text work
+  pub read : AreFirstLines given work.lines
+  pub leaves : clean → LeavesWork work (read.seen ++ read.rest) given_now may_be_left
+
+-- this, and what is held at the path then is what may be left
+abbrev pub BeginsServing : Type 0 → Option Trees → Option Trees → Option (List ℕ) → Option (List ℕ) → List ℕ → Type 0
+BeginsServing clean held left given given_now text = BeginsBefore clean held (λ db. left ≡ Some db) given given_now text
 
 -- what comes of serving: an answer with its text; or a fault before anything was written, or one that is nothing of what the user gave, and
 -- the output took a beginning of such a text
@@ -112,12 +134,17 @@ pub record ServesIn {S : Type 0} (g : Ghosts S) (began : Durable S) (given taken
   pub now : Durable S
   pub are : trees ≡ now.journal.store
   pub clean : Clean g now.journal → Clean g began.journal
+  pub sound : IsDurable g now
+  pub shows : ShowsCommit g now.journal
   pub serves : ServesClient g epoch_events began given taken now given_now taken_now
 
--- serving stopped, and these are the trees; what a crash leaves of them then has each commit that was answered to the client
-pub record StopsIn {S : Type 0} (g : Ghosts S) (began : Durable S) (taken : Option (List ℕ)) (trees : S) (taken_now : Option (List ℕ)) : Type 0 where
+-- serving stopped, and these are the trees; what a crash leaves of them then is what lines that were read asked for, with each commit that was
+-- answered to the client
+pub record StopsIn {S : Type 0} (g : Ghosts S) (began : Durable S) (given taken : Option (List ℕ)) (trees : S) (given_now taken_now : Option (List ℕ)) : Type 0 where
   pub now : Durable S
   pub are : trees ≡ now.journal.store
   pub clean : Clean g now.journal → Clean g began.journal
-  pub stops : StopsServing g epoch_events began taken now taken_now
-  pub found : Clean g now.journal → CommitsAreFound g stops.lines stops.answers now
+  pub stops : StopsServing g epoch_events began given taken now taken_now
+  pub left : Clean g now.journal
+      → Survives g (began_at g (session_of epoch_events began)) (AreLast stops.lines stops.ended given_now) (stops.read.seen ++ stops.read.rest) stops.answers now
+  pub found : Clean g now.journal → CommitsAreFound g (began_at g (session_of epoch_events began)) (AreLast stops.lines stops.ended given_now) stops.lines stops.answers now

@@ -6,4 +6,4 @@ mod found;
 mod serve;
 
 pub use archives::{Archives, FolderArchive, FolderArchives};
-pub use serve::{Serving, serve_database};
+pub use serve::{Serving, fault_of_archive, serve_database};

@@ -54,7 +54,8 @@ pub struct Serving<'a> {
 /// # Errors
 ///
 /// The database isn't opened or isn't one of a store, it failed, the archive, the input or the output failed, or memory was
-/// refused. Then no further call of the file is made, and what is at the path has each commit that was answered.
+/// refused. Then no further call of the file is made, and what is at the path is the file after some of the lines that were
+/// read, among them each commit that was answered.
 pub fn serve_database<'a, C: Clock, D: Databases, A: Archive, I: Read, W: Out, E: Out>(
     clock: &C,
     alloc: Global,
@@ -67,7 +68,7 @@ pub fn serve_database<'a, C: Clock, D: Databases, A: Archive, I: Read, W: Out, E
 ) -> (Result<Verdict, Fault<'a>>, Gathered<W>)
     requires out_takes { W.fault (under out) ≡ None }
     requires err_takes { E.fault err.old ≡ None }
-    ensures comes { let path = asked.entry.path in ComesOfServing (BeginsServing (D.is_clean databases.new) (D.holds databases.old path.now) (D.holds databases.new path.now))
+    ensures comes { let path = asked.entry.path in ComesOfServing (BeginsServing (D.is_clean databases.new) (D.holds databases.old path.now) (D.holds databases.new path.now) (I.remaining input.old) (I.remaining input.new))
         (ServesDatabase (D.is_clean databases.new) (D.holds databases.old path.now) (D.holds databases.new path.now) (I.remaining input.old) (I.remaining input.new))
         result.0 (taken_by W.taken out) (taken_by W.taken result.1) }
     ensures says { OnOk result.0 (SaysFound (D.is_clean databases.new) (D.holds databases.old asked.entry.path.now) asked.entry.path.now (E.taken err.old) (E.taken err.new)) }
@@ -126,7 +127,7 @@ fn serve_in<'a, C: Clock, S: Alter, A: Archive, I: Read, W: Out, E: Out>(
     requires out_takes { W.fault (under client.old.out) ≡ None }
     requires err_takes { E.fault err.old ≡ None }
     ensures comes { (held : Option Trees) → IsHeld (S.Store.view trees) held
-        → ComesOfServing (BeginsBefore (IsClean (S.Store.view result.1)) held (S.Store.recovers result.1))
+        → ComesOfServing (BeginsBefore (IsClean (S.Store.view result.1)) held (S.Store.recovers result.1) (I.remaining input.old) (I.remaining input.new))
         (ServesDatabase (IsClean (S.Store.view result.1)) held (Some (S.Store.view result.1).committed) (I.remaining input.old) (I.remaining input.new))
         result.0 (taken_by W.taken client.old.out) (taken_by W.taken client.new.out) }
     ensures says { (held : Option Trees) → IsHeld (S.Store.view trees) held
@@ -165,7 +166,7 @@ fn serve_store<'a, C: Clock, S: Alter, A: Archive, I: Read, W: Out>(
     ensures yes { IfOk result.0 (λ verdict. verdict ≡ Verdict.Yes) }
     ensures told { OnOk result.0 (ServesIn S.Store store (I.remaining input.old) (taken_by W.taken client.old.out) result.1 (I.remaining input.new) (taken_by W.taken client.new.out)) }
     ensures cut { IfErr result.0 (λ fault. (taken_by W.taken client.new.out ≡ taken_by W.taken client.old.out)
-        ⊎ ((is_input fault ≡ false) × StopsIn S.Store store (taken_by W.taken client.old.out) result.1 (taken_by W.taken client.new.out))) }
+        ⊎ ((is_input fault ≡ false) × StopsIn S.Store store (I.remaining input.old) (taken_by W.taken client.old.out) result.1 (I.remaining input.new) (taken_by W.taken client.new.out))) }
     ensures archives { OnOk result.0 (IsClean (S.Store.view result.1)
         → KeepsBetween (written S.Store store.journal) (contents_of (S.Store.view result.1).committed) (A.kept archive.old) (A.kept archive.new)) }
 {
@@ -209,8 +210,8 @@ fn fault_of_serving<'a>(asked: Serving<'a>, fault: ServeFault) -> Fault<'a>
     }
 }
 
-/// Why the archive in a folder doesn't keep a history.
-fn fault_of_archive<'a>(folder: &'a str, fault: ArchiveFault) -> Fault<'a>
+/// Why the archive in a folder can't be used, or doesn't keep a history.
+pub fn fault_of_archive<'a>(folder: &'a str, fault: ArchiveFault) -> Fault<'a>
     ensures { IsEarlyFault ⊥ result }
 {
     match fault {

@@ -1,5 +1,7 @@
--- Clients get answers, and those to commits survive a crash.
-use Rattle.std.proofs.Common.{◌≡◌, ◌⊎◌, ℕ, true, None, Option, Result, Ok, Err, List, [], take, refl, sym, subst, IsTrue}
+-- Clients get answers, and a crash leaves what they asked for, with each commit that was answered.
+use Rattle.std.proofs.Common.{◌≡◌, ◌∙◌, ◌⊎◌, inl, inr, ℕ, true, None, Option, Result, Ok, Err, List, [], ◌++◌, take, drop, refl, sym, ap, subst, IsTrue}
+use Rattle.std.proofs.KnownBytes.{Consumes-trans}
+use Rattle.std.proofs.lemmas.List.{append-nil}
 use Rattle.std.specs.Io.KnownBytes.{Appends, Consumes, IsAtEnd}
 use Rattle.std.specs.Prelude.{MatchResult, OnErr, OnOk}
 use Rattle.sqlite_trees.specs.declared.store.Store.{Ghosts}
@@ -11,21 +13,22 @@ use Rattle.request_text.specs.declared.request.Asked.{Asked}
 use Rattle.serving.specs.declared.answer_line.Answered.{Answered}
 use Rattle.serving.specs.declared.session.Session.{Session}
 use Rattle.serving.specs.declared.server.Server.{Server}
-use Rattle.serving.specs.Acknowledged.{ServesSafely, StaysSafe, StopsSafely, StopsServingSafely, TellsSafely}
+use Rattle.serving.specs.Acknowledged.{NoneLast, ServesSafely, StopsSafely, StopsServingSafely, TellsSafely}
 use Rattle.serving.specs.Archives.{KeptHistory}
 use Rattle.serving.specs.Does.{is_epoch_full}
-use Rattle.serving.specs.EpochEnd.{EndsEpoch, end_answers}
+use Rattle.serving.specs.EpochEnd.{EndsEpoch, LeavesEnd, end_answers}
 use Rattle.serving.specs.Epochs.{LeavesEpochs, WritesEpochs}
-use Rattle.serving.specs.Group.{IsUnasked}
+use Rattle.serving.specs.Follows.{LeavesWritten}
+use Rattle.serving.specs.Group.{HasTold, IsUnasked}
+use Rattle.serving.specs.Left.{LeavesLines, Survives, began_at}
 use Rattle.serving.specs.Requests.{LetsGo}
 use Rattle.serving.specs.Server.{StaysInEpoch, HasServed, ServesBytes, life_of}
 use Rattle.serving.specs.Told.{AppendsPart, answers_text, greeting, has_commit}
 use Rattle.serving.specs.Whole.{session_of}
 use Rattle.serving.proofs.EndLemmas.{stops-answering, stops-ending, stops-greeting}
-use Rattle.serving.proofs.FirstLines.{first-lines}
 use Rattle.serving.proofs.Groups.{group-told, stops-before, stops-telling, told-none}
 use Rattle.serving.proofs.LaterEpochs.{told-as, told-epoch}
-use Rattle.serving.proofs.Survival.{safe-group, safe-none, safe-on, survives-on}
+use Rattle.serving.proofs.LeftLines.{lines-ended, lines-group, lines-last, lines-none, lines-on, lines-survive, rest-read, survives-last}
 
 -- while the trees of a store are open, a crash leaves their last commit
 abbrev pub LeavesLast : {S : Type 0} (g : Ghosts S) → Durable S → Type 0
@@ -38,26 +41,60 @@ pub tells-none : {S : Type 0} {g : Ghosts S} (given taken : Option (List ℕ)) (
     → TellsSafely g s.session given taken s given taken
 tells-none given taken s sound fresh last = record {
   tells = told-none given taken s sound fresh;
-  safe = λ shows clean. safe-none s.session sound fresh.named last shows clean;
+  safe = λ shows clean. lines-none s.session sound fresh.named clean shows last;
 }
+
+-- where a group begins: what was read is served, and no answer waits
+at-start : {S : Type 0} {g : Ghosts S} {began : Session S} {given taken given_now taken_now : Option (List ℕ)} {old : Server S} → old.end ≡ None
+    → (has : HasTold g began given taken old given_now taken_now) → LeavesLines g (began_at g began) NoneLast (has.seen ++ has.rest) has.told [] old.session.store
+    → LeavesLines g (began_at g began) NoneLast has.seen has.told old.answers.items old.session.store
+at-start {S} {g} {began} {old = old} none has so_far =
+    subst (λ bs. LeavesLines g (began_at g began) NoneLast bs has.told old.answers.items old.session.store) (ap (λ xs. has.seen ++ xs) (has.all none) ∙ append-nil has.seen)
+    (subst (λ xs. LeavesLines g (began_at g began) NoneLast (has.seen ++ has.rest) has.told xs old.session.store) (sym has.waits) so_far)
+
+-- what lines of a group leave
+abbrev LeavesGroup : {S : Type 0} (g : Ghosts S) → Session S → Server S → List ℕ → Server S → Type 0
+LeavesGroup g began old bytes mid = (told : List Answered) (seen : List ℕ) → HasServed g began told seen old → LeavesLines g (began_at g began) NoneLast seen told old.answers.items old.session.store
+    → LeavesLines g (began_at g began) NoneLast (seen ++ bytes) told mid.answers.items mid.session.store
+
+-- where one of their answers is to a commit, all that was written becomes durable
+lines-settled : {S : Type 0} {g : Ghosts S} {began : Session S} {old : Server S} (mid : Server S) (new : Durable S) (bytes : List ℕ)
+    → ((told : List Answered) (seen : List ℕ) → HasServed g began told seen old → ServesBytes g began told seen bytes mid) → LeavesGroup g began old bytes mid → LeavesWritten g mid.session.store new
+    → (told : List Answered) (seen : List ℕ) → (served : HasServed g began told seen old) → LeavesLines g (began_at g began) NoneLast seen told old.answers.items old.session.store → (count : ℕ)
+    → HasServed g began told (seen ++ take count bytes) mid → LeavesLines g (began_at g began) NoneLast ((seen ++ take count bytes) ++ drop count bytes) told mid.answers.items new
+lines-settled {S} {g} {began} mid new bytes serves left crash told seen served so_far count more =
+    lines-on mid new (drop count bytes) more crash
+    (subst (λ bs. LeavesLines g (began_at g began) NoneLast bs told mid.answers.items mid.session.store) (sym (rest-read seen bytes count)) (left told seen served so_far))
+
+-- and the client may have got its answers
+group-lines : {S : Type 0} {g : Ghosts S} {began : Session S} {given taken given_now taken_now : Option (List ℕ)} {old : Server S} (mid : Server S) (new : Session S) (bytes : List ℕ) → old.end ≡ None
+    → (so_far : TellsSafely g began given taken old given_now taken_now)
+    → (serves : (told : List Answered) (seen : List ℕ) → HasServed g began told seen old → ServesBytes g began told seen bytes mid) → LeavesGroup g began old bytes mid
+    → StaysInEpoch g old.session mid.session → StaysInEpoch g mid.session new → (has_commit mid.answers.items ≡ true → ShowsCommit g new.store.journal)
+    → (Clean g new.store.journal → written g new.store.journal ≡ written g mid.session.store.journal) → LeavesWritten g mid.session.store new.store
+    → ShowsCommit g began.store.journal → Clean g new.store.journal
+    → let has = so_far.tells in let more = serves has.told has.seen has.served in
+    LeavesLines g (began_at g began) NoneLast ((has.seen ++ take more.count bytes) ++ drop more.count bytes) (has.told ++ mid.answers.items) [] new.store
+group-lines {S} {g} {began} mid new bytes none so_far serves left first second settled same crash shows clean =
+    let has = so_far.tells in
+    let more = serves has.told has.seen has.served in
+    let before = at-start none has (so_far.safe shows (first.clean (second.clean clean))) in
+    let done = more.served in
+    lines-group (began_at g began) mid.session new (drop more.count bytes) mid.answers.items mid.end done.asked done.lasts.sound done.lasts.named second settled same done.serves
+    (lines-settled mid new.store bytes serves left crash has.told has.seen has.served before more.count done) clean
 
 -- a group was answered
 pub tells-group : {S : Type 0} {g : Ghosts S} {began : Session S} {given taken given_now taken_now : Option (List ℕ)} {old : Server S} (mid new : Server S) (given_new taken_new : Option (List ℕ))
     (bytes : List ℕ) → old.end ≡ None → TellsSafely g began given taken old given_now taken_now
-    → ((told : List Answered) (seen : List ℕ) → HasServed g began told seen old → ServesBytes g began told seen bytes mid)
+    → ((told : List Answered) (seen : List ℕ) → HasServed g began told seen old → ServesBytes g began told seen bytes mid) → LeavesGroup g began old bytes mid
     → Consumes given_now given_new bytes → Appends taken_now taken_new (answers_text mid.answers.items)
     → StaysInEpoch g old.session mid.session → StaysInEpoch g mid.session new.session → LetsGo mid.session.store.store new.session.store.store
     → (has_commit mid.answers.items ≡ true → ShowsCommit g new.session.store.journal)
-    → (Clean g new.session.store.journal → written g new.session.store.journal ≡ written g mid.session.store.journal)
+    → (Clean g new.session.store.journal → written g new.session.store.journal ≡ written g mid.session.store.journal) → LeavesWritten g mid.session.store new.session.store
     → new.line ≡ mid.line → new.end ≡ mid.end → new.answers.items ≡ [] → TellsSafely g began given taken new given_new taken_new
-tells-group {old = old} mid new given_new taken_new bytes none so_far serves consumed appended first second lets settled same line ended clear = record {
+tells-group mid new given_new taken_new bytes none so_far serves left consumed appended first second lets settled same crash line ended clear = record {
   tells = group-told mid new given_new taken_new bytes none so_far.tells serves consumed appended second lets line ended clear;
-  safe = λ shows clean.
-      let has = so_far.tells in
-      let more = serves has.told has.seen has.served in
-      safe-group old.session mid.session new.session mid.answers.items mid.end (so_far.safe shows (first.clean (second.clean clean))) first second settled same
-      (first-lines has.seen (take more.count bytes) has.served.lines has.served.half more.served.lines more.served.half has.served.asked more.served.asked)
-      more.served.lasts.named more.served.serves clean;
+  safe = λ shows clean. group-lines mid new.session bytes none so_far serves left first second settled same crash shows clean;
 }
 
 -- where the session, the line, the answers and the end are the same
@@ -66,99 +103,145 @@ pub tells-as : {S : Type 0} {g : Ghosts S} {began : Session S} {given taken give
 tells-as {S} {g} {began} new session line answers ended so_far = record {
   tells = told-as new session line answers ended so_far.tells;
   safe = λ shows clean.
-      subst (λ (s : Session S). StaysSafe g began so_far.tells.served.lines so_far.tells.told s.store) (sym session)
+      subst (λ (s : Session S). LeavesLines g (began_at g began) NoneLast (so_far.tells.seen ++ so_far.tells.rest) so_far.tells.told [] s.store) (sym session)
       (so_far.safe shows (subst (λ (s : Session S). Clean g s.store.journal) session clean));
 }
+
+-- an epoch is over, as its file may show
+ended-lines : {S : Type 0} {g : Ghosts S} {began : Session S} {given taken given_now taken_now : Option (List ℕ)} {old : Server S} {last : List (List ℕ) → Type 0} (new : Durable S)
+    → (has : HasTold g began given taken old given_now taken_now) → ((is_epoch_full began.most_events old.session.store.store ≡ true) ⊎ last has.served.lines) → LeavesEnd g old.session.store new
+    → LeavesLines g (began_at g began) NoneLast (has.seen ++ has.rest) has.told [] old.session.store → LeavesLines g (began_at g began) last (has.seen ++ has.rest) has.told [] new
+ended-lines {S} {g} {began} {old = old} {last} new has so crash so_far =
+    subst (λ xs. LeavesLines g (began_at g began) last (has.seen ++ has.rest) has.told xs new) has.waits
+    (lines-ended old new has.rest has.served so crash
+    (subst (λ xs. LeavesLines g (began_at g began) last (has.seen ++ has.rest) has.told xs old.session.store) (sym has.waits) (lines-last g (began_at g began) old.session.store (λ lines none. absurd none) so_far)))
+
+-- one that is full, by how many events make it so
+full-since : {S : Type 0} {g : Ghosts S} {began : Session S} {given taken given_now taken_now : Option (List ℕ)} {old : Server S} → HasTold g began given taken old given_now taken_now
+    → is_epoch_full old.session.most_events old.session.store.store ≡ true → is_epoch_full began.most_events old.session.store.store ≡ true
+full-since {old = old} has full = subst (λ n. is_epoch_full n old.session.store.store ≡ true) has.served.lasts.most full
 
 -- another epoch began
 pub tells-epoch : {S : Type 0} {g : Ghosts S} {began : Session S} {given taken given_now taken_now : Option (List ℕ)} {old : Server S} (new : Server S) (kept kept_now : Option (List KeptHistory)) → old.end ≡ None
     → is_epoch_full old.session.most_events old.session.store.store ≡ true → EndsEpoch g old.session.store new.session.store → IsDurable g new.session.store → new.session.life ≡ life_of new.session.store
     → new.session.most_events ≡ old.session.most_events → WritesEpochs g old.session.store new.session.store kept kept_now → (Clean g new.session.store.journal → Clean g old.session.store.journal)
-    → LeavesEpochs g old.session.store new.session.store kept kept_now → new.line ≡ old.line → new.answers ≡ old.answers → new.end ≡ old.end
+    → LeavesEpochs g old.session.store new.session.store kept kept_now → LeavesEnd g old.session.store new.session.store → new.line ≡ old.line → new.answers ≡ old.answers → new.end ≡ old.end
     → TellsSafely g began given taken old given_now taken_now → TellsSafely g began given taken new given_now taken_now
-tells-epoch {old = old} new kept kept_now none full ends sound named most writes clean crash line answers ended so_far = record {
+tells-epoch new kept kept_now none full ends sound named most writes clean crash left line answers ended so_far = record {
   tells = told-epoch new kept kept_now none full ends sound named most writes clean crash line answers ended so_far.tells;
-  safe = λ shows now. safe-on old.session.store new.session.store kept kept_now (so_far.safe shows (clean now)) crash writes now;
+  safe = λ shows now. ended-lines new.session.store so_far.tells (inl (full-since so_far.tells full)) left (so_far.safe shows (clean now));
 }
 
 -- ---- a server stops
 
--- with no more answers
-pub stops-safely : {S : Type 0} {g : Ghosts S} {began : Session S} {given taken given_now taken_now : Option (List ℕ)} {old : Server S} (new : Durable S) (kept kept_now : Option (List KeptHistory))
-    → (Clean g new.journal → Clean g old.session.store.journal) → LeavesEpochs g old.session.store new kept kept_now → TellsSafely g began given taken old given_now taken_now
-    → StopsSafely g began taken new taken_now
-stops-safely {old = old} new kept kept_now clean crash so_far = record {
-  stops = stops-before new clean so_far.tells;
-  safe = λ shows now. survives-on old.session.store new kept kept_now (so_far.safe shows (clean now)) crash;
+-- where it is
+pub stops-here : {S : Type 0} {g : Ghosts S} {began : Session S} {given taken given_now taken_now : Option (List ℕ)} {old : Server S} → TellsSafely g began given taken old given_now taken_now
+    → StopsSafely g began given taken old.session.store taken_now
+stops-here {S} {g} {began} {given_now = given_now} {old = old} so_far = record {
+  stops = stops-before old.session.store so_far.tells.rest given_now (λ clean. clean) so_far.tells so_far.tells.consumed;
+  safe = λ shows clean. lines-survive g (began_at g began) old.session.store (so_far.safe shows clean);
 }
 
--- while it answers what it had settled
-pub stops-safely-telling : {S : Type 0} {g : Ghosts S} {began : Session S} {given taken given_now taken_now : Option (List ℕ)} {old : Server S} (mid : Server S) (new : Session S) (taken_new : Option (List ℕ))
-    (bytes : List ℕ) → TellsSafely g began given taken old given_now taken_now → ((told : List Answered) (seen : List ℕ) → HasServed g began told seen old → ServesBytes g began told seen bytes mid)
-    → AppendsPart taken_now taken_new (answers_text mid.answers.items) → StaysInEpoch g old.session mid.session → StaysInEpoch g mid.session new
-    → (has_commit mid.answers.items ≡ true → ShowsCommit g new.store.journal) → (Clean g new.store.journal → written g new.store.journal ≡ written g mid.session.store.journal)
-    → StopsSafely g began taken new.store taken_new
-stops-safely-telling {old = old} mid new taken_new bytes so_far serves part first second settled same =
+-- while another epoch begins
+pub stops-epoch : {S : Type 0} {g : Ghosts S} {began : Session S} {given taken given_now taken_now : Option (List ℕ)} {old : Server S} (new : Durable S)
+    → is_epoch_full old.session.most_events old.session.store.store ≡ true → (Clean g new.journal → Clean g old.session.store.journal) → LeavesEnd g old.session.store new
+    → TellsSafely g began given taken old given_now taken_now → StopsSafely g began given taken new taken_now
+stops-epoch {S} {g} {began} {given_now = given_now} new full clean left so_far = record {
+  stops = stops-before new so_far.tells.rest given_now clean so_far.tells so_far.tells.consumed;
+  safe = λ shows now. lines-survive g (began_at g began) new (ended-lines new so_far.tells (inl (full-since so_far.tells full)) left (so_far.safe shows (clean now)));
+}
+
+-- while it does the lines of a group
+pub stops-doing : {S : Type 0} {g : Ghosts S} {began : Session S} {given taken given_now taken_now : Option (List ℕ)} {old : Server S} (new : Durable S) (given_new : Option (List ℕ)) (bytes : List ℕ)
+    → old.end ≡ None → (Clean g new.journal → Clean g old.session.store.journal) → Consumes given_now given_new bytes
+    → ((told : List Answered) (seen : List ℕ) → HasServed g began told seen old → LeavesLines g (began_at g began) NoneLast seen told old.answers.items old.session.store → Survives g (began_at g began) NoneLast (seen ++ bytes) told new)
+    → TellsSafely g began given taken old given_now taken_now → StopsSafely g began given taken new taken_now
+stops-doing {given = given} {given_now = given_now} new given_new bytes none clean consumed left so_far =
     let has = so_far.tells in
-    let more = serves has.told has.seen has.served in
     record {
-      stops = stops-telling mid new.store taken_new bytes second.clean has more part;
-      safe = λ shows clean. (safe-group old.session mid.session new mid.answers.items mid.end (so_far.safe shows (first.clean (second.clean clean))) first second settled same
-          (first-lines has.seen (take more.count bytes) has.served.lines has.served.half more.served.lines more.served.half has.served.asked more.served.asked)
-          more.served.lasts.named more.served.serves clean).survives;
+      stops = stops-before new bytes given_new clean has
+          (subst (Consumes given given_new) (ap (λ (xs : List ℕ). xs ++ bytes) (ap (λ (xs : List ℕ). has.seen ++ xs) (has.all none) ∙ append-nil has.seen))
+          (Consumes-trans given given_now given_new (has.seen ++ has.rest) bytes has.consumed consumed));
+      safe = λ shows now. left has.told has.seen has.served (at-start none has (so_far.safe shows (clean now)));
+    }
+
+-- while what it has done becomes durable
+pub stops-settling : {S : Type 0} {g : Ghosts S} {began : Session S} {given taken given_now taken_now : Option (List ℕ)} {old : Server S} (mid : Server S) (new : Durable S) (given_new : Option (List ℕ)) (bytes : List ℕ)
+    → old.end ≡ None → (Clean g new.journal → Clean g old.session.store.journal) → Consumes given_now given_new bytes
+    → ((told : List Answered) (seen : List ℕ) → HasServed g began told seen old → ServesBytes g began told seen bytes mid) → LeavesGroup g began old bytes mid → LeavesWritten g mid.session.store new
+    → TellsSafely g began given taken old given_now taken_now → StopsSafely g began given taken new taken_now
+stops-settling {S} {g} {began} mid new given_new bytes none clean consumed serves left crash so_far =
+    stops-doing new given_new bytes none clean consumed
+    (λ told seen served before.
+    let more = serves told seen served in
+    lines-survive g (began_at g began) new (subst (λ bs. LeavesLines g (began_at g began) NoneLast bs told mid.answers.items new) (rest-read seen bytes more.count)
+    (lines-settled mid new bytes serves left crash told seen served before more.count more.served)))
+    so_far
+
+-- while it answers what it had settled
+pub stops-safely-telling : {S : Type 0} {g : Ghosts S} {began : Session S} {given taken given_now taken_now : Option (List ℕ)} {old : Server S} (mid : Server S) (new : Session S) (given_new taken_new : Option (List ℕ))
+    (bytes : List ℕ) → old.end ≡ None → TellsSafely g began given taken old given_now taken_now → ((told : List Answered) (seen : List ℕ) → HasServed g began told seen old → ServesBytes g began told seen bytes mid)
+    → LeavesGroup g began old bytes mid → Consumes given_now given_new bytes → AppendsPart taken_now taken_new (answers_text mid.answers.items) → StaysInEpoch g old.session mid.session → StaysInEpoch g mid.session new
+    → (has_commit mid.answers.items ≡ true → ShowsCommit g new.store.journal) → (Clean g new.store.journal → written g new.store.journal ≡ written g mid.session.store.journal)
+    → LeavesWritten g mid.session.store new.store → StopsSafely g began given taken new.store taken_new
+stops-safely-telling {S} {g} {began} mid new given_new taken_new bytes none so_far serves left consumed part first second settled same crash =
+    let has = so_far.tells in
+    record {
+      stops = stops-telling mid new.store given_new taken_new bytes none second.clean has (serves has.told has.seen has.served) consumed part;
+      safe = λ shows clean. lines-survive g (began_at g began) new.store (group-lines mid new bytes none so_far serves left first second settled same crash shows clean);
     }
 
 -- ---- from the greeting to the end
 
 -- at the greeting
-pub stops-safely-greeting : {S : Type 0} {g : Ghosts S} {most : ℕ} {taken taken_now : Option (List ℕ)} (began : Durable S) → IsDurable g began → LeavesLast g began
-    → AppendsPart taken taken_now (greeting (life_of began)) → StopsServingSafely g most began taken began taken_now
-stops-safely-greeting {most = most} began sound last part = record {
-  stops = stops-greeting began part;
-  safe = λ shows clean. (safe-none (session_of most began) sound refl last shows clean).survives;
+pub stops-safely-greeting : {S : Type 0} {g : Ghosts S} {most : ℕ} (given given_now : Option (List ℕ)) {taken taken_now : Option (List ℕ)} (began : Durable S) → IsDurable g began → LeavesLast g began
+    → AppendsPart taken taken_now (greeting (life_of began)) → StopsServingSafely g most began given taken began given_now taken_now
+stops-safely-greeting {S} {g} {most} given given_now began sound last part = record {
+  stops = stops-greeting given began part;
+  safe = λ shows clean. lines-survive g (began_at g (session_of most began)) began (lines-none (session_of most began) sound refl clean shows last);
 }
 
 -- while a server answers
-pub stops-safely-served : {S : Type 0} {g : Ghosts S} {most : ℕ} {taken greeted taken_now : Option (List ℕ)} {session : Session S} {began now d : Durable S} → session ≡ session_of most began → now ≡ d
-    → Appends taken greeted (greeting (life_of began)) → StopsSafely g session greeted d taken_now → StopsServingSafely g most began taken now taken_now
-stops-safely-served {S} {g} {most} {taken} {greeted} {taken_now} {session} {began} {now} {d} same is_now greets so_far =
-    let safe : StopsSafely g (session_of most began) greeted now taken_now =
-    subst (λ (x : Durable S). StopsSafely g (session_of most began) greeted x taken_now) (sym is_now) (subst (λ (s : Session S). StopsSafely g s greeted d taken_now) same so_far) in
-    record { stops = stops-answering began now greets safe.stops; safe = safe.safe }
+pub stops-safely-served : {S : Type 0} {g : Ghosts S} {most : ℕ} {given taken greeted taken_now : Option (List ℕ)} {session : Session S} {began now d : Durable S} (given_now : Option (List ℕ)) → session ≡ session_of most began
+    → now ≡ d → Appends taken greeted (greeting (life_of began)) → StopsSafely g session given greeted d taken_now → StopsServingSafely g most began given taken now given_now taken_now
+stops-safely-served {S} {g} {most} {given} {taken} {greeted} {taken_now} {session} {began} {now} {d} given_now same is_now greets so_far =
+    let safe : StopsSafely g (session_of most began) given greeted now taken_now =
+    subst (λ (x : Durable S). StopsSafely g (session_of most began) given greeted x taken_now) (sym is_now) (subst (λ (s : Session S). StopsSafely g s given greeted d taken_now) same so_far) in
+    record { stops = stops-answering began now greets safe.stops; safe = λ shows clean. survives-last g (began_at g (session_of most began)) now (λ lines none. absurd none) (safe.safe shows clean) }
 
 -- after all answers
-stops-safely-ending : {S : Type 0} {g : Ghosts S} {most : ℕ} {given given_now taken greeted answered taken_now : Option (List ℕ)} {served : Server S} (began now : Durable S) (kept kept_now : Option (List KeptHistory))
-    → Appends taken greeted (greeting (life_of began)) → TellsSafely g (session_of most began) given greeted served given_now answered → (Clean g now.journal → Clean g served.session.store.journal)
-    → LeavesEpochs g served.session.store now kept kept_now
-    → ((taken_now ≡ answered) ⊎ (EndsEpoch g served.session.store now × AppendsPart answered taken_now (answers_text (end_answers served.end)))) → StopsServingSafely g most began taken now taken_now
-stops-safely-ending {served = served} began now kept kept_now greets so_far clean crash part = record {
+stops-safely-ending : {S : Type 0} {g : Ghosts S} {most : ℕ} {given given_now taken greeted answered taken_now : Option (List ℕ)} {served : Server S} (began now : Durable S)
+    → Appends taken greeted (greeting (life_of began)) → TellsSafely g (session_of most began) given greeted served given_now answered → (served.end ≡ None → IsAtEnd given_now)
+    → (Clean g now.journal → Clean g served.session.store.journal) → LeavesEnd g served.session.store now
+    → ((taken_now ≡ answered) ⊎ (EndsEpoch g served.session.store now × AppendsPart answered taken_now (answers_text (end_answers served.end)))) → StopsServingSafely g most began given taken now given_now taken_now
+stops-safely-ending {S} {g} {most} {served = served} began now greets so_far asked clean left part = record {
   stops = stops-ending began now greets so_far.tells clean part;
-  safe = λ shows at_end. survives-on served.session.store now kept kept_now (so_far.safe shows (clean at_end)) crash;
+  safe = λ shows at_end. lines-survive g (began_at g (session_of most began)) now (ended-lines now so_far.tells (inr (refl, asked)) left (so_far.safe shows (clean at_end)));
 }
 
 -- to the end
-serves-safely : {S : Type 0} {g : Ghosts S} {most : ℕ} {given given_now taken greeted answered taken_now : Option (List ℕ)} {served : Server S} (began now : Durable S) (kept kept_now : Option (List KeptHistory))
+serves-safely : {S : Type 0} {g : Ghosts S} {most : ℕ} {given given_now taken greeted answered taken_now : Option (List ℕ)} {served : Server S} (began now : Durable S)
     → Appends taken greeted (greeting (life_of began)) → TellsSafely g (session_of most began) given greeted served given_now answered → (served.end ≡ None → IsAtEnd given_now)
-    → (Clean g now.journal → Clean g served.session.store.journal) → LeavesEpochs g served.session.store now kept kept_now → EndsEpoch g served.session.store now
+    → (Clean g now.journal → Clean g served.session.store.journal) → LeavesEnd g served.session.store now → EndsEpoch g served.session.store now
     → Appends answered taken_now (answers_text (end_answers served.end)) → ServesSafely g most began given taken now given_now taken_now
-serves-safely {greeted = greeted} {answered} {served = served} began now kept kept_now greets so_far asked clean crash renews ends = record {
+serves-safely {S} {g} {most} {greeted = greeted} {answered} {served = served} began now greets so_far asked clean left renews ends = record {
   serves = record { served = served; greeted = greeted; answered = answered; greets = greets; tells = so_far.tells; asked = asked; renews = renews; clean = clean; ends = ends };
-  safe = λ shows at_end. survives-on served.session.store now kept kept_now (so_far.safe shows (clean at_end)) crash;
+  safe = λ shows at_end. lines-survive g (began_at g (session_of most began)) now (ended-lines now so_far.tells (inr (refl, asked)) left (so_far.safe shows (clean at_end)));
 }
 
 -- however it ended, as a server and its end say it
 pub whole-safely : {S E : Type 0} {g : Ghosts S} {most : ℕ} {given given_now greeted answered : Option (List ℕ)} {served : Server S} {session : Session S} {began d : Durable S} {e : Option Asked}
-    (taken taken_now : Option (List ℕ)) (now : Durable S) (kept kept_now : Option (List KeptHistory)) (r : Result (Unit {0}) E) → session ≡ session_of most began → Appends taken greeted (greeting (life_of began))
+    (taken taken_now : Option (List ℕ)) (now : Durable S) (r : Result (Unit {0}) E) → session ≡ session_of most began → Appends taken greeted (greeting (life_of began))
     → TellsSafely g session given greeted served given_now answered → (served.end ≡ None → IsAtEnd given_now) → d ≡ served.session.store → e ≡ served.end → (Clean g now.journal → Clean g d.journal)
-    → LeavesEpochs g d now kept kept_now → OnOk r (EndsEpoch g d now) → OnOk r (Appends answered taken_now (answers_text (end_answers e)))
+    → LeavesEnd g d now → OnOk r (EndsEpoch g d now) → OnOk r (Appends answered taken_now (answers_text (end_answers e)))
     → OnErr r ((taken_now ≡ answered) ⊎ (EndsEpoch g d now × AppendsPart answered taken_now (answers_text (end_answers e))))
-    → MatchResult r (λ u. ServesSafely g most began given taken now given_now taken_now) (λ x. StopsServingSafely g most began taken now taken_now)
-whole-safely {S} {E} {g} {most} {given} {given_now} {greeted} {answered} {served} {session} {began} {d} {e} taken taken_now now kept kept_now (Ok u) same greets tells asked at_end is_end clean crash renews ends part =
-    serves-safely began now kept kept_now greets (subst (λ (s : Session S). TellsSafely g s given greeted served given_now answered) same tells) asked
-    (subst (λ (x : Durable S). Clean g now.journal → Clean g x.journal) at_end clean) (subst (λ (x : Durable S). LeavesEpochs g x now kept kept_now) at_end crash)
+    → MatchResult r (λ u. ServesSafely g most began given taken now given_now taken_now) (λ x. StopsServingSafely g most began given taken now given_now taken_now)
+whole-safely {S} {E} {g} {most} {given} {given_now} {greeted} {answered} {served} {session} {began} {d} {e} taken taken_now now (Ok u) same greets tells asked at_end is_end clean left renews ends part =
+    serves-safely began now greets (subst (λ (s : Session S). TellsSafely g s given greeted served given_now answered) same tells) asked
+    (subst (λ (x : Durable S). Clean g now.journal → Clean g x.journal) at_end clean) (subst (λ (x : Durable S). LeavesEnd g x now) at_end left)
     (subst (λ (x : Durable S). EndsEpoch g x now) at_end renews) (subst (λ x. Appends answered taken_now (answers_text (end_answers x))) is_end ends)
-whole-safely {S} {E} {g} {most} {given} {given_now} {greeted} {answered} {served} {session} {began} {d} {e} taken taken_now now kept kept_now (Err x) same greets tells asked at_end is_end clean crash renews ends part =
-    stops-safely-ending began now kept kept_now greets (subst (λ (s : Session S). TellsSafely g s given greeted served given_now answered) same tells)
-    (subst (λ (x : Durable S). Clean g now.journal → Clean g x.journal) at_end clean) (subst (λ (x : Durable S). LeavesEpochs g x now kept kept_now) at_end crash)
+whole-safely {S} {E} {g} {most} {given} {given_now} {greeted} {answered} {served} {session} {began} {d} {e} taken taken_now now (Err x) same greets tells asked at_end is_end clean left renews ends part =
+    stops-safely-ending began now greets (subst (λ (s : Session S). TellsSafely g s given greeted served given_now answered) same tells) asked
+    (subst (λ (x : Durable S). Clean g now.journal → Clean g x.journal) at_end clean) (subst (λ (x : Durable S). LeavesEnd g x now) at_end left)
     (subst (λ x. (taken_now ≡ answered) ⊎ (EndsEpoch g served.session.store now × AppendsPart answered taken_now (answers_text (end_answers x)))) is_end
     (subst (λ (x : Durable S). (taken_now ≡ answered) ⊎ (EndsEpoch g x now × AppendsPart answered taken_now (answers_text (end_answers e)))) at_end part))

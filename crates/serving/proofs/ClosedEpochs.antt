@@ -3,22 +3,26 @@ use Rattle.std.proofs.Common.{◌≡◌, ◌∙◌, ◌⊎◌, inl, inr, ℕ, �
 use Rattle.std.proofs.Math.Seq.{drop-append_seam}
 use Rattle.std.proofs.lemmas.List.{length-map, take_all}
 use Rattle.sqlite_trees.specs.declared.store.Store.{Ghosts}
-use Rattle.sqlite_trees.specs.Tree.{Trees}
 use Rattle.object_trait.specs.declared.event.Event.{Event}
 use Rattle.object_trait.specs.declared.event.EventKind.{EventKind}
 use Rattle.store_text.specs.declared.line.ObjectLine.{ObjectLine}
 use Rattle.history_text.specs.Canonical.{canonical_text}
 use Rattle.store_laws.specs.Stored.{Stored}
 use Rattle.store.specs.Ends.{closing}
-use Rattle.journal.specs.Contents.{Contents, IsFile, contents_of}
-use Rattle.journal.specs.Journal.{Clean, IsJournal, ShowsCommit, may_leave, written}
+use Rattle.journal.specs.declared.header.Header.{Header}
+use Rattle.journal.specs.Contents.{Contents, contents_of}
+use Rattle.journal.specs.Journal.{Clean, IsJournal, ShowsCommit, written}
 use Rattle.durable_store.specs.declared.durable.Durable.{Durable}
 use Rattle.durable_store.specs.Durable.{IsDurable, OutcomesStay, WritesSince, events_of_kinds, with_all}
-use Rattle.serving.specs.Archives.{KeepsAtLeast, KeepsEpochs, KeepsText, KeptHistory, text_of_epoch, life_in, with_kept}
+use Rattle.durable_store.specs.Epochs.{LeavesEpoch}
+use Rattle.durable_store.specs.Recovered.{IsStoreOf}
+use Rattle.serving.specs.Archives.{KeepsAtLeast, KeepsEpochs, KeepsText, KeptHistory, text_of_epoch, with_kept}
+use Rattle.serving.specs.EpochEnd.{LeavesClosed, LeavesEnd}
 use Rattle.serving.specs.Epochs.{LeavesEpochs, Reaches, aborted}
-use Rattle.serving.specs.Server.{life_of}
+use Rattle.serving.specs.Follows.{LeavesWritten}
+use Rattle.serving.specs.Requests.{LetsGo}
 use Rattle.serving.proofs.MoreEvents.{outcomes-more, writes-more}
-use Rattle.serving.proofs.LaterEpochs.{left-more, left-then, writes-one}
+use Rattle.serving.proofs.LaterEpochs.{is-store-of, left-more, left-then, renews-as, writes-one}
 
 -- ---- the text of an epoch
 
@@ -35,21 +39,21 @@ text-told g old mid new objects happened count sound was was_mid same is_count i
     let whole : happened ≡ all = is_events now ∙ ap (λ (c : Contents). take count (drop 0 c.events)) (same at_mid) ∙ take_all count all many in
     ap₂ (λ os es. canonical_text os (events_of_kinds es)) (is_objects at_mid) whole
 
--- it is kept under the file's life
-pub text-kept : {S : Type 0} (g : Ghosts S) (mid new : Durable S) (kept kept_now : Option (List KeptHistory)) (life : ℕ) (text : List ℕ) → IsJournal g mid.journal → ShowsCommit g mid.journal
-    → (Clean g new.journal → Clean g mid.journal) → (Clean g new.journal → written g new.journal ≡ written g mid.journal) → life ≡ life_of mid
-    → (Clean g new.journal → text ≡ text_of_epoch (written g mid.journal)) → KeepsText kept kept_now life text → Clean g new.journal → KeepsEpochs kept kept_now (written g new.journal ∷ [])
-text-kept g mid new kept kept_now life text journal shows clean same is_life is_text keeps now =
+-- it is kept under what the file says of itself
+pub text-kept : {S : Type 0} (g : Ghosts S) (mid new : Durable S) (kept kept_now : Option (List KeptHistory)) (header : Header) (text : List ℕ) → IsJournal g mid.journal → ShowsCommit g mid.journal
+    → (Clean g new.journal → Clean g mid.journal) → (Clean g new.journal → written g new.journal ≡ written g mid.journal) → header ≡ mid.journal.header
+    → (Clean g new.journal → text ≡ text_of_epoch (written g mid.journal)) → KeepsText kept kept_now header text → Clean g new.journal → KeepsEpochs kept kept_now (written g new.journal ∷ [])
+text-kept g mid new kept kept_now header text journal shows clean same is_header is_text keeps now =
     let headers : (written g mid.journal).headers ≡ mid.journal.header ∷ [] = (journal (clean now)).header_is (shows (clean now)).sound in
-    let its_life : life ≡ life_in (written g new.journal).headers = is_life ∙ sym (ap life_in (ap (λ (c : Contents). c.headers) (same now) ∙ headers)) in
+    let its : header ∷ [] ≡ (written g new.journal).headers = ap (λ h. h ∷ []) is_header ∙ sym (ap (λ (c : Contents). c.headers) (same now) ∙ headers) in
     let its_text : text ≡ text_of_epoch (written g new.journal) = is_text now ∙ sym (ap text_of_epoch (same now)) in
-    keeps ∙ ap₂ (λ n t. with_kept kept (record { life = n; text = t } ∷ [])) its_life its_text
+    keeps ∙ ap₂ (λ hs t. with_kept kept (record { headers = hs; text = t } ∷ [])) its its_text
 
 -- ---- crashes
 
 -- what was written was settled, and a text may be kept
 pub left-kept : {S : Type 0} (g : Ghosts S) (old mid new : Durable S) (kept kept_now : Option (List KeptHistory))
-    → ((db : Trees) → may_leave g mid.journal db → (Clean g old.journal × IsFile db × (contents_of db ≡ written g old.journal)) ⊎ may_leave g old.journal db) → OutcomesStay g mid new
+    → LeavesWritten g old mid → OutcomesStay g mid new
     → KeepsAtLeast kept kept_now [] → LeavesEpochs g old new kept kept_now
 left-kept g old mid new kept kept_now crash stay keeps db left = elim (crash db (stay db left)) [
   | inl it ↦ inl (it.0, it.1, ([], subst (λ c. Reaches (written g old.journal) [] c) (sym it.2) Reaches.none, keeps))
@@ -65,6 +69,50 @@ pub left-closed : {S : Type 0} (g : Ghosts S) (old mid new : Durable S) (kept ke
     → LeavesEpochs g mid new kept kept_now → LeavesEpochs g old new kept kept_now
 left-closed g old mid new kept kept_now clean since stay crash =
     left-then g old mid new kept kept kept_now clean (writes-one g old mid kept (writes-more g old mid since)) (left-written g old mid kept stay) crash
+
+-- ---- crashes, of the file alone
+
+pub written-stays : {S : Type 0} (g : Ghosts S) (old mid new : Durable S) → LeavesWritten g old mid → OutcomesStay g mid new → LeavesWritten g old new
+written-stays g old mid new crash stay db left = crash db (stay db left)
+
+-- what was open is aborted, and then all of it may become durable
+pub closed-left : {S : Type 0} (g : Ghosts S) (old mid new : Durable S) → mid.store ≡ aborted old.store → mid.journal.header ≡ old.journal.header → IsDurable g mid → (Clean g mid.journal → Clean g old.journal)
+    → OutcomesStay g old mid → LeavesWritten g mid new → LeavesClosed g old new
+closed-left g old mid new aborts header sound clean stay crash db left = elim (crash db left) [
+  | inl it ↦
+      let store : IsStoreOf (contents_of db) mid.store = subst (λ (c : Contents). IsStoreOf c mid.store) (sym it.2) (is-store-of g mid sound it.0) in
+      inl (clean it.0, it.1, (subst (λ (s : Stored). IsStoreOf (contents_of db) s) aborts store, it.3 ∙ ap (λ (h : Header). h ∷ []) header))
+  | inr before ↦ inr (stay db before)
+]
+
+pub closed-end : {S : Type 0} (g : Ghosts S) (old new : Durable S) → LeavesClosed g old new → LeavesEnd g old new
+closed-end g old new crash db left = elim (crash db left) [ inl it ↦ inl (it.0, it.1, inl it.2) | inr before ↦ inr before ]
+
+-- the file of a store that has forgotten fewer events
+store-as : (s t : Stored) (c : Contents) → LetsGo s t → IsStoreOf c t → IsStoreOf c s
+store-as s t c lets is =
+    let it : IsStoreOf c (record s { forgotten = t.forgotten }) = subst (λ (u : Stored). IsStoreOf c u) lets is in
+    record { types = it.types; history = it.history; limit = it.limit }
+
+-- and then the file may begin anew
+pub end-left : {S : Type 0} (g : Ghosts S) (old mid new : Durable S) → LetsGo (aborted old.store) mid.store → mid.journal.header ≡ old.journal.header → IsDurable g mid → (Clean g mid.journal → Clean g old.journal)
+    → LeavesClosed g old mid → LeavesEpoch g mid new → LeavesEnd g old new
+end-left g old mid new lets header sound clean crash anew db left = elim (anew db left) [
+  | inl it ↦
+      let (s, renews, is) = it.2 in
+      inl (
+        clean it.0,
+        it.1,
+        inr (record {
+          before = written g mid.journal;
+          next = s;
+          over = (store-as (aborted old.store) mid.store (written g mid.journal) lets (is-store-of g mid sound it.0), it.3 ∙ ap (λ (h : Header). h ∷ []) header);
+          renews = renews-as (aborted old.store) mid.store s lets renews;
+          is = is;
+        }),
+      )
+  | inr before ↦ closed-end g old mid crash db before
+]
 
 -- ---- what was written
 

@@ -1,7 +1,7 @@
 -- Commits that were answered are events of the file.
-use Rattle.std.proofs.Common.{◌≡◌, ◌∙◌, ◌⊎◌, inl, inr, ℕ, suc, ◌<◌, ◌≤◌, Bool, true, false, ◌||◌, Option, None, Some, Result, Ok, Err, List, [], ◌∷◌, ◌++◌, length, refl, sym, ap, subst, arith}
+use Rattle.std.proofs.Common.{◌≡◌, ◌∙◌, ◌⊎◌, inl, inr, ℕ, suc, ◌<◌, ◌≤◌, Bool, true, false, ◌||◌, Option, None, Some, Result, Ok, Err, List, [], ◌∷◌, ◌++◌, length, take, drop, get_or, refl, sym, ap, subst, arith}
 use Rattle.std.proofs.lemmas.Bool.{eqb-true}
-use Rattle.std.proofs.lemmas.List.{append-nil, length-append, map-append}
+use Rattle.std.proofs.lemmas.List.{append-nil, length-append, map-append, take-append-drop}
 use Rattle.std.proofs.lemmas.List.Elements.{Contains-append_left, Contains-push}
 use Rattle.std.specs.Prelude.{◌==◌, Contains, MatchBool, MatchResult, if◌then◌else◌, is_some}
 use Rattle.sqlite_trees.specs.declared.store.Store.{Ghosts}
@@ -16,10 +16,11 @@ use Rattle.serial_order.specs.declared.refusal.Refusal.{Refusal}
 use Rattle.serial_order.specs.declared.refusal.Refusal.TheVariants.{NotOpen}
 use Rattle.store_laws.specs.Stored.{MayStep, Steps, Stored, stored_after, objects, refusal_of}
 use Rattle.store.specs.Ends.{closing}
-use Rattle.journal.specs.declared.header.Header.{Header}
-use Rattle.journal.specs.Contents.{Contents, contents_of}
+use Rattle.journal.specs.Contents.{Contents}
 use Rattle.durable_store.specs.declared.durable.Durable.{Durable}
 use Rattle.durable_store.specs.Durable.{events_of_kinds, kinds}
+use Rattle.durable_store.specs.Epochs.{renewed}
+use Rattle.durable_store.specs.Recovered.{IsStoreOf}
 use Rattle.request_text.specs.Requests.{asked_by}
 use Rattle.request_text.specs.declared.fault.RequestFault.{RequestFault}
 use Rattle.request_text.specs.declared.request.Asked.{Asked}
@@ -29,15 +30,16 @@ use Rattle.request_text.specs.declared.request.TransactionName.{TransactionName}
 use Rattle.serving.specs.declared.answer_line.AnswerLine.{AnswerLine}
 use Rattle.serving.specs.declared.answer_line.AnswerLine.TheVariants.{Committed, Fault, Refused}
 use Rattle.serving.specs.declared.answer_line.Answered.{Answered}
-use Rattle.serving.specs.declared.session.Session.{Session}
-use Rattle.serving.specs.Acknowledged.{Survives}
 use Rattle.serving.specs.Archives.{life_in}
 use Rattle.serving.specs.CommitsFound.{AnswersCommit, CommitsAreFound, KeepsCommit, TellsCommit}
 use Rattle.serving.specs.Does.{DoesCommit, done_or, is_epoch_full}
-use Rattle.serving.specs.Epochs.{Reaches, aborted}
+use Rattle.serving.specs.Epochs.{aborted}
+use Rattle.serving.specs.Left.{Began, IsStoreFile, IsInLife, IsLeftAfter, Survives}
+use Rattle.serving.specs.Lines.{AreLines}
 use Rattle.serving.specs.Requests.{DoesRequest, LetsGo}
 use Rattle.serving.specs.Served.{IsAnswered, Serves}
 use Rattle.serving.specs.Told.{has_commit, is_commit}
+use Rattle.serving.proofs.FirstLines.{either-lines}
 use Rattle.serving.proofs.LaterEpochs.{raised}
 
 -- ---- answers at their places
@@ -70,7 +72,7 @@ told-last (l ∷ lines) (b ∷ answers) line a t same told = elim told [
 ]
 
 -- each line but one that asks for the end has an answer
-serves-count : {most : ℕ} {c : Contents} {first : ℕ} {lines : List (List ℕ)} {old : Stored} {answers : List Answered} {life : ℕ} {new : Stored} {ended : Option Asked} → Serves most c first lines old answers life new ended
+serves-count : {clean : Type 0} {most : ℕ} {c : Contents} {first : ℕ} {lines : List (List ℕ)} {old : Stored} {answers : List Answered} {life : ℕ} {new : Stored} {ended : Option Asked} → Serves clean most c first lines old answers life new ended
     → (length answers ≤ length lines) × (ended ≡ None → length lines ≡ length answers)
 serves-count (Serves.none s) = (omega arith, λ e. refl)
 serves-count (Serves.line lines asked old mid new answers a life before other answered) =
@@ -80,7 +82,7 @@ serves-count (Serves.end lines asked old new answers life before ends) =
     let so_far = (serves-count before).1 refl in
     (omega (arith, length-append lines (asked ∷ []), so_far), λ e. absurd cc)
 serves-count (Serves.forget lines old mid answers life n ended before) = serves-count before
-serves-count (Serves.epoch lines old mid new answers life before full renews) = ((serves-count before).0, λ e. (serves-count before).1 refl)
+serves-count (Serves.epoch lines old mid new answers life next before full renews follows) = ((serves-count before).0, λ e. (serves-count before).1 refl)
 
 -- ---- a history grows
 
@@ -115,24 +117,24 @@ either : {P Q G : Type 0} (b : Bool) → MatchBool b P Q → (P → G) → (Q �
 either true p first second = first p
 either false p first second = second p
 
-does-grow : (most life : ℕ) (c : Contents) (old : Stored) (r : Request) (answer : AnswerLine) (new : Stored) → DoesRequest most life c old r answer new → Grows old new
-does-grow most life c old request.Begin answer new does = either (is_epoch_full most old) does (λ p. same-grows old new p.1) (λ p. may-grow old 0 command.Begin p.0 new p.1)
-does-grow most life c old (request.Call t x name) answer new does = either (t.life == life) does (λ p. may-grow old 0 (command.Call t.number x name) p.0 new p.1) (λ p. same-grows old new p.1)
-does-grow most life c old (request.Would t x name) answer new does = either (t.life == life) does (λ p. same-grows old new p.3) (λ p. same-grows old new p.1)
-does-grow most life c old (request.Commit t) answer new does = either (t.life == life) does (λ p. steps-grow old 0 (command.Commit t.number) p.0 new p.1) (λ p. same-grows old new p.1)
-does-grow most life c old (request.Abort t) answer new does = either (t.life == life) does (λ p. steps-grow old 0 (command.Abort t.number) p.0 new p.1) (λ p. same-grows old new p.1)
-does-grow most life c old (request.Rollback t count) answer new does = either (t.life == life) does (λ p. may-grow old 0 (command.Rollback t.number count) p.0 new p.1) (λ p. same-grows old new p.1)
-does-grow most life c old (request.Kept x) answer new does = same-grows old new does.0
-does-grow most life c old request.Objects answer new does = lets-grow old new does.1
-does-grow most life c old request.Types answer new does = lets-grow old new does.1
-does-grow most life c old (request.Events from count) answer new does = lets-grow old new does.1
-does-grow most life c old request.Stats answer new does = same-grows old new does.1
-does-grow most life c old request.End answer new does = same-grows old new does.1
+does-grow : (clean : Type 0) (most life : ℕ) (c : Contents) (old : Stored) (r : Request) (answer : AnswerLine) (new : Stored) → DoesRequest clean most life c old r answer new → Grows old new
+does-grow clean most life c old request.Begin answer new does = either (is_epoch_full most old) does (λ p. same-grows old new p.1) (λ p. may-grow old 0 command.Begin p.0 new p.1)
+does-grow clean most life c old (request.Call t x name) answer new does = either (t.life == life) does (λ p. may-grow old 0 (command.Call t.number x name) p.0 new p.1) (λ p. same-grows old new p.1)
+does-grow clean most life c old (request.Would t x name) answer new does = either (t.life == life) does (λ p. same-grows old new p.3) (λ p. same-grows old new p.1)
+does-grow clean most life c old (request.Commit t) answer new does = either (t.life == life) does (λ p. steps-grow old 0 (command.Commit t.number) p.0 new p.1) (λ p. same-grows old new p.1)
+does-grow clean most life c old (request.Abort t) answer new does = either (t.life == life) does (λ p. steps-grow old 0 (command.Abort t.number) p.0 new p.1) (λ p. same-grows old new p.1)
+does-grow clean most life c old (request.Rollback t count) answer new does = either (t.life == life) does (λ p. may-grow old 0 (command.Rollback t.number count) p.0 new p.1) (λ p. same-grows old new p.1)
+does-grow clean most life c old (request.Kept x) answer new does = same-grows old new does.0
+does-grow clean most life c old request.Objects answer new does = lets-grow old new does.1
+does-grow clean most life c old request.Types answer new does = lets-grow old new does.1
+does-grow clean most life c old (request.Events from count) answer new does = lets-grow old new does.1
+does-grow clean most life c old request.Stats answer new does = same-grows old new does.1
+does-grow clean most life c old request.End answer new does = same-grows old new does.1
 
-answered-grows : (most life : ℕ) (c : Contents) (line : List ℕ) (old : Stored) (a : Answered) (new : Stored) → IsAnswered most life c line old a new → Grows old new
-answered-grows most life c line old a new answered =
-    elim (asked_by line).request as (λ (q : Result Request RequestFault). MatchResult q (λ r. DoesRequest most life c old r a.answer new) (λ fault. (a.answer ≡ Fault fault) × (new ≡ old)) → Grows old new) [
-      | Ok r ↦ λ does. does-grow most life c old r a.answer new does
+answered-grows : (clean : Type 0) (most life : ℕ) (c : Contents) (line : List ℕ) (old : Stored) (a : Answered) (new : Stored) → IsAnswered clean most life c line old a new → Grows old new
+answered-grows clean most life c line old a new answered =
+    elim (asked_by line).request as (λ (q : Result Request RequestFault). MatchResult q (λ r. DoesRequest clean most life c old r a.answer new) (λ fault. (a.answer ≡ Fault fault) × (new ≡ old)) → Grows old new) [
+      | Ok r ↦ λ does. does-grow clean most life c old r a.answer new does
       | Err fault ↦ λ told. same-grows old new told.1
     ] answered.request
 
@@ -157,11 +159,11 @@ commit-done life old t answer new told does =
       | false ↦ λ other it. absurd (let no : Refused NotOpen ≡ Committed = sym it.0 ∙ told in cc)
     ] refl does
 
-commit-answered : (most life : ℕ) (c : Contents) (line : List ℕ) (old : Stored) (a : Answered) (new : Stored) (t : TransactionName) → AnswersCommit line a t → IsAnswered most life c line old a new
+commit-answered : (clean : Type 0) (most life : ℕ) (c : Contents) (line : List ℕ) (old : Stored) (a : Answered) (new : Stored) (t : TransactionName) → AnswersCommit line a t → IsAnswered clean most life c line old a new
     → (t.life ≡ life) × (new.history ≡ old.history ++ commit_of t.number ∷ [])
-commit-answered most life c line old a new t commits answered =
+commit-answered clean most life c line old a new t commits answered =
     commit-done life old t a.answer new commits.1
-    (subst (λ (q : Result Request RequestFault). MatchResult q (λ r. DoesRequest most life c old r a.answer new) (λ fault. (a.answer ≡ Fault fault) × (new ≡ old))) commits.0 answered.request)
+    (subst (λ (q : Result Request RequestFault). MatchResult q (λ r. DoesRequest clean most life c old r a.answer new) (λ fault. (a.answer ≡ Fault fault) × (new ≡ old))) commits.0 answered.request)
 
 kinds-append : (H more : List Event) → kinds (H ++ more) ≡ kinds H ++ kinds more
 kinds-append H more = map-append (λ (e : Event). e.kind) H more
@@ -171,22 +173,23 @@ keeps-grows {t} new (KeepsCommit.event old there) (more, is, same) =
     KeepsCommit.event new (subst (λ ks. Contains ks (kind.Commit t.number)) (sym (ap kinds is ∙ kinds-append old.history more)) (Contains-append_left (kinds old.history) (kinds more) (kind.Commit t.number) there))
 keeps-grows new (KeepsCommit.epoch life before first old keeps renews begins) (more, is, same) = KeepsCommit.epoch life before first new keeps renews (same ∙ begins)
 
-serves-keeps : {most : ℕ} {c : Contents} {begins : ℕ} {lines : List (List ℕ)} {old : Stored} {answers : List Answered} {life : ℕ} {new : Stored} {ended : Option Asked}
-    → Serves most c begins lines old answers life new ended → (t : TransactionName) → TellsCommit lines answers t → KeepsCommit t life new
-serves-keeps (Serves.none s) t told = absurd told
-serves-keeps {most} {c = c} (Serves.line lines asked old mid new answers a life before other answered) t told =
+serves-keeps : {clean : Type 0} {most : ℕ} {c : Contents} {begins : ℕ} {lines : List (List ℕ)} {old : Stored} {answers : List Answered} {life : ℕ} {new : Stored} {ended : Option Asked}
+    → clean → Serves clean most c begins lines old answers life new ended → (t : TransactionName) → TellsCommit lines answers t → KeepsCommit t life new
+serves-keeps now (Serves.none s) t told = absurd told
+serves-keeps {clean} {most} {c} now (Serves.line lines asked old mid new answers a life before other answered) t told =
     elim (told-last lines answers asked a t ((serves-count before).1 refl) told) [
-      | inl earlier ↦ keeps-grows new (serves-keeps before t earlier) (answered-grows most life c asked mid a new answered)
-      | inr now ↦
-          let (same, is) = commit-answered most life c asked mid a new t now answered in
+      | inl earlier ↦ keeps-grows new (serves-keeps now before t earlier) (answered-grows clean most life c asked mid a new answered)
+      | inr here ↦
+          let (same, is) = commit-answered clean most life c asked mid a new t here answered in
           subst (λ n. KeepsCommit t n new) same
           (KeepsCommit.event new (subst (λ ks. Contains ks (kind.Commit t.number)) (sym (ap kinds is ∙ kinds-append mid.history (commit_of t.number ∷ []))) (Contains-push (kinds mid.history) (kind.Commit t.number))))
     ]
-serves-keeps (Serves.end lines asked old new answers life before ends) t told =
-    serves-keeps before t (told-first lines (asked ∷ []) answers [] t (serves-count before).0 refl (subst (λ xs. TellsCommit (lines ++ asked ∷ []) xs t) (sym (append-nil answers)) told))
-serves-keeps (Serves.forget lines old mid answers life n ended before) t told = keeps-grows (record mid { forgotten = n }) (serves-keeps before t told) ([], sym (append-nil mid.history), refl)
-serves-keeps (Serves.epoch lines old mid new answers life before full renews) t told =
-    KeepsCommit.epoch life (aborted mid) new new (keeps-grows (aborted mid) (serves-keeps before t told) (closing mid.history, refl, refl)) renews refl
+serves-keeps now (Serves.end lines asked old new answers life before ends) t told =
+    serves-keeps now before t (told-first lines (asked ∷ []) answers [] t (serves-count before).0 refl (subst (λ xs. TellsCommit (lines ++ asked ∷ []) xs t) (sym (append-nil answers)) told))
+serves-keeps now (Serves.forget lines old mid answers life n ended before) t told = keeps-grows (record mid { forgotten = n }) (serves-keeps now before t told) ([], sym (append-nil mid.history), refl)
+serves-keeps now (Serves.epoch lines old mid new answers life next before full renews follows) t told =
+    subst (λ n. KeepsCommit t n new) (sym (follows now))
+    (KeepsCommit.epoch life (aborted mid) new new (keeps-grows (aborted mid) (serves-keeps now before t told) (closing mid.history, refl, refl)) renews refl)
 
 -- its life is over, or its commit is an event
 abbrev IsDone : ℕ → List EventKind → TransactionName → Type 0
@@ -198,48 +201,71 @@ keeps-done (KeepsCommit.epoch life old first now before renews begins) = elim (k
 
 -- ---- of a file
 
--- it has one header, and of the header's life the same holds
-abbrev IsDoneIn : Contents → TransactionName → Type 0
-IsDoneIn c t = (h : Header) × (c.headers ≡ h ∷ []) × IsDone h.life c.events t
-
 kinds-events : (happened : List EventKind) → kinds (events_of_kinds happened) ≡ happened
 kinds-events [] = refl
 kinds-events (k ∷ ks) = ap (λ xs. k ∷ xs) (kinds-events ks)
 
-done-more : (life : ℕ) (happened more : List EventKind) (t : TransactionName) → IsDone life happened t → IsDone life (happened ++ more) t
-done-more life happened more t done = elim done [ inl over ↦ inl over | inr it ↦ inr (it.0, Contains-append_left happened more (kind.Commit t.number) it.1) ]
+store-done : (c : Contents) (s : Stored) (life : ℕ) (t : TransactionName) → IsStoreOf c s → KeepsCommit t life s → IsDone life c.events t
+store-done c s life t is keeps = subst (λ ks. IsDone life ks t) (ap kinds is.history ∙ kinds-events c.events) (keeps-done keeps)
 
-reaches-done : {c d : Contents} {past : List Contents} (t : TransactionName) → Reaches c past d → IsDoneIn c t → IsDoneIn d t
-reaches-done t Reaches.none done = done
-reaches-done t (Reaches.events past mid new before follows) done =
-    let (h, said, is) = reaches-done t before done in
-    (h, ap (λ (x : Contents). x.headers) follows.others ∙ said, subst (λ ks. IsDone h.life ks t) (sym follows.events) (done-more h.life mid.events follows.more t is))
-reaches-done t (Reaches.epoch past mid old new before is_store renews) done =
-    let (h, said, is) = reaches-done t before done in
-    let next : Header = record h { life = suc h.life } in
-    (next, ap raised said, elim is [ inl over ↦ inl (omega (arith, over)) | inr it ↦ inl (omega (arith, it.0)) ])
+-- the commit is among its events, while it is in the transaction's life
+abbrev FileHas : Contents → TransactionName → Type 0
+FileHas c t = (t.life ≤ life_in c.headers) × (t.life ≡ life_in c.headers → Contains c.events (kind.Commit t.number))
+
+done-in : (c : Contents) (life : ℕ) (t : TransactionName) → IsInLife c life → IsDone life c.events t → FileHas c t
+done-in c life t (h, said, lives) done =
+    let is : life_in c.headers ≡ life = ap life_in said ∙ lives in (
+      elim done [ inl over ↦ omega (arith, over, is) | inr it ↦ omega (arith, it.0, is) ],
+      λ same. elim done [ inl over ↦ absurd (omega (arith, over, is, same)) | inr it ↦ it.1 ],
+    )
+
+file-has : {over : Type 0} {life : ℕ} {s : Stored} {c : Contents} (t : TransactionName) → IsStoreFile over life s c → KeepsCommit t life s → FileHas c t
+file-has {over} {life} {s} t (IsStoreFile.present c is lives) keeps = done-in c life t lives (store-done c s life t is keeps)
+file-has {over} {life} {s} t (IsStoreFile.closed c so is lives) keeps = done-in c life t lives (store-done c (aborted s) life t is (keeps-grows (aborted s) keeps (closing s.history, refl, refl)))
+file-has {over} {life} {s} t (IsStoreFile.anew c next so is (h, said, lives) renews) keeps =
+    let done = store-done c (aborted s) life t is (keeps-grows (aborted s) keeps (closing s.history, refl, refl)) in
+    let later : life_in (renewed c next.types).headers ≡ suc life = ap (λ hs. life_in (raised hs)) said ∙ ap suc lives in (
+      elim done [ inl over ↦ omega (arith, over, later) | inr it ↦ omega (arith, it.0, later) ],
+      λ same. elim done [ inl over ↦ absurd (omega (arith, over, later, same)) | inr it ↦ absurd (omega (arith, it.0, later, same)) ],
+    )
 
 -- ---- after a crash
 
-pub commits-found : {S : Type 0} (g : Ghosts S) (began : Session S) (lines : List (List ℕ)) (answers : List Answered) (now : Durable S) → Survives g began lines answers now → CommitsAreFound g lines answers now
-commits-found g began lines answers now survives t told db left =
-    let commits = survives.commits in
-    let done = survives.done in
-    let first : TellsCommit survives.asked survives.first t =
-    told-first survives.asked commits.later survives.first commits.others t (serves-count done.serves).0 commits.none
-    (subst (λ ls. TellsCommit ls (survives.first ++ commits.others) t) commits.lines_are (subst (λ xs. TellsCommit lines xs t) commits.answers_are told)) in
-    let keeps : KeepsCommit t done.header.life done.reached = serves-keeps done.serves t first in
-    let (past, reaches) = (survives.left db left).1 in
-    let (h, said, is) = reaches-done t reaches
-    (done.header, done.said, subst (λ ks. IsDone done.header.life ks t) (ap kinds done.is_file.history ∙ kinds-events survives.file.events) (keeps-done keeps)) in
-    let life : life_in (contents_of db).headers ≡ h.life = ap life_in said in
-    record {
-      file = survives.file;
-      reached = done.reached;
-      past = past;
-      is_file = done.is_file;
-      keeps = subst (λ n. KeepsCommit t n done.reached) (sym (ap life_in done.said)) keeps;
-      reaches = reaches;
-      since = elim is [ inl over ↦ omega (arith, over, life) | inr it ↦ omega (arith, it.0, life) ];
-      happened = λ same. elim is [ inl over ↦ absurd (omega (arith, over, life, same)) | inr it ↦ it.1 ];
-    }
+told-longer : (lines later : List (List ℕ)) (answers : List Answered) (t : TransactionName) → TellsCommit lines answers t → TellsCommit (lines ++ later) answers t
+told-longer [] later answers t told = absurd told
+told-longer (line ∷ lines) later [] t told = absurd told
+told-longer (line ∷ lines) later (a ∷ answers) t told = elim told [ inl here ↦ inl here | inr more ↦ inr (told-longer lines later answers t more) ]
+
+-- where no answer after these is to a commit, it is one of these
+told-done : (lines : List (List ℕ)) (answers waiting done others : List Answered) (t : TransactionName) → answers ++ waiting ≡ done ++ others → has_commit (drop (length done) answers) ≡ false
+    → TellsCommit lines answers t → TellsCommit lines done t
+told-done [] answers waiting done others t all none told = absurd told
+told-done (line ∷ lines) [] waiting done others t all none told = absurd told
+told-done (line ∷ lines) (a ∷ answers) waiting [] others t all none told = absurd (let it : true ≡ false = sym (told-has (line ∷ lines) (a ∷ answers) t told) ∙ none in cc)
+told-done (line ∷ lines) (a ∷ answers) waiting (d ∷ done) others t all none told =
+    let same : a ≡ d = ap (λ xs. get_or xs 0 a) all in
+    elim told [
+      | inl here ↦ inl (subst (λ x. AnswersCommit line x t) same here)
+      | inr later ↦ inr (told-done lines answers waiting done others t (ap (drop 1) all) none later)
+    ]
+
+-- of the lines of first bytes, and of those of other first bytes, the one are the first of the other
+tells-left : {b : Began} {last : List (List ℕ) → Type 0} {answers waiting : List Answered} {c : Contents} (seen rest half : List ℕ) (lines : List (List ℕ)) (t : TransactionName)
+    → AreLines seen lines half → (it : IsLeftAfter b last (seen ++ rest) answers waiting c) → TellsCommit lines answers t → TellsCommit it.lines it.done t
+tells-left {answers = answers} {waiting} seen rest half lines t asked it told =
+    elim (either-lines seen rest (drop it.count (seen ++ rest)) (take it.count (seen ++ rest)) lines half it.lines it.half asked it.asked (take-append-drop it.count (seen ++ rest))) [
+      | inl more ↦ told-done it.lines answers waiting it.done it.first.others t it.first.all it.first.none
+          (subst (λ ls. TellsCommit ls answers t) (sym more.1) (told-longer lines more.0 answers t told))
+      | inr more ↦ told-first it.lines more.0 it.done [] t (serves-count it.file.serves).0 refl
+          (subst (λ xs. TellsCommit (it.lines ++ more.0) xs t) (sym (append-nil it.done))
+          (told-done (it.lines ++ more.0) answers waiting it.done it.first.others t it.first.all it.first.none (subst (λ ls. TellsCommit ls answers t) more.1 told)))
+    ]
+
+pub commits-found : {S : Type 0} (g : Ghosts S) (b : Began) (last : List (List ℕ) → Type 0) (seen rest half : List ℕ) (lines : List (List ℕ)) (answers : List Answered) (now : Durable S) → AreLines seen lines half
+    → Survives g b last (seen ++ rest) answers now → CommitsAreFound g b last lines answers now
+commits-found g b last seen rest half lines answers now asked survives t told db left =
+    let (waiting, it) = (survives db left).1 in
+    let tells : TellsCommit it.lines it.done t = tells-left seen rest half lines t asked it told in
+    let keeps : KeepsCommit t it.file.life it.file.reached = serves-keeps tt it.file.serves t tells in
+    let (since, happened) = file-has t it.file.file keeps in
+    record { lines = it.lines; done = it.done; file = it.file; tells = tells; keeps = keeps; since = since; happened = happened }

@@ -1,6 +1,6 @@
 -- How serving ends.
-use Rattle.std.proofs.Common.{◌≡◌, ◌∙◌, ◌⊎◌, ℕ, None, Result, Ok, Err, inl, inr, List, [], ◌++◌, sym, ap, ap₂, subst, Option}
-use Rattle.std.proofs.KnownBytes.{Appends-trans, Keeps-refl}
+use Rattle.std.proofs.Common.{◌≡◌, ◌∙◌, ◌⊎◌, ℕ, None, Result, Ok, Err, inl, inr, List, [], ◌++◌, refl, sym, ap, ap₂, subst, Option}
+use Rattle.std.proofs.KnownBytes.{Appends-trans, Consumes-nil, Keeps-refl}
 use Rattle.std.proofs.lemmas.List.{append-nil}
 use Rattle.std.specs.Io.KnownBytes.{Appends, IsAtEnd}
 use Rattle.std.specs.Prelude.{OnOk, OnErr}
@@ -20,6 +20,7 @@ use Rattle.serving.specs.Server.{life_of}
 use Rattle.serving.specs.Whole.{ServesClient, StopsServing, session_of}
 use Rattle.serving.proofs.LaterEpochs.{left-then, writes-on}
 use Rattle.serving.proofs.Groups.{part-then}
+use Rattle.serving.proofs.Premises.{serves-weaker}
 use Rattle.serving.proofs.TextParts.{part-of-whole}
 
 -- a server that served a store, and then its end
@@ -39,22 +40,25 @@ left-served {S} g {began} {old} {mid} {d} new kept kept_mid kept_now is_old is_m
 -- ---- what was answered
 
 -- a beginning of the greeting
-abbrev pub stops-greeting : {S : Type 0} {g : Ghosts S} {most : ℕ} {taken taken_now : Option (List ℕ)} (began : Durable S) → AppendsPart taken taken_now (greeting (life_of began)) → StopsServing g most began taken began taken_now
-stops-greeting {S} {g} {most} {taken} {taken_now} began part = record {
+abbrev pub stops-greeting : {S : Type 0} {g : Ghosts S} {most : ℕ} (given : Option (List ℕ)) {taken taken_now : Option (List ℕ)} (began : Durable S) → AppendsPart taken taken_now (greeting (life_of began))
+    → StopsServing g most began given taken began taken_now
+stops-greeting {S} {g} {most} given {taken} {taken_now} began part = record {
   lines = [];
+  read = record { seen = []; half = []; rest = []; left = given; consumed = Consumes-nil given; asked = record { text = refl; whole = tt; within = refl } };
   answers = [];
   life = life_of began;
   reached = began.store;
   ended = None;
-  serves = λ clean. Serves.none began.store;
+  serves = Serves.none began.store;
   told = inl (subst (AppendsPart taken taken_now) (sym (append-nil (greeting (life_of began)))) part);
 }
 
 -- the greeting, and a beginning of what some lines are answered
-abbrev pub stops-answering : {S : Type 0} {g : Ghosts S} {most : ℕ} {taken greeted taken_now : Option (List ℕ)} (began now : Durable S) → Appends taken greeted (greeting (life_of began))
-    → StopsTelling g (session_of most began) greeted now taken_now → StopsServing g most began taken now taken_now
-stops-answering {S} {g} {most} {taken} {greeted} {taken_now} began now greets stops = record {
+abbrev pub stops-answering : {S : Type 0} {g : Ghosts S} {most : ℕ} {given taken greeted taken_now : Option (List ℕ)} (began now : Durable S) → Appends taken greeted (greeting (life_of began))
+    → StopsTelling g (session_of most began) given greeted now taken_now → StopsServing g most began given taken now taken_now
+stops-answering {S} {g} {most} {given} {taken} {greeted} {taken_now} began now greets stops = record {
   lines = stops.lines;
+  read = stops.read;
   answers = stops.answers;
   life = stops.life;
   reached = stops.reached;
@@ -64,11 +68,11 @@ stops-answering {S} {g} {most} {taken} {greeted} {taken_now} began now greets st
 }
 
 -- the same, as a server says it
-pub stops-served : {S : Type 0} {g : Ghosts S} {most : ℕ} {taken greeted taken_now : Option (List ℕ)} {session : Session S} {began now d : Durable S} → session ≡ session_of most began → now ≡ d
-    → Appends taken greeted (greeting (life_of began)) → StopsTelling g session greeted d taken_now → StopsServing g most began taken now taken_now
-stops-served {S} {g} {most} {taken} {greeted} {taken_now} {session} {began} {now} {d} same is_now greets stops =
-    stops-answering began now greets (subst (λ (x : Durable S). StopsTelling g (session_of most began) greeted x taken_now) (sym is_now)
-    (subst (λ (s : Session S). StopsTelling g s greeted d taken_now) same stops))
+pub stops-served : {S : Type 0} {g : Ghosts S} {most : ℕ} {given taken greeted taken_now : Option (List ℕ)} {session : Session S} {began now d : Durable S} → session ≡ session_of most began → now ≡ d
+    → Appends taken greeted (greeting (life_of began)) → StopsTelling g session given greeted d taken_now → StopsServing g most began given taken now taken_now
+stops-served {S} {g} {most} {given} {taken} {greeted} {taken_now} {session} {began} {now} {d} same is_now greets stops =
+    stops-answering began now greets (subst (λ (x : Durable S). StopsTelling g (session_of most began) given greeted x taken_now) (sym is_now)
+    (subst (λ (s : Session S). StopsTelling g s given greeted d taken_now) same stops))
 
 -- the same session
 pub same-session : {S : Type 0} (s : Session S) (d : Durable S) (most : ℕ) → s.store ≡ d → s.life ≡ life_of d → s.most_events ≡ most → s ≡ session_of most d
@@ -97,17 +101,19 @@ serves-whole taken taken_now now (Err x) same greets tells asked at_end is_end c
 -- all of these, and then nothing, or a beginning of what is answered at the end
 abbrev pub stops-ending : {S : Type 0} {g : Ghosts S} {most : ℕ} {given given_now taken greeted answered taken_now : Option (List ℕ)} {served : Server S} (began now : Durable S) → Appends taken greeted (greeting (life_of began))
     → HasTold g (session_of most began) given greeted served given_now answered → (Clean g now.journal → Clean g served.session.store.journal)
-    → ((taken_now ≡ answered) ⊎ (EndsEpoch g served.session.store now × AppendsPart answered taken_now (answers_text (end_answers served.end)))) → StopsServing g most began taken now taken_now
+    → ((taken_now ≡ answered) ⊎ (EndsEpoch g served.session.store now × AppendsPart answered taken_now (answers_text (end_answers served.end)))) → StopsServing g most began given taken now taken_now
 stops-ending {S} {g} {most} {given} {given_now} {taken} {greeted} {answered} {taken_now} {served} began now greets has clean part =
     let whole : Appends taken answered (greeting (life_of began) ++ answers_text has.told) = Appends-trans taken greeted answered (greeting (life_of began)) (answers_text has.told) greets has.appended in
     record {
       lines = has.served.lines;
+      read = record { seen = has.seen; half = has.served.half; rest = has.rest; left = given_now; consumed = has.consumed; asked = has.served.asked };
       answers = has.told;
       life = served.session.life;
       reached = served.session.store.store;
       ended = served.end;
-      serves = λ at_end. subst (λ all. Serves most (written g began.journal) (life_of began) has.served.lines began.store all served.session.life served.session.store.store served.end)
-          (ap (λ more. has.told ++ more) has.waits ∙ append-nil has.told) (has.served.serves (clean at_end));
+      serves = serves-weaker clean
+          (subst (λ all. Serves (Clean g served.session.store.journal) most (written g began.journal) (life_of began) has.served.lines began.store all served.session.life served.session.store.store served.end)
+          (ap (λ more. has.told ++ more) has.waits ∙ append-nil has.told) has.served.serves);
       told = elim part [
         | inl same ↦ inl (subst (λ now. AppendsPart taken now (greeting (life_of began) ++ answers_text has.told)) (sym same)
             (part-of-whole taken answered answered (greeting (life_of began) ++ answers_text has.told) whole (Keeps-refl answered)))
@@ -119,7 +125,7 @@ stops-ending {S} {g} {most} {given} {given_now} {taken} {greeted} {answered} {ta
 pub stops-whole : {S E : Type 0} {g : Ghosts S} {most : ℕ} {given given_now greeted answered : Option (List ℕ)} {served : Server S} {session : Session S} {began d : Durable S} {e : Option Asked}
     (taken taken_now : Option (List ℕ)) (now : Durable S) (r : Result (Unit {0}) E) → session ≡ session_of most began → Appends taken greeted (greeting (life_of began)) → HasTold g session given greeted served given_now answered
     → d ≡ served.session.store → e ≡ served.end → (Clean g now.journal → Clean g d.journal)
-    → OnErr r ((taken_now ≡ answered) ⊎ (EndsEpoch g d now × AppendsPart answered taken_now (answers_text (end_answers e)))) → OnErr r (StopsServing g most began taken now taken_now)
+    → OnErr r ((taken_now ≡ answered) ⊎ (EndsEpoch g d now × AppendsPart answered taken_now (answers_text (end_answers e)))) → OnErr r (StopsServing g most began given taken now taken_now)
 stops-whole taken taken_now now (Ok u) same greets tells at_end is_end clean part = tt
 stops-whole {S} {E} {g} {most} {given} {given_now} {greeted} {answered} {served} {session} {began} {d} {e} taken taken_now now (Err x) same greets tells at_end is_end clean part =
     stops-ending began now greets (subst (λ (s : Session S). HasTold g s given greeted served given_now answered) same tells) (subst (λ (x : Durable S). Clean g now.journal → Clean g x.journal) at_end clean)

@@ -1,5 +1,5 @@
--- The lines of some bytes are the first ones of more bytes.
-use Rattle.std.proofs.Common.{◌≡◌, ◌∙◌, ℕ, true, false, ◌||◌, List, [], ◌∷◌, ◌++◌, drop, get_or, refl, sym, ap, ap₂, subst}
+-- Lines at the beginning of a text.
+use Rattle.std.proofs.Common.{◌≡◌, ◌∙◌, ◌⊎◌, inl, inr, ℕ, true, false, ◌||◌, List, [], ◌∷◌, ◌++◌, drop, get_or, refl, sym, ap, ap₂, subst}
 use Rattle.std.proofs.lemmas.List.{append_assoc}
 use Rattle.std.specs.Prelude.{◌==◌}
 use Rattle.std.specs.List.{AllByRecursion, flat_map}
@@ -25,18 +25,20 @@ same-line (b ∷ line) (c ∷ other) rest more whole none e =
 first-cut : (line : List ℕ) (lines : List (List ℕ)) (rest : List ℕ) → flat_map ended_line (line ∷ lines) ++ rest ≡ line ++ 10 ∷ (flat_map ended_line lines ++ rest)
 first-cut line lines rest = append_assoc (ended_line line) (flat_map ended_line lines) rest ∙ append_assoc line (10 ∷ []) (flat_map ended_line lines ++ rest)
 
-first-in : (lines all : List (List ℕ)) (tail rest : List ℕ) → AllByRecursion (λ line. has_lf line ≡ false) lines → AllByRecursion (λ line. has_lf line ≡ false) all → has_lf rest ≡ false
-    → flat_map ended_line lines ++ tail ≡ flat_map ended_line all ++ rest → (later : List (List ℕ)) × (all ≡ lines ++ later)
-first-in [] all tail rest whole every none e = (all, refl)
-first-in (line ∷ lines) [] tail rest whole every none e =
-    absurd (let it : true ≡ false = sym (lf-there line (flat_map ended_line lines ++ tail)) ∙ ap has_lf (sym (first-cut line lines tail) ∙ e) ∙ none in cc)
-first-in (line ∷ lines) (other ∷ all) tail rest whole every none e =
+-- of lines at the beginning of a text, and of others there, the one are the first of the other
+either-in : (lines all : List (List ℕ)) (tail rest : List ℕ) → AllByRecursion (λ line. has_lf line ≡ false) lines → AllByRecursion (λ line. has_lf line ≡ false) all
+    → flat_map ended_line lines ++ tail ≡ flat_map ended_line all ++ rest → ((later : List (List ℕ)) × (all ≡ lines ++ later)) ⊎ ((later : List (List ℕ)) × (lines ≡ all ++ later))
+either-in [] all tail rest whole every e = inl (all, refl)
+either-in (line ∷ lines) [] tail rest whole every e = inr (line ∷ lines, refl)
+either-in (line ∷ lines) (other ∷ all) tail rest whole every e =
     let same = same-line line other (flat_map ended_line lines ++ tail) (flat_map ended_line all ++ rest) whole.0 every.0 (sym (first-cut line lines tail) ∙ e ∙ first-cut other all rest) in
-    let more = first-in lines all tail rest whole.1 every.1 none same.1 in
-    (more.0, ap₂ (λ x xs. x ∷ xs) (sym same.0) more.1)
+    elim (either-in lines all tail rest whole.1 every.1 same.1) [
+      | inl more ↦ inl (more.0, ap₂ (λ x xs. x ∷ xs) (sym same.0) more.1)
+      | inr more ↦ inr (more.0, ap₂ (λ x xs. x ∷ xs) same.0 more.1)
+    ]
 
-pub first-lines : (bytes more : List ℕ) (lines : List (List ℕ)) (half : List ℕ) (all : List (List ℕ)) (rest : List ℕ) → AreLines bytes lines half → AreLines (bytes ++ more) all rest
-    → (later : List (List ℕ)) × (all ≡ lines ++ later)
-first-lines bytes more lines half all rest first second =
-    first-in lines all (half ++ more) rest first.whole second.whole second.within
-    (sym (append_assoc (flat_map ended_line lines) half more) ∙ (ap (λ bs. bs ++ more) (sym first.text) ∙ second.text))
+pub either-lines : (bytes more rest taken : List ℕ) (lines : List (List ℕ)) (half : List ℕ) (all : List (List ℕ)) (other : List ℕ) → AreLines bytes lines half → AreLines taken all other → taken ++ rest ≡ bytes ++ more
+    → ((later : List (List ℕ)) × (all ≡ lines ++ later)) ⊎ ((later : List (List ℕ)) × (lines ≡ all ++ later))
+either-lines bytes more rest taken lines half all other first second same =
+    either-in lines all (half ++ more) (other ++ rest) first.whole second.whole
+    (sym (append_assoc (flat_map ended_line lines) half more) ∙ (ap (λ bs. bs ++ more) (sym first.text) ∙ (sym same ∙ (ap (λ bs. bs ++ rest) second.text ∙ append_assoc (flat_map ended_line all) other rest))))

@@ -18,6 +18,7 @@ use Rattle.durable_store.specs.Durable.{IsDurable}
 use Rattle.serving.specs.Group.{HasTold, IsUnasked, StopsTelling}
 use Rattle.serving.specs.Told.{AppendsPart, answers_text}
 use Rattle.serving.proofs.LaterEpochs.{lasts-stays, lasts-nowhere}
+use Rattle.serving.proofs.Premises.{serves-weaker}
 use Rattle.serving.proofs.TextParts.{part-of-whole}
 
 -- ---- known bytes
@@ -29,33 +30,54 @@ part-then a b c x y first (n, within, second) =
 pub told-more : (told more : List Answered) → answers_text (told ++ more) ≡ answers_text told ++ answers_text more
 told-more told more = flat_map-append _ told more
 
+-- ---- what was read
+
+-- the bytes of a group too, of which the first ones are served
+pub read-more : {S : Type 0} {g : Ghosts S} {began : Session S} {given taken given_now taken_now : Option (List ℕ)} {old : Server S} (given_new : Option (List ℕ)) (bytes : List ℕ) (count : ℕ) → old.end ≡ None
+    → (has : HasTold g began given taken old given_now taken_now) → Consumes given_now given_new bytes → Consumes given given_new ((has.seen ++ take count bytes) ++ drop count bytes)
+read-more {given = given} {given_now = given_now} given_new bytes count none has consumed =
+    subst (Consumes given given_new)
+    (ap (λ (xs : List ℕ). (has.seen ++ xs) ++ bytes) (has.all none) ∙ (ap (λ (xs : List ℕ). xs ++ bytes) (append-nil has.seen)
+    ∙ (ap (λ (xs : List ℕ). has.seen ++ xs) (sym (take-append-drop count bytes)) ∙ sym (append_assoc has.seen (take count bytes) (drop count bytes)))))
+    (Consumes-trans given given_now given_new (has.seen ++ has.rest) bytes has.consumed consumed)
+
 -- ---- a server stops
 
--- with no more answers
-abbrev pub stops-before : {S : Type 0} {g : Ghosts S} {began : Session S} {given taken given_now taken_now : Option (List ℕ)} {old : Server S} (new : Durable S)
-    → (Clean g new.journal → Clean g old.session.store.journal) → HasTold g began given taken old given_now taken_now → StopsTelling g began taken new taken_now
-stops-before {S} {g} {began} {given} {taken} {given_now} {taken_now} {old} new clean has = record {
+-- with no more answers, though more may have been read
+abbrev pub stops-before : {S : Type 0} {g : Ghosts S} {began : Session S} {given taken given_now taken_now : Option (List ℕ)} {old : Server S} (new : Durable S) (rest : List ℕ) (given_new : Option (List ℕ))
+    → (Clean g new.journal → Clean g old.session.store.journal) → (has : HasTold g began given taken old given_now taken_now) → Consumes given given_new (has.seen ++ rest) → StopsTelling g began given taken new taken_now
+stops-before {S} {g} {began} {given} {taken} {given_now} {taken_now} {old} new rest given_new clean has consumed = record {
   lines = has.served.lines;
+  read = record { seen = has.seen; half = has.served.half; rest = rest; left = given_new; consumed = consumed; asked = has.served.asked };
   answers = has.told;
   life = old.session.life;
   reached = old.session.store.store;
   ended = old.end;
-  serves = λ now. subst (λ all. Serves began.most_events (written g began.store.journal) began.life has.served.lines began.store.store all old.session.life old.session.store.store old.end)
-      (ap (λ more. has.told ++ more) has.waits ∙ append-nil has.told) (has.served.serves (clean now));
+  serves = serves-weaker clean
+      (subst (λ all. Serves (Clean g old.session.store.journal) began.most_events (written g began.store.journal) began.life has.served.lines began.store.store all old.session.life old.session.store.store old.end)
+      (ap (λ more. has.told ++ more) has.waits ∙ append-nil has.told) has.served.serves);
   part = part-of-whole taken taken_now taken_now (answers_text has.told) has.appended (Keeps-refl taken_now);
 }
 
 -- while it answers
-abbrev pub stops-telling : {S : Type 0} {g : Ghosts S} {began : Session S} {given taken given_now taken_now : Option (List ℕ)} {old : Server S} (mid : Server S) (new : Durable S) (taken_new : Option (List ℕ))
-    (bytes : List ℕ) → (Clean g new.journal → Clean g mid.session.store.journal) → (has : HasTold g began given taken old given_now taken_now) → ServesBytes g began has.told has.seen bytes mid
-    → AppendsPart taken_now taken_new (answers_text mid.answers.items) → StopsTelling g began taken new taken_new
-stops-telling {S} {g} {began} {given} {taken} {given_now} {taken_now} {old} mid new taken_new bytes clean has more part = record {
+abbrev pub stops-telling : {S : Type 0} {g : Ghosts S} {began : Session S} {given taken given_now taken_now : Option (List ℕ)} {old : Server S} (mid : Server S) (new : Durable S) (given_new taken_new : Option (List ℕ))
+    (bytes : List ℕ) → old.end ≡ None → (Clean g new.journal → Clean g mid.session.store.journal) → (has : HasTold g began given taken old given_now taken_now) → ServesBytes g began has.told has.seen bytes mid
+    → Consumes given_now given_new bytes → AppendsPart taken_now taken_new (answers_text mid.answers.items) → StopsTelling g began given taken new taken_new
+stops-telling {S} {g} {began} {given} {taken} {given_now} {taken_now} {old} mid new given_new taken_new bytes none clean has more consumed part = record {
   lines = more.served.lines;
+  read = record {
+    seen = has.seen ++ take more.count bytes;
+    half = more.served.half;
+    rest = drop more.count bytes;
+    left = given_new;
+    consumed = read-more given_new bytes more.count none has consumed;
+    asked = more.served.asked;
+  };
   answers = has.told ++ mid.answers.items;
   life = mid.session.life;
   reached = mid.session.store.store;
   ended = mid.end;
-  serves = λ now. more.served.serves (clean now);
+  serves = serves-weaker clean more.served.serves;
   part = subst (AppendsPart taken taken_new) (sym (told-more has.told mid.answers.items)) (part-then taken taken_now taken_new (answers_text has.told) (answers_text mid.answers.items) has.appended part);
 }
 
@@ -75,10 +97,7 @@ group-told {S} {g} {began} {given} {taken} {given_now} {taken_now} {old} mid new
       told = has.told ++ mid.answers.items;
       seen = has.seen ++ take more.count bytes;
       rest = drop more.count bytes;
-      consumed = subst (Consumes given given_new)
-          (ap (λ (xs : List ℕ). (has.seen ++ xs) ++ bytes) (has.all none) ∙ (ap (λ (xs : List ℕ). xs ++ bytes) (append-nil has.seen)
-          ∙ (ap (λ (xs : List ℕ). has.seen ++ xs) (sym (take-append-drop more.count bytes)) ∙ sym (append_assoc has.seen (take more.count bytes) (drop more.count bytes)))))
-          (Consumes-trans given given_now given_new (has.seen ++ has.rest) bytes has.consumed consumed);
+      consumed = read-more given_new bytes more.count none has consumed;
       all = λ e. drop_all more.count bytes (omega (arith, more.all (sym ended ∙ e)));
       waits = clear;
       served = record {
@@ -87,8 +106,8 @@ group-told {S} {g} {began} {given} {taken} {given_now} {taken_now} {old} mid new
         asked = served.asked;
         kept = ap (λ v. v.items) line ∙ served.kept;
         lasts = lasts-stays served.lasts stays;
-        serves = λ clean.
-            let so_far = served.serves (stays.clean clean) in
+        serves =
+            let so_far = serves-weaker stays.clean served.serves in
             rw (lets, ended, stays.life, ap (λ xs. (has.told ++ mid.answers.items) ++ xs) clear ∙ append-nil (has.told ++ mid.answers.items))
             (Serves.forget served.lines began.store.store mid.session.store.store (has.told ++ mid.answers.items) mid.session.life new.session.store.store.forgotten mid.end so_far);
       };
@@ -111,7 +130,7 @@ told-none {S} {g} given taken s sound fresh = record {
     asked = record { text = refl; whole = tt; within = refl };
     kept = fresh.line;
     lasts = lasts-nowhere s.session sound fresh.named;
-    serves = λ clean. rw (fresh.answers, fresh.end) (Serves.none s.session.store.store);
+    serves = rw (fresh.answers, fresh.end) (Serves.none s.session.store.store);
   };
   appended = Appends-nil taken;
 }

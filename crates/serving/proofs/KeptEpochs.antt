@@ -2,6 +2,7 @@
 use Rattle.std.proofs.Common.{◌≡◌, ◌∙◌, inl, inr, ℕ, Option, None, Some, List, [], ◌∷◌, ◌++◌, map, refl, sym, ap}
 use Rattle.std.proofs.lemmas.List.{append_assoc, append-nil, map-append}
 use Rattle.journal.specs.Contents.{Contents}
+use Rattle.journal.specs.declared.header.Header.{Header}
 use Rattle.serving.specs.Archives.{KeepsAtLeast, KeepsEpochs, KeptHistory, MayKeepText, kept_history, with_kept}
 
 with-none : (known : Option (List KeptHistory)) → known ≡ with_kept known []
@@ -33,10 +34,10 @@ pub least-some : (old new : Option (List KeptHistory)) (ended : List Contents) �
 least-some old new ended keeps = (map kept_history ended, keeps)
 
 -- one text, or none
-pub least-text : (old new : Option (List KeptHistory)) (life : ℕ) (text : List ℕ) → MayKeepText old new life text → KeepsAtLeast old new []
-least-text old new life text may = elim may [
+pub least-text : (old new : Option (List KeptHistory)) (header : Header) (text : List ℕ) → MayKeepText old new header text → KeepsAtLeast old new []
+least-text old new header text may = elim may [
   | inl same ↦ ([], same ∙ with-none old)
-  | inr one ↦ (record { life = life; text = text } ∷ [], one)
+  | inr one ↦ (record { headers = header ∷ []; text = text } ∷ [], one)
 ]
 
 -- one after another

@@ -27,6 +27,7 @@ use Rattle.serving.specs.Requests.{LetsGo}
 use Rattle.serving.specs.Served.{Serves}
 use Rattle.serving.specs.Server.{StaysInEpoch, HasServed, Lasts, life_of}
 use Rattle.serving.proofs.MoreEvents.{follows-with_all}
+use Rattle.serving.proofs.Premises.{serves-weaker}
 use Rattle.serving.proofs.KeptEpochs.{keeps-none, keeps-then, least-more, least-none, least-these, least-then}
 
 -- ---- files
@@ -99,7 +100,7 @@ left-untold g old new kept kept_now leaves db left = elim (leaves db left) [
 
 -- the store of a file that has its whole history
 pub is-store-of : {S : Type 0} (g : Ghosts S) (d : Durable S) → IsDurable g d → Clean g d.journal → IsStoreOf (written g d.journal) d.store
-is-store-of g d sound clean = record { types = sound.types clean; history = sound.history clean }
+is-store-of g d sound clean = record { types = sound.types clean; history = sound.history clean; limit = sound.limit }
 
 -- the new epoch of what was written with an abort of each transaction that was open
 renewed-reached : {S : Type 0} (g : Ghosts S) (old mid : Durable S) (new : Stored) → IsDurable g mid → Clean g mid.journal → written g mid.journal ≡ with_all (written g old.journal) (closing old.store.history)
@@ -148,7 +149,7 @@ kept-as s t x state lets kept =
     let it : IsKeptState (record s { forgotten = t.forgotten }) x state = subst (λ (u : Stored). IsKeptState u x state) lets kept in
     record { o = it.o; there = it.there; in_place = it.in_place; agrees = it.agrees; fits = it.fits }
 
-renews-as : (s t new : Stored) → LetsGo s t → Renews t new → Renews s new
+pub renews-as : (s t new : Stored) → LetsGo s t → Renews t new → Renews s new
 renews-as s t new lets renews =
     let it : Renews (record s { forgotten = t.forgotten }) new = subst (λ (u : Stored). Renews u new) lets renews in
     record {
@@ -238,15 +239,15 @@ served-epoch {S} {g} {began} {told} {bytes} {old} new kept kept_now none full en
   asked = served.asked;
   kept = ap (λ v. v.items) line ∙ served.kept;
   lasts = lasts-epoch new.session kept kept_now served.lasts sound named most writes clean crash;
-  serves = λ now.
-      let was = clean now in
+  serves =
       let file = written g began.store.journal in
-      let so_far : Serves began.most_events file began.life served.lines began.store.store (told ++ old.answers.items) old.session.life old.session.store.store None =
-      subst (λ e. Serves began.most_events file began.life served.lines began.store.store (told ++ old.answers.items) old.session.life old.session.store.store e) none (served.serves was) in
-      let life : new.session.life ≡ suc old.session.life = named ∙ ends.life now ∙ ap suc (sym served.lasts.named) in
-      rw (life, ended ∙ none, ap (λ v. told ++ v.items) answers)
-      (Serves.epoch served.lines began.store.store old.session.store.store new.session.store.store (told ++ old.answers.items) old.session.life so_far
-      (subst (λ n. is_epoch_full n old.session.store.store ≡ true) served.lasts.most full) ends.store);
+      let so_far : Serves (Clean g new.session.store.journal) began.most_events file began.life served.lines began.store.store (told ++ old.answers.items) old.session.life old.session.store.store None =
+      serves-weaker clean
+      (subst (λ e. Serves (Clean g old.session.store.journal) began.most_events file began.life served.lines began.store.store (told ++ old.answers.items) old.session.life old.session.store.store e) none served.serves) in
+      let life : Clean g new.session.store.journal → new.session.life ≡ suc old.session.life = λ now. named ∙ ends.life now ∙ ap suc (sym served.lasts.named) in
+      rw (ended ∙ none, ap (λ v. told ++ v.items) answers)
+      (Serves.epoch served.lines began.store.store old.session.store.store new.session.store.store (told ++ old.answers.items) old.session.life new.session.life so_far
+      (subst (λ n. is_epoch_full n old.session.store.store ≡ true) served.lasts.most full) ends.store life);
 }
 
 -- the same of what it has answered
@@ -282,9 +283,7 @@ told-as {S} {g} {began} {given} {taken} {given_now} {taken_now} {old} new sessio
     asked = has.served.asked;
     kept = ap (λ v. v.items) line ∙ has.served.kept;
     lasts = subst (λ (s : Session S). Lasts g began s) (sym session) has.served.lasts;
-    serves = λ clean.
-        let so_far = has.served.serves (subst (λ (s : Session S). Clean g s.store.journal) session clean) in
-        rw (session, answers, ended) so_far;
+    serves = rw (session, answers, ended) has.served.serves;
   };
   appended = has.appended;
 }

@@ -1,5 +1,6 @@
 pub mod Results
 pub mod MoreEvents
+pub mod Premises
 pub mod ByteByByte
 pub mod KeptEpochs
 pub mod LaterEpochs
@@ -10,6 +11,7 @@ pub mod ClosedEpochs
 pub mod Groups
 pub mod EndLemmas
 pub mod FirstLines
-pub mod Survival
+pub mod LeftLines
 pub mod Acknowledgements
+pub mod Parts
 pub mod CommitEvents

@@ -7,7 +7,7 @@ use Rattle.journal.specs.Contents.{Contents}
 use Rattle.journal.specs.Journal.{Clean, written}
 use Rattle.durable_store.specs.declared.durable.Durable.{Durable}
 use Rattle.durable_store.specs.Durable.{OutcomesStay, WritesSince, kinds, with_all}
-use Rattle.serving.specs.Follows.{HasMoreEvents, LeavesMore, WritesMore}
+use Rattle.serving.specs.Follows.{HasMoreEvents, LeavesMore, LeavesWritten, WritesMore}
 
 pub follows-none : (c : Contents) → HasMoreEvents c c
 follows-none c = record { more = []; events = sym (append-nil c.events); others = refl }
@@ -28,6 +28,12 @@ writes-more g old new since clean = subst (λ c. HasMoreEvents (written g old.jo
 
 pub outcomes-more : {S : Type 0} (g : Ghosts S) (old new : Durable S) → OutcomesStay g old new → LeavesMore g old new
 outcomes-more g old new stay db left = inr (stay db left)
+
+pub written-more : {S : Type 0} (g : Ghosts S) (old new : Durable S) → LeavesWritten g old new → LeavesMore g old new
+written-more g old new crash db left = elim (crash db left) [
+  | inl it ↦ inl (it.0, it.1, subst (λ c. HasMoreEvents (written g old.journal) c) (sym it.2) (follows-none (written g old.journal)))
+  | inr before ↦ inr before
+]
 
 -- two calls, one after the other
 pub writes-then : {S : Type 0} (g : Ghosts S) (old mid new : Durable S) → (Clean g new.journal → Clean g mid.journal) → WritesMore g old mid → WritesMore g mid new → WritesMore g old new

@@ -1,29 +1,22 @@
 -- A server goes on byte by byte.
-use Rattle.std.proofs.Common.{◌≡◌, inr, ◌∙◌, ◌<◌, ◌+◌, get_or, ℕ, true, false, List, [], ◌∷◌, ◌++◌, length, take, refl, sym, ap, subst, None, Result, Ok, Err}
+use Rattle.std.proofs.Common.{◌≡◌, inr, ◌∙◌, ◌<◌, ◌+◌, get_or, ℕ, true, false, List, [], ◌∷◌, ◌++◌, length, take, refl, sym, ap, subst, None}
 use Rattle.std.proofs.lemmas.List.{append_assoc, take_more}
 use Rattle.std.proofs.lemmas.Bool.{eqb-true}
-use Rattle.std.specs.Prelude.{◌==◌, MatchBool, MatchResult, nat_lt, if◌then◌else◌}
+use Rattle.std.specs.Prelude.{◌==◌, MatchBool, nat_lt, if◌then◌else◌}
 use Rattle.sqlite_trees.specs.declared.store.Store.{Ghosts}
-use Rattle.store_laws.specs.Stored.{Stored}
-use Rattle.journal.specs.Contents.{Contents}
-use Rattle.journal.specs.Journal.{written}
+use Rattle.journal.specs.Journal.{Clean, written}
 use Rattle.request_text.specs.Requests.{asked_by}
 use Rattle.request_text.specs.declared.request.Asked.{Asked}
-use Rattle.request_text.specs.declared.request.Request.{Request}
-use Rattle.request_text.specs.declared.request.Request.TheVariants as request
-use Rattle.serving.specs.declared.answer_line.AnswerLine.{AnswerLine}
-use Rattle.serving.specs.declared.answer_line.AnswerLine.TheVariants.{Fault}
 use Rattle.serving.specs.declared.answer_line.Answered.{Answered}
-use Rattle.request_text.specs.declared.fault.RequestFault.{RequestFault}
 use Rattle.serving.specs.declared.session.Session.{Session}
 use Rattle.serving.specs.declared.server.Server.{Server}
 use Rattle.serving.specs.Lines.{asks_end, is_end}
-use Rattle.serving.specs.Requests.{DoesRequest, TellsObjects, TellsTypes}
 use Rattle.serving.specs.Served.{IsAnswered, Serves}
 use Rattle.serving.specs.Server.{AnswersLine, DoesLine, StaysInEpoch, HasServed, KeepsByte, TakesByte, TakesEnd, most_kept}
 use Rattle.durable_store.specs.Durable.{IsDurable}
 use Rattle.serving.proofs.MoreEvents.{follows-none, leaves-then, writes-then}
 use Rattle.serving.proofs.LaterEpochs.{lasts-stays, reaches-same}
+use Rattle.serving.proofs.Premises.{answered-before, serves-weaker}
 use Rattle.serving.proofs.ByteByByte.{asked-kept, byte-more, kept-more, line-more}
 
 pub stays-then : {S : Type 0} {g : Ghosts S} {old mid new : Session S} → StaysInEpoch g old mid → StaysInEpoch g mid new → StaysInEpoch g old new
@@ -47,36 +40,6 @@ stays-put {g = g} s sound = record {
   follows = λ clean. follows-none (written g s.store.journal);
   clean = λ clean. clean;
   crash = λ db left. inr left;
-}
-
--- a file with the same objects and types
-done-before : (most life : ℕ) (c : Contents) (old : Stored) (r : Request) (answer : AnswerLine) (new : Stored) (d : Contents) → (d.objects ≡ c.objects) × (d.types ≡ c.types)
-    → DoesRequest most life d old r answer new → DoesRequest most life c old r answer new
-done-before most life c old request.Begin answer new d same does = does
-done-before most life c old (request.Call t x name) answer new d same does = does
-done-before most life c old (request.Would t x name) answer new d same does = does
-done-before most life c old (request.Commit t) answer new d same does = does
-done-before most life c old (request.Abort t) answer new d same does = does
-done-before most life c old (request.Rollback t count) answer new d same does = does
-done-before most life c old (request.Kept x) answer new d same does = does
-done-before most life c old request.Objects answer new d same does = (subst (λ objects. TellsObjects answer objects) same.0 does.0, does.1)
-done-before most life c old request.Types answer new d same does = (subst (λ texts. TellsTypes answer texts) same.1 does.0, does.1)
-done-before most life c old (request.Events from count) answer new d same does = does
-done-before most life c old request.Stats answer new d same does = does
-done-before most life c old request.End answer new d same does = does
-
-answered-before : (most life : ℕ) (c d : Contents) (kept half : List ℕ) (old : Stored) (a : Answered) (new : Stored) → (d.objects ≡ c.objects) × (d.types ≡ c.types) → asked_by kept ≡ asked_by half
-    → IsAnswered most life d kept old a new → IsAnswered most life c half old a new
-answered-before most life c d kept half old a new files same answered = record {
-  tag = answered.tag ∙ ap (λ (x : Asked). x.tag) same;
-  request =
-      let before : MatchResult (asked_by kept).request (λ r. DoesRequest most life c old r a.answer new) (λ fault. (a.answer ≡ Fault fault) × (new ≡ old)) =
-      elim (asked_by kept).request as (λ (q : Result Request RequestFault). MatchResult q (λ r. DoesRequest most life d old r a.answer new) (λ fault. (a.answer ≡ Fault fault) × (new ≡ old))
-      → MatchResult q (λ r. DoesRequest most life c old r a.answer new) (λ fault. (a.answer ≡ Fault fault) × (new ≡ old))) [
-        | Ok r ↦ λ does. done-before most life c old r a.answer new d files does
-        | Err fault ↦ λ told. told
-      ] answered.request in
-      subst (λ (x : Asked). MatchResult x.request (λ r. DoesRequest most life c old r a.answer new) (λ fault. (a.answer ≡ Fault fault) × (new ≡ old))) same before;
 }
 
 -- a byte of a line
@@ -105,14 +68,14 @@ line-answered {S} {g} {began} {told} {bytes} {old} {new} b is none clear other d
       asked = line-more b is served.asked;
       kept = clear;
       lasts = lasts-stays served.lasts does.stays_in_epoch;
-      serves = λ clean.
-          let before = does.stays_in_epoch.clean clean in
-          let so_far : Serves most file began.life served.lines began.store.store (told ++ old.answers.items) old.session.life old.session.store.store None =
-          subst (λ ended. Serves most file began.life served.lines began.store.store (told ++ old.answers.items) old.session.life old.session.store.store ended) none (served.serves before) in
-          let answered : IsAnswered most old.session.life file served.half old.session.store.store does.a new.session.store.store =
-          answered-before most old.session.life file (written g old.session.store.journal) old.line.items served.half old.session.store.store does.a new.session.store.store
-          (reaches-same (served.lasts.reaches before).1) same
-          (subst (λ n. IsAnswered n old.session.life (written g old.session.store.journal) old.line.items old.session.store.store does.a new.session.store.store) served.lasts.most (does.answered clean)) in
+      serves =
+          let so_far : Serves (Clean g new.session.store.journal) most file began.life served.lines began.store.store (told ++ old.answers.items) old.session.life old.session.store.store None =
+          serves-weaker does.stays_in_epoch.clean
+          (subst (λ ended. Serves (Clean g old.session.store.journal) most file began.life served.lines began.store.store (told ++ old.answers.items) old.session.life old.session.store.store ended) none served.serves) in
+          let answered : IsAnswered (Clean g new.session.store.journal) most old.session.life file served.half old.session.store.store does.a new.session.store.store =
+          answered-before (λ now. now) most old.session.life file (written g old.session.store.journal) old.line.items served.half old.session.store.store does.a new.session.store.store
+          (λ now. reaches-same (served.lasts.reaches (does.stays_in_epoch.clean now)).1) same
+          (subst (λ n. IsAnswered (Clean g new.session.store.journal) n old.session.life (written g old.session.store.journal) old.line.items old.session.store.store does.a new.session.store.store) served.lasts.most does.answered) in
           let ends : asks_end served.half ≡ false = ap (λ (x : Asked). is_end x.request) (sym same) ∙ other in
           let ended : new.end ≡ None = ap (λ (s : Server S). s.end) does.others ∙ none in
           let all : told ++ new.answers.items ≡ (told ++ old.answers.items) ++ does.a ∷ [] = ap (λ xs. told ++ xs) does.told ∙ sym (append_assoc told old.answers.items (does.a ∷ [])) in
@@ -133,9 +96,9 @@ end-taken {S} {g} {began} {told} {bytes} {old} {new} b is none clear ends does s
       asked = line-more b is served.asked;
       kept = clear;
       lasts = served.lasts;
-      serves = λ clean.
-          let so_far : Serves most file began.life served.lines began.store.store (told ++ old.answers.items) old.session.life old.session.store.store None =
-          subst (λ ended. Serves most file began.life served.lines began.store.store (told ++ old.answers.items) old.session.life old.session.store.store ended) none (served.serves clean) in
+      serves =
+          let so_far : Serves (Clean g old.session.store.journal) most file began.life served.lines began.store.store (told ++ old.answers.items) old.session.life old.session.store.store None =
+          subst (λ ended. Serves (Clean g old.session.store.journal) most file began.life served.lines began.store.store (told ++ old.answers.items) old.session.life old.session.store.store ended) none served.serves in
           rw same (Serves.end served.lines served.half began.store.store old.session.store.store (told ++ old.answers.items) old.session.life so_far (ap (λ (x : Asked). is_end x.request) (sym same) ∙ ends));
     })
 

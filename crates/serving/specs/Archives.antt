@@ -6,9 +6,9 @@ use Rattle.journal.specs.Contents.{Contents}
 use Rattle.journal.specs.declared.header.Header.{Header}
 use Rattle.durable_store.specs.Durable.{events_of_kinds}
 
--- the text of a history that is kept, under the number of the life in which its epoch ended
+-- the text of a history that is kept, under what its file said of itself then: the id of the store, and the life in which its epoch ended
 pub record KeptHistory : Type 0 where
-  pub life : ℕ
+  pub headers : List Header
   pub text : List ℕ
 
 -- known histories, and these after them
@@ -16,12 +16,12 @@ abbrev pub with_kept : Option (List KeptHistory) → List KeptHistory → Option
 with_kept known more = option_map (λ all. all ++ more) known
 
 -- one more is kept
-abbrev pub KeepsText : Option (List KeptHistory) → Option (List KeptHistory) → ℕ → List ℕ → Type 0
-KeepsText old new life text = new ≡ with_kept old (record { life = life; text = text } ∷ [])
+abbrev pub KeepsText : Option (List KeptHistory) → Option (List KeptHistory) → Header → List ℕ → Type 0
+KeepsText old new header text = new ≡ with_kept old (record { headers = header ∷ []; text = text } ∷ [])
 
 -- one more is kept, or none
-abbrev pub MayKeepText : Option (List KeptHistory) → Option (List KeptHistory) → ℕ → List ℕ → Type 0
-MayKeepText old new life text = (new ≡ old) ⊎ KeepsText old new life text
+abbrev pub MayKeepText : Option (List KeptHistory) → Option (List KeptHistory) → Header → List ℕ → Type 0
+MayKeepText old new header text = (new ≡ old) ⊎ KeepsText old new header text
 
 -- ---- epochs
 
@@ -35,7 +35,7 @@ abbrev pub text_of_epoch : Contents → List ℕ
 text_of_epoch c = canonical_text c.objects (events_of_kinds c.events)
 
 abbrev pub kept_history : Contents → KeptHistory
-kept_history c = record { life = life_in c.headers; text = text_of_epoch c }
+kept_history c = record { headers = c.headers; text = text_of_epoch c }
 
 -- the histories of these epochs are kept after the others, in their order, and nothing else
 abbrev pub KeepsEpochs : Option (List KeptHistory) → Option (List KeptHistory) → List Contents → Type 0

@@ -9,14 +9,13 @@ use Rattle.journal.specs.Contents.{Contents, contents_of}
 use Rattle.journal.specs.Journal.{may_leave}
 use Rattle.durable_store.specs.declared.durable.Durable.{Durable}
 use Rattle.durable_store.specs.Durable.{kinds}
-use Rattle.durable_store.specs.Recovered.{IsStoreOf}
 use Rattle.request_text.specs.Requests.{asked_by}
 use Rattle.request_text.specs.declared.request.Request.TheVariants as request
 use Rattle.request_text.specs.declared.request.TransactionName.{TransactionName}
 use Rattle.serving.specs.declared.answer_line.AnswerLine.TheVariants.{Committed}
 use Rattle.serving.specs.declared.answer_line.Answered.{Answered}
 use Rattle.serving.specs.Archives.{life_in}
-use Rattle.serving.specs.Epochs.{Reaches}
+use Rattle.serving.specs.Left.{Began, IsFileAfter}
 
 -- a line asks that this transaction commit, and is answered that it has
 abbrev pub AnswersCommit : List ℕ → Answered → TransactionName → Type 0
@@ -34,17 +33,17 @@ pub data KeepsCommit (t : TransactionName) : ℕ → Stored → Type 0 where
   event : (now : Stored) → Contains (kinds now.history) (kind.Commit t.number) → KeepsCommit t t.life now
   epoch : (life : ℕ) (old first now : Stored) → KeepsCommit t life old → Renews old first → now.types ≡ first.types → KeepsCommit t (suc life) now
 
--- a file has it: what the file of such a store said, or what that came to; while it is in the transaction's life, the commit is among its events
-pub record HasCommit (c : Contents) (t : TransactionName) : Type 0 where
-  pub file : Contents
-  pub reached : Stored
-  pub past : List Contents
-  pub is_file : IsStoreOf file reached
-  pub keeps : KeepsCommit t (life_in file.headers) reached
-  pub reaches : Reaches file past c
+-- a file has it: it is the file after lines among which is the commit; while it is in the transaction's life, the commit is among its events
+pub record HasCommit (b : Began) (last : List (List ℕ) → Type 0) (c : Contents) (t : TransactionName) : Type 0 where
+  pub lines : List (List ℕ)
+  pub done : List Answered
+  pub file : IsFileAfter b last lines done c
+  pub tells : TellsCommit lines done t
+  pub keeps : KeepsCommit t file.life file.reached
   pub since : t.life ≤ life_in c.headers
   pub happened : t.life ≡ life_in c.headers → Contains c.events (kind.Commit t.number)
 
 -- whatever a crash leaves has each commit that was answered
-abbrev pub CommitsAreFound : {S : Type 0} (g : Ghosts S) → List (List ℕ) → List Answered → Durable S → Type 0
-CommitsAreFound g lines answers now = (t : TransactionName) → TellsCommit lines answers t → (db : Trees) → may_leave g now.journal db → HasCommit (contents_of db) t
+abbrev pub CommitsAreFound : {S : Type 0} (g : Ghosts S) → Began → (List (List ℕ) → Type 0) → List (List ℕ) → List Answered → Durable S → Type 0
+CommitsAreFound g b last lines answers now =
+    (t : TransactionName) → TellsCommit lines answers t → (db : Trees) → may_leave g now.journal db → HasCommit b last (contents_of db) t

@@ -1,12 +1,16 @@
 -- The end of an epoch.
-use Rattle.std.specs.Prelude.{◌≡◌, suc, List, [], ◌∷◌, Option, None, Some}
+use Rattle.std.specs.Prelude.{◌≡◌, ◌⊎◌, suc, List, [], ◌∷◌, Option, None, Some}
 use Rattle.sqlite_trees.specs.declared.store.Store.{Ghosts}
+use Rattle.sqlite_trees.specs.Tree.{Trees}
+use Rattle.store_laws.specs.Stored.{Stored}
 use Rattle.store.specs.Ends.{closing}
 use Rattle.store.specs.Renews.{Renews}
-use Rattle.journal.specs.Journal.{Clean, durable, written}
+use Rattle.journal.specs.Contents.{Contents, IsFile, contents_of}
+use Rattle.journal.specs.Journal.{Clean, durable, may_leave, written}
 use Rattle.durable_store.specs.declared.durable.Durable.{Durable}
 use Rattle.durable_store.specs.Durable.{with_all}
 use Rattle.durable_store.specs.Epochs.{renewed}
+use Rattle.durable_store.specs.Recovered.{IsStoreOf}
 use Rattle.request_text.specs.declared.request.Asked.{Asked}
 use Rattle.serving.specs.declared.answer_line.Answered.{Answered}
 use Rattle.serving.specs.declared.answer_line.AnswerLine.TheVariants.{Done}
@@ -23,3 +27,26 @@ pub record EndsEpoch {S : Type 0} (g : Ghosts S) (old new : Durable S) : Type 0 
   pub store : Renews (aborted old.store) new.store
   pub durable : Clean g new.journal → durable g new.journal ≡ renewed (with_all (written g old.journal) (closing old.store.history)) new.store.types
   pub life : Clean g new.journal → life_of new ≡ suc (life_of old)
+
+-- ---- a crash
+
+-- the file of a store whose epoch is over, with an abort of each transaction that was open, under the header that it had
+abbrev pub IsEpochOver : {S : Type 0} → Durable S → Contents → Type 0
+IsEpochOver d c = IsStoreOf c (aborted d.store) × (c.headers ≡ d.journal.header ∷ [])
+
+-- one that begins anew from such a file
+pub record BeginsAnew {S : Type 0} (d : Durable S) (c : Contents) : Type 0 where
+  pub before : Contents
+  pub next : Stored
+  pub over : IsEpochOver d before
+  pub renews : Renews (aborted d.store) next
+  pub is : c ≡ renewed before next.types
+
+-- a crash leaves what it could have left before, or the file of the epoch that is over
+abbrev pub LeavesClosed : {S : Type 0} (g : Ghosts S) → Durable S → Durable S → Type 0
+LeavesClosed g old new = (db : Trees) → may_leave g new.journal db → (Clean g old.journal × IsFile db × IsEpochOver old (contents_of db)) ⊎ may_leave g old.journal db
+
+-- the same, or one that begins anew from there
+abbrev pub LeavesEnd : {S : Type 0} (g : Ghosts S) → Durable S → Durable S → Type 0
+LeavesEnd g old new = (db : Trees) → may_leave g new.journal db
+    → (Clean g old.journal × IsFile db × (IsEpochOver old (contents_of db) ⊎ BeginsAnew old (contents_of db))) ⊎ may_leave g old.journal db

@@ -4,7 +4,7 @@ use Rattle.sqlite_trees.specs.declared.store.Store.{Ghosts}
 use Rattle.sqlite_trees.specs.Tree.{Trees}
 use Rattle.object_trait.specs.declared.event.EventKind.{EventKind}
 use Rattle.journal.specs.Contents.{Contents, IsFile, contents_of}
-use Rattle.journal.specs.Journal.{Clean, may_leave, written}
+use Rattle.journal.specs.Journal.{Clean, IsAsWritten, may_leave, written}
 use Rattle.durable_store.specs.declared.durable.Durable.{Durable}
 
 -- the same file with events more
@@ -21,3 +21,7 @@ LeavesMore g old new = (db : Trees) → may_leave g new.journal db
 -- what is written is what was, and what followed
 abbrev pub WritesMore : {S : Type 0} (g : Ghosts S) → Durable S → Durable S → Type 0
 WritesMore g old new = Clean g new.journal → HasMoreEvents (written g old.journal) (written g new.journal)
+
+-- a crash leaves what it could have left before, or all that was written then, and nothing else
+abbrev pub LeavesWritten : {S : Type 0} (g : Ghosts S) → Durable S → Durable S → Type 0
+LeavesWritten g old new = (db : Trees) → may_leave g new.journal db → IsAsWritten g old.journal db ⊎ may_leave g old.journal db

@@ -1,5 +1,5 @@
 -- What a client got.
-use Rattle.std.specs.Prelude.{◌≡◌, ℕ, Bool, true, false, List, [], ◌++◌, Option, None}
+use Rattle.std.specs.Prelude.{◌≡◌, ℕ, Bool, true, false, List, [], ◌++◌, drop, Option, None, option_map}
 use Rattle.std.specs.Io.KnownBytes.{Appends, Consumes, IsAtEnd}
 use Rattle.sqlite_trees.specs.declared.store.Store.{Ghosts}
 use Rattle.store_laws.specs.Stored.{Stored}
@@ -9,6 +9,7 @@ use Rattle.request_text.specs.declared.request.Asked.{Asked}
 use Rattle.serving.specs.declared.answer_line.Answered.{Answered}
 use Rattle.serving.specs.declared.session.Session.{Session}
 use Rattle.serving.specs.declared.server.Server.{Server}
+use Rattle.serving.specs.Lines.{AreLines}
 use Rattle.serving.specs.Served.{Serves}
 use Rattle.serving.specs.Server.{HasServed, life_of}
 use Rattle.serving.specs.Told.{AppendsPart, answers_text}
@@ -30,14 +31,28 @@ abbrev pub IsMore : {S : Type 0} → Bool → Server S → Option (List ℕ) →
 IsMore true now given_now = now.end ≡ None
 IsMore false now given_now = now.end ≡ None → IsAtEnd given_now
 
--- a server stopped: its client got a beginning of the answers to some lines
-pub record StopsTelling {S : Type 0} (g : Ghosts S) (began : Session S) (taken : Option (List ℕ)) (now : Durable S) (taken_now : Option (List ℕ)) : Type 0 where
+-- of the input that was given these are the first lines; after them the beginning of another was read, or more
+pub record AreFirstLines (given : Option (List ℕ)) (lines : List (List ℕ)) : Type 0 where
+  pub seen : List ℕ
+  pub half : List ℕ
+  pub rest : List ℕ
+  pub left : Option (List ℕ)
+  pub consumed : Consumes given left (seen ++ rest)
+  pub asked : AreLines seen lines half
+
+-- a known rest of the input, without its first bytes
+abbrev pub known_from : ℕ → Option (List ℕ) → Option (List ℕ)
+known_from n known = option_map (drop n) known
+
+-- a server stopped: its client got a beginning of the answers to the first lines of its input
+pub record StopsTelling {S : Type 0} (g : Ghosts S) (began : Session S) (given taken : Option (List ℕ)) (now : Durable S) (taken_now : Option (List ℕ)) : Type 0 where
   pub lines : List (List ℕ)
+  pub read : AreFirstLines given lines
   pub answers : List Answered
   pub life : ℕ
   pub reached : Stored
   pub ended : Option Asked
-  pub serves : Clean g now.journal → Serves began.most_events (written g began.store.journal) began.life lines began.store.store answers life reached ended
+  pub serves : Serves (Clean g now.journal) began.most_events (written g began.store.journal) began.life lines began.store.store answers life reached ended
   pub part : AppendsPart taken taken_now (answers_text answers)
 
 -- a server that was asked nothing yet

@@ -11,5 +11,6 @@ pub mod Server
 pub mod Group
 pub mod EpochEnd
 pub mod Whole
+pub mod Left
 pub mod Acknowledged
 pub mod CommitsFound

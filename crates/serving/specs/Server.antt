@@ -47,15 +47,13 @@ pub record HasServed {S : Type 0} (g : Ghosts S) (began : Session S) (told : Lis
   pub asked : AreLines bytes lines half
   pub kept : now.line.items ≡ take most_kept half
   pub lasts : Lasts g began now.session
-  pub serves : Clean g now.session.store.journal
-      → Serves began.most_events (written g began.store.journal) began.life lines began.store.store (told ++ now.answers.items) now.session.life now.session.store.store now.end
+  pub serves : Serves (Clean g now.session.store.journal) began.most_events (written g began.store.journal) began.life lines began.store.store (told ++ now.answers.items) now.session.life now.session.store.store now.end
 
 -- a line is answered
 pub record AnswersLine {S : Type 0} (g : Ghosts S) (old new : Server S) : Type 0 where
   pub a : Answered
   pub stays_in_epoch : StaysInEpoch g old.session new.session
-  pub answered : Clean g new.session.store.journal
-      → IsAnswered old.session.most_events old.session.life (written g old.session.store.journal) old.line.items old.session.store.store a new.session.store.store
+  pub answered : IsAnswered (Clean g new.session.store.journal) old.session.most_events old.session.life (written g old.session.store.journal) old.line.items old.session.store.store a new.session.store.store
   pub told : new.answers.items ≡ old.answers.items ++ a ∷ []
   pub others : new ≡ record old { session = new.session; line = new.line; answers = new.answers }
 

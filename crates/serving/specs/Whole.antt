@@ -12,7 +12,7 @@ use Rattle.serving.specs.declared.session.Session.{Session}
 use Rattle.serving.specs.declared.server.Server.{Server}
 use Rattle.serving.specs.EpochEnd.{EndsEpoch, end_answers}
 use Rattle.serving.specs.Epochs.{aborted}
-use Rattle.serving.specs.Group.{HasTold}
+use Rattle.serving.specs.Group.{AreFirstLines, HasTold}
 use Rattle.serving.specs.Served.{Serves}
 use Rattle.serving.specs.Server.{life_of}
 use Rattle.serving.specs.Told.{AppendsPart, answers_text, greeting}
@@ -34,14 +34,15 @@ pub record ServesClient {S : Type 0} (g : Ghosts S) (most : ℕ) (began : Durabl
   pub clean : Clean g now.journal → Clean g served.session.store.journal
   pub ends : Appends answered taken_now (answers_text (end_answers served.end))
 
--- serving stopped: its client got a beginning of the greeting and of the answers to some lines; or the file had begun anew, and it got
--- all of these and a beginning of what is answered at the end
-pub record StopsServing {S : Type 0} (g : Ghosts S) (most : ℕ) (began : Durable S) (taken : Option (List ℕ)) (now : Durable S) (taken_now : Option (List ℕ)) : Type 0 where
+-- serving stopped: its client got a beginning of the greeting and of the answers to the first lines of its input; or the file had begun anew,
+-- and it got all of these and a beginning of what is answered at the end
+pub record StopsServing {S : Type 0} (g : Ghosts S) (most : ℕ) (began : Durable S) (given taken : Option (List ℕ)) (now : Durable S) (taken_now : Option (List ℕ)) : Type 0 where
   pub lines : List (List ℕ)
+  pub read : AreFirstLines given lines
   pub answers : List Answered
   pub life : ℕ
   pub reached : Stored
   pub ended : Option Asked
-  pub serves : Clean g now.journal → Serves most (written g began.journal) (life_of began) lines began.store answers life reached ended
+  pub serves : Serves (Clean g now.journal) most (written g began.journal) (life_of began) lines began.store answers life reached ended
   pub told : AppendsPart taken taken_now (greeting (life_of began) ++ answers_text answers)
       ⊎ (Renews (aborted reached) now.store × AppendsPart taken taken_now ((greeting (life_of began) ++ answers_text answers) ++ answers_text (end_answers ended)))

@@ -3,6 +3,7 @@
 ghost use Rattle.std.specs.Prelude.{◌≡◌, false, List, Option, None, OnErr, OnOk};
 ghost use Rattle.serving.specs.Archives.{KeepsText, KeptHistory, MayKeepText};
 
+use journal::Header;
 use std::alloc::AllocError;
 use thiserror::Error;
 
@@ -12,7 +13,7 @@ pub enum ArchiveFault {
     /// It couldn't be written, or not be made durable.
     #[error("the archive failed")]
     Device,
-    /// A history of this life is there already.
+    /// A history of this store and this life is there already.
     #[error("the archive has a history of this life")]
     Taken,
     /// Memory was refused.
@@ -37,15 +38,15 @@ pub trait Archive {
     fn wants(&self) -> bool
         ensures { result ≡ false → kept self.now ≡ None };
 
-    /// Keeps the text of a history, under the number of the life in which its epoch ended: at `Ok` no crash takes it
-    /// away. No life comes twice.
+    /// Keeps the text of a history, under the id of its store and the life in which its epoch ended, which its file says: at
+    /// `Ok` no crash takes it away. No life of a store comes twice.
     ///
     /// # Errors
     ///
     /// What stopped it. The whole text is kept, or nothing of it.
-    fn keep(&mut self, life: u32, text: &[u8]) -> Result<(), ArchiveFault>
-        ensures kept { OnOk result (KeepsText (kept self.old) (kept self.new) life text.now) }
-        ensures part { OnErr result (MayKeepText (kept self.old) (kept self.new) life text.now) };
+    fn keep(&mut self, header: &Header, text: &[u8]) -> Result<(), ArchiveFault>
+        ensures kept { OnOk result (KeepsText (kept self.old) (kept self.new) header.now text.now) }
+        ensures part { OnErr result (MayKeepText (kept self.old) (kept self.new) header.now text.now) };
 }
 
 /// No archive: the histories of epochs that are over are let go.
@@ -59,7 +60,7 @@ impl Archive for NoArchive {
         false
     }
 
-    fn keep(&mut self, _life: u32, _text: &[u8]) -> Result<(), ArchiveFault> {
+    fn keep(&mut self, _header: &Header, _text: &[u8]) -> Result<(), ArchiveFault> {
         Ok(())
     }
 }

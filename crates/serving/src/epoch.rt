@@ -6,9 +6,10 @@ ghost use Rattle.store.specs.Renews.{Renews};
 ghost use Rattle.journal.specs.Journal.{Clean, ShowsCommit, durable, written};
 ghost use Rattle.durable_store.specs.Durable.{IsDurable, with_all, OutcomesStay, events_of_kinds};
 ghost use Rattle.durable_store.specs.Epochs.{LeavesEpoch, renewed};
-ghost use Rattle.serving.specs.EpochEnd.{EndsEpoch};
+ghost use Rattle.serving.specs.EpochEnd.{EndsEpoch, LeavesClosed, LeavesEnd};
 ghost use Rattle.serving.specs.Archives.{KeepsEpochs, text_of_epoch};
 ghost use Rattle.serving.specs.Epochs.{LeavesEpochs, WritesEpochs, aborted};
+ghost use Rattle.serving.specs.Follows.{LeavesWritten};
 ghost use Rattle.serving.specs.Requests.{LetsGo};
 ghost use Rattle.history_text.specs.Canonical.{canonical_text};
 
@@ -39,6 +40,7 @@ pub(crate) fn end_epoch<S: Alter, A: Archive>(
     ensures writes { OnOk result.1 (WritesEpochs S.Store store result.0 (A.kept archive.old) (A.kept archive.new)) }
     ensures shows { OnOk result.1 (ShowsCommit S.Store result.0.journal) }
     ensures clean { Clean S.Store result.0.journal → Clean S.Store store.journal }
+    ensures left { LeavesEnd S.Store store result.0 }
     ensures crash { LeavesEpochs S.Store store result.0 (A.kept archive.old) (A.kept archive.new) }
 {
     match close_epoch(alloc, &mut store, archive) {
@@ -65,6 +67,7 @@ fn close_epoch<S: Alter, A: Archive>(
     ensures written { OnOk result (Clean S.Store store.new.journal
         → written S.Store store.new.journal ≡ with_all (written S.Store store.old.journal) (closing store.old.store.history)) }
     ensures clean { Clean S.Store store.new.journal → Clean S.Store store.old.journal }
+    ensures left { LeavesClosed S.Store store.old store.new }
     ensures crash { LeavesEpochs S.Store store.old store.new (A.kept archive.old) (A.kept archive.new) }
 {
     store.abort_all()?;
@@ -88,6 +91,7 @@ pub(crate) fn archive_epoch<S: Alter, A: Archive>(
     ensures life { OnOk result (store.new.journal.header ≡ store.old.journal.header) }
     ensures written { OnOk result (Clean S.Store store.new.journal → written S.Store store.new.journal ≡ written S.Store store.old.journal) }
     ensures clean { Clean S.Store store.new.journal → Clean S.Store store.old.journal }
+    ensures left { LeavesWritten S.Store store.old store.new }
     ensures crash { LeavesEpochs S.Store store.old store.new (A.kept archive.old) (A.kept archive.new) }
 {
     if archive.wants() {
@@ -114,11 +118,12 @@ fn keep_epoch<S: Alter, A: Archive>(
     ensures life { OnOk result (store.new.journal.header ≡ store.old.journal.header) }
     ensures written { OnOk result (Clean S.Store store.new.journal → written S.Store store.new.journal ≡ written S.Store store.old.journal) }
     ensures clean { Clean S.Store store.new.journal → Clean S.Store store.old.journal }
+    ensures left { LeavesWritten S.Store store.old store.new }
     ensures crash { LeavesEpochs S.Store store.old store.new (A.kept archive.old) (A.kept archive.new) }
 {
     store.settle()?;
     let text = epoch_text(alloc, store)?;
-    archive.keep(store.life(), &text)?;
+    archive.keep(store.header(), &text)?;
     Ok(())
 }
 

@@ -1,18 +1,20 @@
 //! A law: a function that does nothing, whose contract is the law.
 
-ghost use Rattle.std.specs.Prelude.{List, ℕ};
+ghost use Rattle.std.specs.Prelude.{List, ℕ, ◌++◌, Option};
 ghost use Rattle.durable_store.specs.declared.durable.Durable.{Durable};
 ghost use Rattle.serving.specs.declared.answer_line.Answered.{Answered};
-ghost use Rattle.serving.specs.declared.session.Session.{Session};
-ghost use Rattle.serving.specs.Acknowledged.{Survives};
+ghost use Rattle.request_text.specs.declared.request.Asked.{Asked};
+ghost use Rattle.serving.specs.Acknowledged.{AreLast};
 ghost use Rattle.serving.specs.CommitsFound.{CommitsAreFound};
+ghost use Rattle.serving.specs.Left.{Began, Survives};
+ghost use Rattle.serving.specs.Lines.{AreLines};
 
 use sqlite_trees::store::Alter;
 
-/// Where answers to commits survive a crash, whatever file it leaves has each of these commits: it is one of the
+/// Where a crash leaves what was asked for, whatever file it leaves has each commit that was answered: it is one of the
 /// events while the file is in the transaction's life, and a file of a later life began at states that a store with the
 /// commit had kept.
 pub fn told_commits_are_found<S: Alter>()
-    ensures { (began : Session S) (lines : List (List ℕ)) (answers : List Answered) (now : Durable S) → Survives S.Store began lines answers now
-        → CommitsAreFound S.Store lines answers now }
+    ensures { (b : Began) (all : List (List ℕ)) (ended : Option Asked) (given_now : Option (List ℕ)) (seen rest half : List ℕ) (lines : List (List ℕ)) (answers : List Answered) (now : Durable S)
+        → AreLines seen lines half → Survives S.Store b (AreLast all ended given_now) (seen ++ rest) answers now → CommitsAreFound S.Store b (AreLast all ended given_now) lines answers now }
 {}

@@ -1,19 +1,23 @@
 //! A client is served, group by group: its lines are done, what they wrote becomes durable, and then it gets the answers.
 
-ghost use Rattle.std.specs.Prelude.{◌≡◌, None, OnOk, List, ℕ, true, IsSome, ◌<◌, length, MatchResult, OnErr, [], Option, IfOk, IsTrue, false};
+ghost use Rattle.std.specs.Prelude.{◌≡◌, ◌≤◌, ◌+◌, None, OnOk, List, ℕ, true, IsSome, ◌<◌, length, MatchResult, OnErr, [], ◌++◌, Option, IfOk, IsTrue, false};
 ghost use Rattle.journal.specs.Journal.{Clean, ShowsCommit, durable, written};
 ghost use Rattle.durable_store.specs.Durable.{IsDurable};
 ghost use Rattle.serving.specs.declared.answer_line.Answered.{Answered as Told};
 ghost use Rattle.serving.specs.declared.session.Session.{Session as Began};
-ghost use Rattle.serving.specs.Follows.{LeavesMore};
+ghost use Rattle.serving.specs.Follows.{LeavesMore, LeavesWritten};
 ghost use Rattle.serving.specs.Lines.{is_end};
 ghost use Rattle.serving.specs.Server.{DoesLine, StaysInEpoch, HasServed, ServesBytes, TakesByte};
-ghost use Rattle.std.specs.Io.KnownBytes.{IsAtEnd};
+ghost use Rattle.std.specs.Io.KnownBytes.{Consumes, IsAtEnd};
 ghost use Rattle.outputs.specs.Gathered.{taken_by, under};
-ghost use Rattle.serving.specs.Acknowledged.{StopsSafely, TellsSafely};
+ghost use Rattle.serving.specs.Acknowledged.{NoneLast, StopsSafely, TellsSafely};
+ghost use Rattle.serving.specs.Left.{LeavesLines, Survives, began_at};
 ghost use Rattle.serving.specs.Epochs.{LeavesEpochs, WritesEpochs};
-ghost use Rattle.serving.specs.Group.{HasTold, IsUnasked, StopsTelling, IsMore};
+ghost use Rattle.serving.specs.Group.{HasTold, IsUnasked, StopsTelling, IsMore, known_from};
+ghost use Rattle.serial_order.specs.History.{summary};
+ghost use Rattle.serial_order.specs.Replay.{open_count};
 ghost use Rattle.serving.specs.Does.{is_epoch_full};
+ghost use Rattle.serving.specs.EpochEnd.{EndsEpoch};
 ghost use Rattle.serving.specs.Requests.{LetsGo};
 ghost use Rattle.serving.specs.Told.{has_commit, is_commit};
 
@@ -122,10 +126,10 @@ impl<S: Alter> Server<S> {
         requires out_takes { W.fault (under client.old.out) ≡ None }
         ensures told { OnOk result.1 (HasTold S.Store self.session (R.remaining input.old) (taken_by W.taken client.old.out) result.0 (R.remaining input.new) (taken_by W.taken client.new.out)) }
         ensures ended { OnOk result.1 (result.0.end ≡ None → IsAtEnd (R.remaining input.new)) }
-        ensures stops { OnErr result.1 (StopsTelling S.Store self.session (taken_by W.taken client.old.out) result.0.session.store (taken_by W.taken client.new.out)) }
+        ensures stops { OnErr result.1 (StopsTelling S.Store self.session (R.remaining input.old) (taken_by W.taken client.old.out) result.0.session.store (taken_by W.taken client.new.out)) }
         ensures acknowledged { MatchResult result.1
             (λ done. TellsSafely S.Store self.session (R.remaining input.old) (taken_by W.taken client.old.out) result.0 (R.remaining input.new) (taken_by W.taken client.new.out))
-            (λ fault. StopsSafely S.Store self.session (taken_by W.taken client.old.out) result.0.session.store (taken_by W.taken client.new.out)) }
+            (λ fault. StopsSafely S.Store self.session (R.remaining input.old) (taken_by W.taken client.old.out) result.0.session.store (taken_by W.taken client.new.out)) }
         ensures out_takes { OnOk result.1 (W.fault (under client.new.out) ≡ None) }
         ensures archives { OnOk result.1 (WritesEpochs S.Store self.session.store result.0.session.store (A.kept archive.old) (A.kept archive.new)) }
         ensures clean { Clean S.Store result.0.session.store.journal → Clean S.Store self.session.store.journal }
@@ -169,7 +173,7 @@ impl<S: Alter> Server<S> {
         ensures serves { OnOk result.1 ((began : Began S) (given taken : Option (List ℕ)) → TellsSafely S.Store began given taken self (R.remaining input.old) (taken_by W.taken client.old.out)
             → TellsSafely S.Store began given taken result.0 (R.remaining input.new) (taken_by W.taken client.new.out)) }
         ensures stops { OnErr result.1 ((began : Began S) (given taken : Option (List ℕ)) → TellsSafely S.Store began given taken self (R.remaining input.old) (taken_by W.taken client.old.out)
-            → StopsSafely S.Store began taken result.0.session.store (taken_by W.taken client.new.out)) }
+            → StopsSafely S.Store began given taken result.0.session.store (taken_by W.taken client.new.out)) }
         ensures more { IfOk result.1 (λ more. IsMore more result.0 (R.remaining input.new)) }
         ensures told { OnOk result.1 (result.0.answers.items ≡ []) }
         ensures sound { OnOk result.1 (IsDurable S.Store result.0.session.store) }
@@ -185,14 +189,12 @@ impl<S: Alter> Server<S> {
         }
     }
 
-    /// Takes what is there of the input, at most as many bytes as the buffer has, and does its whole lines. Where a
-    /// commit is among them all that was written becomes durable. Then the client gets the answers, in their order.
+    /// Takes what is there of the input, at most as many bytes as the buffer has, and does its whole lines, part by part.
     /// Whether more may come.
     ///
     /// # Errors
     ///
-    /// The file, the input or the output failed, or memory was refused: the server isn't to be used any more. Where it
-    /// wasn't the output, the client got nothing.
+    /// The file, the input or the output failed, or memory was refused: the server isn't to be used any more.
     pub(crate) fn serve_group<R: Read, W: Out>(
         &mut self,
         alloc: Global,
@@ -208,7 +210,7 @@ impl<S: Alter> Server<S> {
         ensures serves { OnOk result ((began : Began S) (given taken : Option (List ℕ)) → TellsSafely S.Store began given taken self.old (R.remaining input.old) (taken_by W.taken client.old.out)
             → TellsSafely S.Store began given taken self.new (R.remaining input.new) (taken_by W.taken client.new.out)) }
         ensures stops { OnErr result ((began : Began S) (given taken : Option (List ℕ)) → TellsSafely S.Store began given taken self.old (R.remaining input.old) (taken_by W.taken client.old.out)
-            → StopsSafely S.Store began taken self.new.session.store (taken_by W.taken client.new.out)) }
+            → StopsSafely S.Store began given taken self.new.session.store (taken_by W.taken client.new.out)) }
         ensures more { IfOk result (λ more. IsMore more self.new (R.remaining input.new)) }
         ensures told { OnOk result (self.new.answers.items ≡ []) }
         ensures stays_in_epoch { OnOk result (StaysInEpoch S.Store self.old.session self.new.session) }
@@ -220,11 +222,117 @@ impl<S: Alter> Server<S> {
             Ok(count) => count,
             Err(_) => return Err(ServeFault::Input),
         };
-        self.take_bytes(alloc, &buffer[..count])?;
+        self.serve_parts(alloc, &buffer[..count], client)?;
+        Ok(count > 0 && self.end.is_none())
+    }
+
+    /// Serves these bytes of the input, part by part, up to the part with a line that asks for the end: what is answered
+    /// in one part is in memory together.
+    ///
+    /// # Errors
+    ///
+    /// As `serve_group`.
+    fn serve_parts<W: Out>(
+        &mut self,
+        alloc: Global,
+        bytes: &[u8],
+        client: &mut Client<W>,
+    ) -> Result<(), ServeFault>
+        requires sound { IsDurable S.Store self.old.session.store }
+        requires asked { self.old.end ≡ None }
+        requires told { self.old.answers.items ≡ [] }
+        requires out_takes { W.fault (under client.old.out) ≡ None }
+        ensures serves { OnOk result ((began : Began S) (given taken given_now given_new : Option (List ℕ)) → Consumes given_now given_new bytes.now
+            → TellsSafely S.Store began given taken self.old given_now (taken_by W.taken client.old.out) → TellsSafely S.Store began given taken self.new given_new (taken_by W.taken client.new.out)) }
+        ensures stops { OnErr result ((began : Began S) (given taken given_now given_new : Option (List ℕ)) → Consumes given_now given_new bytes.now
+            → TellsSafely S.Store began given taken self.old given_now (taken_by W.taken client.old.out) → StopsSafely S.Store began given taken self.new.session.store (taken_by W.taken client.new.out)) }
+        ensures told { OnOk result (self.new.answers.items ≡ []) }
+        ensures stays_in_epoch { OnOk result (StaysInEpoch S.Store self.old.session self.new.session) }
+        ensures out_takes { OnOk result (W.fault (under client.new.out) ≡ None) }
+        ensures clean { Clean S.Store self.new.session.store.journal → Clean S.Store self.old.session.store.journal }
+        ensures crash { LeavesMore S.Store self.old.session.store self.new.session.store }
+    {
+        let mut start = 0;
+        for at in 0..bytes.len() {
+            start = self.serve_ended(alloc, bytes, start, at, client)?;
+            let asked_end = self.end.is_some();
+            if asked_end {
+                return Ok(());
+            }
+        }
+        self.serve_part(alloc, &bytes[start..], client)
+    }
+
+    /// Serves the part that ends with the byte at `at`, where one does, of the bytes from `start` on. Where the next one
+    /// begins.
+    ///
+    /// # Errors
+    ///
+    /// As `serve_group`.
+    fn serve_ended<W: Out>(
+        &mut self,
+        alloc: Global,
+        bytes: &[u8],
+        start: usize,
+        at: usize,
+        client: &mut Client<W>,
+    ) -> Result<usize, ServeFault>
+        requires sound { IsDurable S.Store self.old.session.store }
+        requires asked { self.old.end ≡ None }
+        requires told { self.old.answers.items ≡ [] }
+        requires out_takes { W.fault (under client.old.out) ≡ None }
+        requires start { start ≤ at }
+        requires inside { at < length bytes.now }
+        ensures serves { IfOk result (λ next. (began : Began S) (given taken given_now given_new : Option (List ℕ)) → Consumes given_now given_new bytes.now
+            → TellsSafely S.Store began given taken self.old (known_from start given_now) (taken_by W.taken client.old.out)
+            → TellsSafely S.Store began given taken self.new (known_from next given_now) (taken_by W.taken client.new.out)) }
+        ensures next { IfOk result (λ next. next ≤ at + 1) }
+        ensures stops { OnErr result ((began : Began S) (given taken given_now given_new : Option (List ℕ)) → Consumes given_now given_new bytes.now
+            → TellsSafely S.Store began given taken self.old (known_from start given_now) (taken_by W.taken client.old.out) → StopsSafely S.Store began given taken self.new.session.store (taken_by W.taken client.new.out)) }
+        ensures told { OnOk result (self.new.answers.items ≡ []) }
+        ensures stays_in_epoch { OnOk result (StaysInEpoch S.Store self.old.session self.new.session) }
+        ensures out_takes { OnOk result (W.fault (under client.new.out) ≡ None) }
+        ensures clean { Clean S.Store self.new.session.store.journal → Clean S.Store self.old.session.store.journal }
+        ensures crash { LeavesMore S.Store self.old.session.store self.new.session.store }
+    {
+        if !ends_part(bytes, start, at) {
+            return Ok(start);
+        }
+        self.serve_part(alloc, &bytes[start..at + 1], client)?;
+        Ok(at + 1)
+    }
+
+    /// Does the whole lines of a part. Where a commit is among them all that was written becomes durable. Then the client
+    /// gets the answers, in their order.
+    ///
+    /// # Errors
+    ///
+    /// As `serve_group`. Where it wasn't the output, the client got nothing.
+    fn serve_part<W: Out>(
+        &mut self,
+        alloc: Global,
+        bytes: &[u8],
+        client: &mut Client<W>,
+    ) -> Result<(), ServeFault>
+        requires sound { IsDurable S.Store self.old.session.store }
+        requires asked { self.old.end ≡ None }
+        requires told { self.old.answers.items ≡ [] }
+        requires out_takes { W.fault (under client.old.out) ≡ None }
+        ensures serves { OnOk result ((began : Began S) (given taken given_now given_new : Option (List ℕ)) → Consumes given_now given_new bytes.now
+            → TellsSafely S.Store began given taken self.old given_now (taken_by W.taken client.old.out) → TellsSafely S.Store began given taken self.new given_new (taken_by W.taken client.new.out)) }
+        ensures stops { OnErr result ((began : Began S) (given taken given_now given_new : Option (List ℕ)) → Consumes given_now given_new bytes.now
+            → TellsSafely S.Store began given taken self.old given_now (taken_by W.taken client.old.out) → StopsSafely S.Store began given taken self.new.session.store (taken_by W.taken client.new.out)) }
+        ensures told { OnOk result (self.new.answers.items ≡ []) }
+        ensures stays_in_epoch { OnOk result (StaysInEpoch S.Store self.old.session self.new.session) }
+        ensures out_takes { OnOk result (W.fault (under client.new.out) ≡ None) }
+        ensures clean { Clean S.Store self.new.session.store.journal → Clean S.Store self.old.session.store.journal }
+        ensures crash { LeavesMore S.Store self.old.session.store self.new.session.store }
+    {
+        self.take_bytes(alloc, bytes)?;
         self.settle_commits()?;
         client.tell(&self.session.store, &self.answers)?;
         self.answers.clear();
-        Ok(count > 0 && self.end.is_none())
+        Ok(())
     }
 
     /// Does the lines that these bytes end, one after another, up to one that asks for the end.
@@ -239,6 +347,11 @@ impl<S: Alter> Server<S> {
             → ServesBytes S.Store began told seen bytes.now self.new) }
         ensures stays_in_epoch { OnOk result (StaysInEpoch S.Store self.old.session self.new.session) }
         ensures clean { Clean S.Store self.new.session.store.journal → Clean S.Store self.old.session.store.journal }
+        ensures left { OnOk result ((began : Began S) (told : List Told) (seen : List ℕ) → HasServed S.Store began told seen self.old
+            → LeavesLines S.Store (began_at S.Store began) NoneLast seen told self.old.answers.items self.old.session.store
+            → LeavesLines S.Store (began_at S.Store began) NoneLast (seen ++ bytes.now) told self.new.answers.items self.new.session.store) }
+        ensures failed { OnErr result ((began : Began S) (told : List Told) (seen : List ℕ) → HasServed S.Store began told seen self.old
+            → LeavesLines S.Store (began_at S.Store began) NoneLast seen told self.old.answers.items self.old.session.store → Survives S.Store (began_at S.Store began) NoneLast (seen ++ bytes.now) told self.new.session.store) }
         ensures crash { LeavesMore S.Store self.old.session.store self.new.session.store }
     {
         for b in bytes {
@@ -259,7 +372,7 @@ impl<S: Alter> Server<S> {
         requires { IsDurable S.Store self.old.session.store }
         ensures takes { OnOk result (TakesByte S.Store self.old b self.new) }
         ensures clean { Clean S.Store self.new.session.store.journal → Clean S.Store self.old.session.store.journal }
-        ensures crash { LeavesMore S.Store self.old.session.store self.new.session.store }
+        ensures crash { LeavesWritten S.Store self.old.session.store self.new.session.store }
     {
         if b == b'\n' {
             return self.do_line(alloc);
@@ -279,7 +392,7 @@ impl<S: Alter> Server<S> {
         requires { IsDurable S.Store self.old.session.store }
         ensures does { OnOk result (DoesLine S.Store self.old self.new) }
         ensures clean { Clean S.Store self.new.session.store.journal → Clean S.Store self.old.session.store.journal }
-        ensures crash { LeavesMore S.Store self.old.session.store self.new.session.store }
+        ensures crash { LeavesWritten S.Store self.old.session.store self.new.session.store }
     {
         let asked = read_line(alloc, &self.line)?;
         self.line.clear();
@@ -310,7 +423,7 @@ impl<S: Alter> Server<S> {
         ensures shows { OnOk result (has_commit self.old.answers.items ≡ true → ShowsCommit S.Store self.new.session.store.journal) }
         ensures same { OnOk result (Clean S.Store self.new.session.store.journal → written S.Store self.new.session.store.journal ≡ written S.Store self.old.session.store.journal) }
         ensures clean { Clean S.Store self.new.session.store.journal → Clean S.Store self.old.session.store.journal }
-        ensures crash { LeavesMore S.Store self.old.session.store self.new.session.store }
+        ensures crash { LeavesWritten S.Store self.old.session.store self.new.session.store }
     {
         if has_commit(&self.answers) {
             self.session.settle()?;
@@ -334,6 +447,9 @@ impl<S: Alter> Server<S> {
         requires asked { self.end ≡ None }
         ensures serves { OnOk result.1 ((began : Began S) (given taken given_now taken_now : Option (List ℕ)) → TellsSafely S.Store began given taken self given_now taken_now
             → TellsSafely S.Store began given taken result.0 given_now taken_now) }
+        ensures stops { OnErr result.1 ((began : Began S) (given taken given_now taken_now : Option (List ℕ)) → TellsSafely S.Store began given taken self given_now taken_now
+            → StopsSafely S.Store began given taken result.0.session.store taken_now) }
+        ensures ends { OnOk result.1 (is_epoch_full self.session.most_events self.session.store.store ≡ true → open_count (summary self.session.store.store.history) ≡ 0 → EndsEpoch S.Store self.session.store result.0.session.store) }
         ensures more { IfOk result.1 (λ more. more ≡ true) }
         ensures asked { result.0.end ≡ None }
         ensures told { result.0.answers ≡ self.answers }
@@ -370,6 +486,7 @@ impl<S: Alter> Server<S> {
     /// Whether the epoch is over: it is full, and nothing is open or the open ones had their time.
     fn is_over<C: Clock>(&mut self, clock: &C, drain: Duration) -> bool
         ensures full { result ≡ true → is_epoch_full self.old.session.most_events self.old.session.store.store ≡ true }
+        ensures over { is_epoch_full self.old.session.most_events self.old.session.store.store ≡ true → open_count (summary self.old.session.store.store.history) ≡ 0 → result ≡ true }
         ensures others { self.new ≡ record self.old { full_since = self.new.full_since } }
     {
         let store = self.session.store.store();
@@ -386,6 +503,31 @@ impl<S: Alter> Server<S> {
             }
             Some(since) => has_passed(clock, since, drain),
         }
+    }
+}
+
+/// Whether a part of these bytes, which begins at `start`, ends with the byte at `at`: that is the LF of a line that asks
+/// for an answer of many lines.
+fn ends_part(bytes: &[u8], start: usize, at: usize) -> bool
+    requires start { start ≤ at }
+    requires inside { at < length bytes.now }
+{
+    bytes[at] == b'\n' && asks_much(last_line(&bytes[start..at]))
+}
+
+/// What follows the last LF of these bytes.
+fn last_line(bytes: &[u8]) -> &[u8] {
+    match bytes.iter().rposition(|b| *b == b'\n') {
+        Some(at) => &bytes[at + 1..],
+        None => bytes,
+    }
+}
+
+/// Whether a line may ask for an answer of many lines, `events` or `types`.
+fn asks_much(line: &[u8]) -> bool {
+    match line.iter().position(|b| *b == b' ') {
+        Some(at) => line[at + 1..].starts_with(b"events") || line[at + 1..].starts_with(b"types"),
+        None => false,
     }
 }
 

@@ -5,7 +5,7 @@ ghost use Rattle.outputs.specs.Gathered.{taken_by, under};
 ghost use Rattle.journal.specs.Journal.{Clean, ShowsCommit};
 ghost use Rattle.durable_store.specs.Durable.{IsDurable};
 ghost use Rattle.serving.specs.Acknowledged.{ServesSafely, StopsServingSafely};
-ghost use Rattle.serving.specs.EpochEnd.{EndsEpoch, end_answers};
+ghost use Rattle.serving.specs.EpochEnd.{EndsEpoch, LeavesEnd, end_answers};
 ghost use Rattle.serving.specs.Epochs.{LeavesEpochs, WritesEpochs};
 ghost use Rattle.serving.specs.Told.{AppendsPart, answers_text};
 ghost use Rattle.std.specs.Io.KnownBytes.{Appends};
@@ -50,10 +50,10 @@ pub fn serve<C: Clock, S: Alter, A: Archive, R: Read, W: Out>(
     requires room { 0 < length buffer.old }
     requires out_takes { W.fault (under client.old.out) ≡ None }
     ensures told { OnOk result.1 (ServesClient S.Store limits.most_events store (R.remaining input.old) (taken_by W.taken client.old.out) result.0 (R.remaining input.new) (taken_by W.taken client.new.out)) }
-    ensures stops { OnErr result.1 (StopsServing S.Store limits.most_events store (taken_by W.taken client.old.out) result.0 (taken_by W.taken client.new.out)) }
+    ensures stops { OnErr result.1 (StopsServing S.Store limits.most_events store (R.remaining input.old) (taken_by W.taken client.old.out) result.0 (taken_by W.taken client.new.out)) }
     ensures acknowledged { MatchResult result.1
         (λ done. ServesSafely S.Store limits.most_events store (R.remaining input.old) (taken_by W.taken client.old.out) result.0 (R.remaining input.new) (taken_by W.taken client.new.out))
-        (λ fault. StopsServingSafely S.Store limits.most_events store (taken_by W.taken client.old.out) result.0 (taken_by W.taken client.new.out)) }
+        (λ fault. StopsServingSafely S.Store limits.most_events store (R.remaining input.old) (taken_by W.taken client.old.out) result.0 (R.remaining input.new) (taken_by W.taken client.new.out)) }
     ensures archives { OnOk result.1 (WritesEpochs S.Store store result.0 (A.kept archive.old) (A.kept archive.new)) }
     ensures shows { OnOk result.1 (ShowsCommit S.Store result.0.journal) }
     ensures sound { OnOk result.1 (IsDurable S.Store result.0) }
@@ -95,6 +95,7 @@ fn end_serving<S: Alter, A: Archive, W: Out>(
     ensures shows { OnOk result.1 (ShowsCommit S.Store result.0.journal) }
     ensures sound { OnOk result.1 (IsDurable S.Store result.0) }
     ensures clean { Clean S.Store result.0.journal → Clean S.Store store.journal }
+    ensures left { LeavesEnd S.Store store result.0 }
     ensures crash { LeavesEpochs S.Store store result.0 (A.kept archive.old) (A.kept archive.new) }
 {
     let (store, ended) = end_epoch(alloc, store, archive);

@@ -3,11 +3,11 @@
 ghost use Rattle.std.specs.Prelude.{◌≡◌, IfOk, OnOk, MatchResult, ◌<◌, None, Option};
 ghost use Rattle.journal.specs.Journal.{Clean, written, ShowsCommit, durable};
 ghost use Rattle.durable_store.specs.Durable.{IsDurable};
-ghost use Rattle.serving.specs.Follows.{LeavesMore};
+ghost use Rattle.serving.specs.Follows.{LeavesWritten};
 ghost use Rattle.serving.specs.Requests.{LetsGo, TellsEvents, TellsObjects, TellsTypes, events_from, DoesRequest};
 ghost use Rattle.serving.specs.Server.{StaysInEpoch, life_of};
 ghost use Rattle.serving.specs.Does.{DoesAbort, DoesBegin, DoesCall, DoesCommit, DoesRollback, done_or, is_epoch_full, DoesKept, DoesStats, DoesWould, call_answer, op_of_object, reply_of};
-ghost use Rattle.serving.specs.EpochEnd.{EndsEpoch};
+ghost use Rattle.serving.specs.EpochEnd.{EndsEpoch, LeavesEnd};
 ghost use Rattle.serving.specs.Epochs.{LeavesEpochs, WritesEpochs};
 
 use crate::answer_line::AnswerLine;
@@ -48,12 +48,11 @@ impl<S: Alter> Session<S> {
         asked: Result<Request, RequestFault>,
     ) -> Result<AnswerLine, JournalError>
         requires { IsDurable S.Store self.old.store }
-        ensures does { IfOk result (λ a. Clean S.Store self.new.store.journal
-            → MatchResult asked (λ request. DoesRequest self.old.most_events self.old.life (written S.Store self.old.store.journal) self.old.store.store request a self.new.store.store)
+        ensures does { IfOk result (λ a. MatchResult asked (λ request. DoesRequest (Clean S.Store self.new.store.journal) self.old.most_events self.old.life (written S.Store self.old.store.journal) self.old.store.store request a self.new.store.store)
             (λ fault. (a ≡ AnswerLine.Fault fault) × (self.new.store.store ≡ self.old.store.store))) }
         ensures stays_in_epoch { OnOk result (StaysInEpoch S.Store self.old self.new) }
         ensures clean { Clean S.Store self.new.store.journal → Clean S.Store self.old.store.journal }
-        ensures crash { LeavesMore S.Store self.old.store self.new.store }
+        ensures crash { LeavesWritten S.Store self.old.store self.new.store }
     {
         match asked {
             Ok(request) => self.ask(alloc, request),
@@ -69,11 +68,10 @@ impl<S: Alter> Session<S> {
     /// The file failed, or memory was refused for it: the session isn't to be asked any more.
     pub fn ask(&mut self, alloc: Global, request: Request) -> Result<AnswerLine, JournalError>
         requires { IsDurable S.Store self.old.store }
-        ensures does { IfOk result (λ a. Clean S.Store self.new.store.journal
-            → DoesRequest self.old.most_events self.old.life (written S.Store self.old.store.journal) self.old.store.store request a self.new.store.store) }
+        ensures does { IfOk result (λ a. DoesRequest (Clean S.Store self.new.store.journal) self.old.most_events self.old.life (written S.Store self.old.store.journal) self.old.store.store request a self.new.store.store) }
         ensures stays_in_epoch { OnOk result (StaysInEpoch S.Store self.old self.new) }
         ensures clean { Clean S.Store self.new.store.journal → Clean S.Store self.old.store.journal }
-        ensures crash { LeavesMore S.Store self.old.store self.new.store }
+        ensures crash { LeavesWritten S.Store self.old.store self.new.store }
     {
         match request {
             Request::Begin => self.begin(),
@@ -97,7 +95,7 @@ impl<S: Alter> Session<S> {
         ensures does { IfOk result (λ a. DoesBegin self.old.most_events self.old.life self.old.store.store a self.new.store.store) }
         ensures stays_in_epoch { OnOk result (StaysInEpoch S.Store self.old self.new) }
         ensures clean { Clean S.Store self.new.store.journal → Clean S.Store self.old.store.journal }
-        ensures crash { LeavesMore S.Store self.old.store self.new.store }
+        ensures crash { LeavesWritten S.Store self.old.store self.new.store }
     {
         if is_full(self.store.store(), self.most_events) {
             return Ok(AnswerLine::Draining);
@@ -125,7 +123,7 @@ impl<S: Alter> Session<S> {
         ensures does { IfOk result (λ a. DoesCall self.old.life self.old.store.store t x name a self.new.store.store) }
         ensures stays_in_epoch { OnOk result (StaysInEpoch S.Store self.old self.new) }
         ensures clean { Clean S.Store self.new.store.journal → Clean S.Store self.old.store.journal }
-        ensures crash { LeavesMore S.Store self.old.store self.new.store }
+        ensures crash { LeavesWritten S.Store self.old.store self.new.store }
     {
         if t.life != self.life {
             return Ok(not_open());
@@ -140,7 +138,7 @@ impl<S: Alter> Session<S> {
         ensures does { IfOk result (λ a. DoesCommit self.old.life self.old.store.store t a self.new.store.store) }
         ensures stays_in_epoch { OnOk result (StaysInEpoch S.Store self.old self.new) }
         ensures clean { Clean S.Store self.new.store.journal → Clean S.Store self.old.store.journal }
-        ensures crash { LeavesMore S.Store self.old.store self.new.store }
+        ensures crash { LeavesWritten S.Store self.old.store self.new.store }
     {
         if t.life != self.life {
             return Ok(not_open());
@@ -155,7 +153,7 @@ impl<S: Alter> Session<S> {
         ensures does { IfOk result (λ a. DoesAbort self.old.life self.old.store.store t a self.new.store.store) }
         ensures stays_in_epoch { OnOk result (StaysInEpoch S.Store self.old self.new) }
         ensures clean { Clean S.Store self.new.store.journal → Clean S.Store self.old.store.journal }
-        ensures crash { LeavesMore S.Store self.old.store self.new.store }
+        ensures crash { LeavesWritten S.Store self.old.store self.new.store }
     {
         if t.life != self.life {
             return Ok(not_open());
@@ -174,7 +172,7 @@ impl<S: Alter> Session<S> {
         ensures does { IfOk result (λ a. DoesRollback self.old.life self.old.store.store t count a self.new.store.store) }
         ensures stays_in_epoch { OnOk result (StaysInEpoch S.Store self.old self.new) }
         ensures clean { Clean S.Store self.new.store.journal → Clean S.Store self.old.store.journal }
-        ensures crash { LeavesMore S.Store self.old.store self.new.store }
+        ensures crash { LeavesWritten S.Store self.old.store self.new.store }
     {
         if t.life != self.life {
             return Ok(not_open());
@@ -226,11 +224,11 @@ impl<S: Alter> Session<S> {
     /// As `ask`.
     pub(crate) fn objects(&mut self, alloc: Global) -> Result<AnswerLine, JournalError>
         requires { IsDurable S.Store self.old.store }
-        ensures tells { IfOk result (λ a. Clean S.Store self.new.store.journal → TellsObjects a (written S.Store self.old.store.journal).objects) }
+        ensures tells { IfOk result (λ a. TellsObjects (Clean S.Store self.new.store.journal) a (written S.Store self.old.store.journal).objects) }
         ensures lets_go { OnOk result (LetsGo self.old.store.store self.new.store.store) }
         ensures stays_in_epoch { OnOk result (StaysInEpoch S.Store self.old self.new) }
         ensures clean { Clean S.Store self.new.store.journal → Clean S.Store self.old.store.journal }
-        ensures crash { LeavesMore S.Store self.old.store self.new.store }
+        ensures crash { LeavesWritten S.Store self.old.store self.new.store }
     {
         self.settle()?;
         let objects = self.store.objects(alloc)?;
@@ -244,11 +242,11 @@ impl<S: Alter> Session<S> {
     /// As `ask`.
     pub(crate) fn types(&mut self, alloc: Global) -> Result<AnswerLine, JournalError>
         requires { IsDurable S.Store self.old.store }
-        ensures tells { IfOk result (λ a. Clean S.Store self.new.store.journal → TellsTypes a (written S.Store self.old.store.journal).types) }
+        ensures tells { IfOk result (λ a. TellsTypes (Clean S.Store self.new.store.journal) a (written S.Store self.old.store.journal).types) }
         ensures lets_go { OnOk result (LetsGo self.old.store.store self.new.store.store) }
         ensures stays_in_epoch { OnOk result (StaysInEpoch S.Store self.old self.new) }
         ensures clean { Clean S.Store self.new.store.journal → Clean S.Store self.old.store.journal }
-        ensures crash { LeavesMore S.Store self.old.store self.new.store }
+        ensures crash { LeavesWritten S.Store self.old.store self.new.store }
     {
         self.settle()?;
         let texts = self.store.types(alloc)?;
@@ -267,11 +265,11 @@ impl<S: Alter> Session<S> {
         count: u32,
     ) -> Result<AnswerLine, JournalError>
         requires { IsDurable S.Store self.old.store }
-        ensures tells { IfOk result (λ a. Clean S.Store self.new.store.journal → TellsEvents a (events_from self.old.store.store from count)) }
+        ensures tells { IfOk result (λ a. TellsEvents (Clean S.Store self.new.store.journal) a (events_from self.old.store.store from count)) }
         ensures lets_go { OnOk result (LetsGo self.old.store.store self.new.store.store) }
         ensures stays_in_epoch { OnOk result (StaysInEpoch S.Store self.old self.new) }
         ensures clean { Clean S.Store self.new.store.journal → Clean S.Store self.old.store.journal }
-        ensures crash { LeavesMore S.Store self.old.store self.new.store }
+        ensures crash { LeavesWritten S.Store self.old.store self.new.store }
     {
         self.settle()?;
         let most = count.min(MOST_TOLD) as usize;
@@ -292,7 +290,7 @@ impl<S: Alter> Session<S> {
         ensures shows { OnOk result (ShowsCommit S.Store self.new.store.journal) }
         ensures same { OnOk result (Clean S.Store self.new.store.journal → written S.Store self.new.store.journal ≡ written S.Store self.old.store.journal) }
         ensures clean { Clean S.Store self.new.store.journal → Clean S.Store self.old.store.journal }
-        ensures crash { LeavesMore S.Store self.old.store self.new.store }
+        ensures crash { LeavesWritten S.Store self.old.store self.new.store }
     {
         self.store.settle()
     }
@@ -311,6 +309,7 @@ impl<S: Alter> Session<S> {
         ensures sound { OnOk result.1 (IsDurable S.Store result.0.store) }
         ensures ends { OnOk result.1 (EndsEpoch S.Store self.store result.0.store) }
         ensures writes { OnOk result.1 (WritesEpochs S.Store self.store result.0.store (A.kept archive.old) (A.kept archive.new)) }
+        ensures left { LeavesEnd S.Store self.store result.0.store }
         ensures named { result.0.life ≡ life_of result.0.store }
         ensures most { result.0.most_events ≡ self.most_events }
         ensures clean { Clean S.Store result.0.store.journal → Clean S.Store self.store.journal }

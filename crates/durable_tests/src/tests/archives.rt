@@ -1,12 +1,13 @@
 //! Archives that are given the histories of epochs that end.
 
-ghost use Rattle.std.specs.Prelude.{◌≡◌, IsTrue, None, Some, map};
+ghost use Rattle.std.specs.Prelude.{◌≡◌, ◌∷◌, [], IsTrue, None, Some, map};
 ghost use Rattle.serving.specs.Archives.{KeptHistory};
 ghost use Rattle.durable_tests.specs.declared.tests.archives.Kept.{Kept};
 
 use super::counters::{NewTrees, has, new_store};
 use super::serving_lines::{HOUR, Service, told};
 use durable_store::open;
+use journal::Header;
 use serving::{Archive, ArchiveFault, ServeFault};
 use sqlite_trees::memory::MemStore;
 use std::alloc::Global;
@@ -16,7 +17,7 @@ use std::rt::Clock;
 /// A history that was kept.
 #[derive(Drop)]
 struct Kept {
-    life: u32,
+    header: Header,
     text: Vec<u8>,
 }
 
@@ -29,18 +30,21 @@ struct Shelf {
 }
 
 impl Archive for Shelf {
-    ghost kept = { λ s. Some (map (λ (k : Kept). let it : KeptHistory = record { life = k.life; text = k.text.items } in it) s.all.items) };
+    ghost kept = { λ s. Some (map (λ (k : Kept). let it : KeptHistory = record { headers = k.header ∷ []; text = k.text.items } in it) s.all.items) };
 
     fn wants(&self) -> bool {
         true
     }
 
-    fn keep(&mut self, life: u32, text: &[u8]) -> Result<(), ArchiveFault> {
+    fn keep(&mut self, header: &Header, text: &[u8]) -> Result<(), ArchiveFault> {
         if self.all.len() >= self.room {
             return Err(ArchiveFault::Device);
         }
         let text = Vec::from_slice(self.alloc, text)?;
-        match self.all.push(Kept { life, text }) {
+        match self.all.push(Kept {
+            header: *header,
+            text,
+        }) {
             Ok(()) => Ok(()),
             Err(_) => Err(ArchiveFault::NoMemory),
         }
@@ -60,7 +64,7 @@ impl Archive for Unwilling {
         false
     }
 
-    fn keep(&mut self, _life: u32, _text: &[u8]) -> Result<(), ArchiveFault> {
+    fn keep(&mut self, _header: &Header, _text: &[u8]) -> Result<(), ArchiveFault> {
         self.given = self.given.saturating_add(1);
         Ok(())
     }
@@ -79,7 +83,7 @@ fn empty_shelf(rt: &impl AllocGlobal, room: usize) -> Shelf {
 /// Whether just one history was kept: this one, under the first life.
 fn has_one(shelf: &Shelf, text: &[u8]) -> bool {
     match shelf.all.as_slice() {
-        [one] => one.life == 1 && one.text.as_slice() == text,
+        [one] => one.header.life == 1 && one.text.as_slice() == text,
         _ => false,
     }
 }

@@ -1,11 +1,13 @@
-use Rattle.std.proofs.Common.{ℕ, Bor, List, map, subst, sym, inl, inr}
+use Rattle.std.proofs.Common.{ℕ, Bor, List, Option, map, subst, sym, inl, inr}
+use Rattle.std.specs.Option.{option_map}
 use Rattle.command_files.specs.Answers.{Comes, ComesOr}
 use Rattle.command_files.proofs.Comes.{comes_or}
 use Rattle.command_words.specs.declared.task.Task.{Task}
-use Rattle.commands.proofs.Done.{served}
+use Rattle.commands.proofs.Done.{keeps_too, served}
 use Rattle.commands.specs.Program.{DoesTask, PassesOn, shown}
 use Rattle.std.specs.Prelude.{OnOk}
 use Rattle.outputs.specs.Gathered.{taken_by}
+use Rattle.serve_command.specs.Archived.{ArchivesEpochs}
 use Rattle.serve_command.specs.Found.{SaysFound}
 use Rattle.serve_command.specs.Served.{BeginsServing, ComesOfServing, ServesDatabase}
 use Rattle.database_commands.specs.Created.{CreatesStore, HasCreateFault}
@@ -22,7 +24,7 @@ returns-in-Make-clause-does g c =
     let holds = g.S.Source.holds c.args.given.now.source in
     let databases = c.args.given.now.databases in
     let input = g.I.Read.remaining c.args.given.now.input in
-    let given = shown holds (g.D.Databases.holds databases) (g.D.Databases.holds databases) (g.D.Databases.is_clean databases) input input in
+    let given = shown holds (g.D.Databases.holds databases) (g.D.Databases.holds databases) (g.D.Databases.is_clean databases) input input (g.K.Archives.kept_in c.args.given.now.archives) (g.K.Archives.kept_in c.args.given.now.archives) in
     let old = taken_by g.W.Out.taken c.args.console.out in
     let new = taken_by g.W.Out.taken c.make_family.new.out in
     let Does : Task → Type 0 = λ t. DoesTask given t c.make_family.result old new in
@@ -35,7 +37,7 @@ returns-in-Run-clause-does g c =
     let holds = g.S.Source.holds c.args.given.now.source in
     let databases = c.args.given.now.databases in
     let input = g.I.Read.remaining c.args.given.now.input in
-    let given = shown holds (g.D.Databases.holds databases) (g.D.Databases.holds databases) (g.D.Databases.is_clean databases) input input in
+    let given = shown holds (g.D.Databases.holds databases) (g.D.Databases.holds databases) (g.D.Databases.is_clean databases) input input (g.K.Archives.kept_in c.args.given.now.archives) (g.K.Archives.kept_in c.args.given.now.archives) in
     let old = taken_by g.W.Out.taken c.args.console.out in
     let new = taken_by g.W.Out.taken c.run_file.new.out in
     let Does : Task → Type 0 = λ t. DoesTask given t c.run_file.result old new in
@@ -50,7 +52,7 @@ returns-in-Work-clause-does g c =
     let holds = g.S.Source.holds c.args.given.now.source in
     let databases = c.args.given.now.databases in
     let input = g.I.Read.remaining c.args.given.now.input in
-    let given = shown holds (g.D.Databases.holds databases) (g.D.Databases.holds databases) (g.D.Databases.is_clean databases) input input in
+    let given = shown holds (g.D.Databases.holds databases) (g.D.Databases.holds databases) (g.D.Databases.is_clean databases) input input (g.K.Archives.kept_in c.args.given.now.archives) (g.K.Archives.kept_in c.args.given.now.archives) in
     let old = taken_by g.W.Out.taken c.args.console.out in
     let new = taken_by g.W.Out.taken c.work_file.new.out in
     let Does : Task → Type 0 = λ t. DoesTask given t c.work_file.result old new in
@@ -65,7 +67,7 @@ returns-in-Stress-clause-does g c =
     let holds = g.S.Source.holds c.args.given.now.source in
     let databases = c.args.given.now.databases in
     let input = g.I.Read.remaining c.args.given.now.input in
-    let given = shown holds (g.D.Databases.holds databases) (g.D.Databases.holds databases) (g.D.Databases.is_clean databases) input input in
+    let given = shown holds (g.D.Databases.holds databases) (g.D.Databases.holds databases) (g.D.Databases.is_clean databases) input input (g.K.Archives.kept_in c.args.given.now.archives) (g.K.Archives.kept_in c.args.given.now.archives) in
     let old = taken_by g.W.Out.taken c.args.console.out in
     let new = taken_by g.W.Out.taken c.work_file-in-Stress.new.out in
     let Does : Task → Type 0 = λ t. DoesTask given t c.work_file-in-Stress.result old new in
@@ -80,7 +82,7 @@ returns-in-Audit-clause-does g c =
     let holds = g.S.Source.holds c.args.given.now.source in
     let databases = c.args.given.now.databases in
     let input = g.I.Read.remaining c.args.given.now.input in
-    let given = shown holds (g.D.Databases.holds databases) (g.D.Databases.holds databases) (g.D.Databases.is_clean databases) input input in
+    let given = shown holds (g.D.Databases.holds databases) (g.D.Databases.holds databases) (g.D.Databases.is_clean databases) input input (g.K.Archives.kept_in c.args.given.now.archives) (g.K.Archives.kept_in c.args.given.now.archives) in
     let old = taken_by g.W.Out.taken c.args.console.out in
     let new = taken_by g.W.Out.taken c.audit_histories.new.out in
     let Does : Task → Type 0 = λ t. DoesTask given t c.audit_histories.result old new in
@@ -95,7 +97,7 @@ returns-in-AuditOrdered-clause-does g c =
     let holds = g.S.Source.holds c.args.given.now.source in
     let databases = c.args.given.now.databases in
     let input = g.I.Read.remaining c.args.given.now.input in
-    let given = shown holds (g.D.Databases.holds databases) (g.D.Databases.holds databases) (g.D.Databases.is_clean databases) input input in
+    let given = shown holds (g.D.Databases.holds databases) (g.D.Databases.holds databases) (g.D.Databases.is_clean databases) input input (g.K.Archives.kept_in c.args.given.now.archives) (g.K.Archives.kept_in c.args.given.now.archives) in
     let old = taken_by g.W.Out.taken c.args.console.out in
     let new = taken_by g.W.Out.taken c.audit_ordered.new.out in
     let Does : Task → Type 0 = λ t. DoesTask given t c.audit_ordered.result old new in
@@ -110,7 +112,7 @@ returns-in-Create-clause-does g c =
     let holds = g.S.Source.holds c.args.given.now.source in
     let made = g.D.Databases.holds c.create_store.new.databases c.in-Create.database.now in
     let clean = g.D.Databases.is_clean c.create_store.new.databases in
-    let given = shown holds (g.D.Databases.holds c.args.given.now.databases) (g.D.Databases.holds c.create_store.new.databases) clean (g.I.Read.remaining c.args.given.now.input) (g.I.Read.remaining c.args.given.now.input) in
+    let given = shown holds (g.D.Databases.holds c.args.given.now.databases) (g.D.Databases.holds c.create_store.new.databases) clean (g.I.Read.remaining c.args.given.now.input) (g.I.Read.remaining c.args.given.now.input) (g.K.Archives.kept_in c.args.given.now.archives) (g.K.Archives.kept_in c.args.given.now.archives) in
     let old = taken_by g.W.Out.taken c.args.console.out in
     let new = taken_by g.W.Out.taken c.create_store.new.out in
     let Does : Task → Type 0 = λ t. DoesTask given t c.create_store.result old new in
@@ -124,20 +126,25 @@ returns-in-Serve-clause-does g c =
     let before = c.args.given.now in
     let behind = c.do_serve.new.given in
     let given = shown (g.S.Source.holds before.source) (g.D.Databases.holds before.databases) (g.D.Databases.holds behind.databases) (g.D.Databases.is_clean behind.databases)
-    (g.I.Read.remaining before.input) (g.I.Read.remaining behind.input) in
+    (g.I.Read.remaining before.input) (g.I.Read.remaining behind.input) (g.K.Archives.kept_in before.archives) (g.K.Archives.kept_in behind.archives) in
     let old = taken_by g.W.Out.taken c.args.console.out in
     let new = taken_by g.W.Out.taken c.do_serve.result.1.out in
     let Does : Task → Type 0 = λ t. DoesTask given t c.do_serve.result.0 old new in
-    let At : Bor (List ℕ) → Type 0 = λ p. ComesOfServing (BeginsServing given.clean (given.databases p.now) (given.made p.now))
+    let At : Bor (List ℕ) → Type 0 = λ p. ComesOfServing (BeginsServing given.clean (given.databases p.now) (given.made p.now) given.input given.rest)
     (ServesDatabase given.clean (given.databases p.now) (given.made p.now) given.input given.rest) c.do_serve.result.0 old new in
-    subst Does (sym c.in-Serve.is) (inl (tt, subst At c.serving.ensures.path c.do_serve.ensures.comes))
+    let Keeps : Bor (List ℕ) → Option (Bor (List ℕ)) → Type 0 = λ p a. let folder = option_map (λ f. f.now) a in
+    OnOk c.do_serve.result.0 (ArchivesEpochs given.clean (given.databases p.now) (given.made p.now) (given.kept folder) (given.kept_now folder)) in
+    let comes = subst At c.serving.ensures.path c.do_serve.ensures.comes in
+    let at_path = subst (λ p. Keeps p c.serving.result.archive) c.serving.ensures.path c.do_serve.ensures.archives in
+    let keeps = subst (Keeps c.in-Serve.database) c.serving.ensures.archive at_path in
+    subst Does (sym c.in-Serve.is) (inl (tt, keeps_too given c.in-Serve.database.now (option_map (λ f. f.now) c.in-Serve.archive) _ c.do_serve.result.0 old new comes keeps))
 
 pub returns-in-Serve-clause-err : goal.returns-in-Serve-clause-err
 returns-in-Serve-clause-err g c =
     let before = c.args.given.now in
     let behind = c.do_serve.new.given in
     let given = shown (g.S.Source.holds before.source) (g.D.Databases.holds before.databases) (g.D.Databases.holds behind.databases) (g.D.Databases.is_clean behind.databases)
-    (g.I.Read.remaining before.input) (g.I.Read.remaining behind.input) in
+    (g.I.Read.remaining before.input) (g.I.Read.remaining behind.input) (g.K.Archives.kept_in before.archives) (g.K.Archives.kept_in behind.archives) in
     let err = g.E.Out.taken c.args.console.err in
     let new_err = g.E.Out.taken c.do_serve.result.1.err in
     let Passes : Task → Type 0 = λ t. PassesOn given t c.do_serve.result.0 err new_err in

@@ -5,7 +5,7 @@ use Rattle.serving.proofs.Results.{of-ok}
 use Rattle.serve_command.proofs.serve.serve_store.Goals as goal
 
 pub returns-in-Ok-served-clause-told : goal.returns-in-Ok-served-clause-told
-returns-in-Ok-served-clause-told g c = record { now = c.serve-store.result.0; are = c.into_trees-trees.ensures; clean = c.serve-store.ensures.clean; serves = of-ok c.serve-store.result.1 c.in-Ok-served.field-0 c.in-Ok-served.is c.serve-store.ensures.told }
+returns-in-Ok-served-clause-told g c = record { now = c.serve-store.result.0; are = c.into_trees-trees.ensures; clean = c.serve-store.ensures.clean; sound = of-ok c.serve-store.result.1 c.in-Ok-served.field-0 c.in-Ok-served.is c.serve-store.ensures.sound; shows = of-ok c.serve-store.result.1 c.in-Ok-served.field-0 c.in-Ok-served.is c.serve-store.ensures.shows; serves = of-ok c.serve-store.result.1 c.in-Ok-served.field-0 c.in-Ok-served.is c.serve-store.ensures.told }
 
 pub returns-clause-cut : goal.returns-clause-cut
 returns-clause-cut g c =
@@ -17,7 +17,9 @@ returns-clause-cut g c =
         are = c.into_trees-trees.ensures;
         clean = c.serve-store.ensures.clean;
         stops = safely.stops;
-        found = λ clean. c.told_commits_are_found.ensures _ safely.stops.lines safely.stops.answers c.serve-store.result.0 (safely.safe c.requires.shows clean);
+        left = safely.safe c.requires.shows;
+        found = λ clean. c.told_commits_are_found.ensures _ _ _ _ safely.stops.read.seen safely.stops.read.rest safely.stops.read.half safely.stops.lines safely.stops.answers c.serve-store.result.0 safely.stops.read.asked
+            (safely.safe c.requires.shows clean);
       },
     )
 

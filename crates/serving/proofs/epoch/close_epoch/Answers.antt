@@ -2,7 +2,7 @@ use Rattle.std.proofs.Common.{◌∙◌, subst}
 use Rattle.std.proofs.lemmas.Result.{on_ok_weaker}
 use Rattle.store_laws.specs.Stored.{Stored}
 use Rattle.serving.specs.Requests.{LetsGo}
-use Rattle.serving.proofs.ClosedEpochs.{closed-written, left-closed, left-written}
+use Rattle.serving.proofs.ClosedEpochs.{closed-left, closed-written, left-closed, left-written}
 use Rattle.serving.proofs.epoch.close_epoch.Goals as goal
 
 pub returns-in_err-abort_all-clause-crash : goal.returns-in_err-abort_all-clause-crash
@@ -21,3 +21,8 @@ pub returns-clause-crash : goal.returns-clause-crash
 returns-clause-crash g c =
     left-closed g.S.Store c.args.store.now c.abort_all.new.self c.archive_epoch.new.store (g.A.Archive.kept c.args.archive.now) (g.A.Archive.kept c.archive_epoch.new.archive) c.in_ok-abort_all.ensures.clean
     c.in_ok-abort_all.ensures.written c.in_ok-abort_all.ensures.crash c.archive_epoch.ensures.crash
+
+pub returns-clause-left : goal.returns-clause-left
+returns-clause-left g c =
+    closed-left g.S.Store c.args.store.now c.abort_all.new.self c.archive_epoch.new.store c.in_ok-abort_all.ensures.store c.in_ok-abort_all.ensures.life c.in_ok-abort_all.ensures.sound c.in_ok-abort_all.ensures.clean
+    c.in_ok-abort_all.ensures.crash c.archive_epoch.ensures.left

@@ -1,5 +1,6 @@
+use Rattle.serving.specs.Acknowledged.{AreLast}
 use Rattle.serving.proofs.CommitEvents.{commits-found}
 use Rattle.serving.proofs.laws.told_commits_are_found.Goals as goal
 
 pub returns : goal.returns
-returns g c began lines answers now survives = commits-found g.S.Store began lines answers now survives
+returns g c b all ended given_now seen rest half lines answers now asked survives = commits-found g.S.Store b (AreLast all ended given_now) seen rest half lines answers now asked survives

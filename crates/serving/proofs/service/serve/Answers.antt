@@ -11,7 +11,7 @@ use Rattle.serving.proofs.service.serve.Goals as goal
 
 pub returns-in-Err-clause-stops : goal.returns-in-Err-clause-stops
 returns-in-Err-clause-stops g c =
-    stops-greeting c.args.store (subst (λ n. AppendsPart (taken_by g.W.Out.taken c.args.client.now.out) (taken_by g.W.Out.taken c.greet.new.self.out) (greeting n)) c.life.ensures c.in-Err.ensures.part)
+    stops-greeting (g.R.Read.remaining c.args.input.now) c.args.store (subst (λ n. AppendsPart (taken_by g.W.Out.taken c.args.client.now.out) (taken_by g.W.Out.taken c.greet.new.self.out) (greeting n)) c.life.ensures c.in-Err.ensures.part)
 
 pub returns-in-Ok-clause-told : goal.returns-in-Ok-clause-told
 returns-in-Ok-clause-told g c =
@@ -46,20 +46,19 @@ returns-in-Err-served-clause-stops g c =
 
 pub returns-in-Err-clause-acknowledged : goal.returns-in-Err-clause-acknowledged
 returns-in-Err-clause-acknowledged g c =
-    stops-safely-greeting c.args.store c.requires.sound (g.met.S.Store.settled c.args.store.journal.store)
+    stops-safely-greeting (g.R.Read.remaining c.args.input.now) (g.R.Read.remaining c.args.input.now) c.args.store c.requires.sound (g.met.S.Store.settled c.args.store.journal.store)
     (subst (λ n. AppendsPart (taken_by g.W.Out.taken c.args.client.now.out) (taken_by g.W.Out.taken c.greet.new.self.out) (greeting n)) c.life.ensures c.in-Err.ensures.part)
 
 pub returns-in-Ok-clause-acknowledged : goal.returns-in-Ok-clause-acknowledged
 returns-in-Ok-clause-acknowledged g c =
-    whole-safely (taken_by g.W.Out.taken c.args.client.now.out) (taken_by g.W.Out.taken c.end_serving.new.client.out) c.end_serving.result.0 (g.A.Archive.kept c.run-server.new.archive)
-    (g.A.Archive.kept c.end_serving.new.archive) c.end_serving.result.1
+    whole-safely (taken_by g.W.Out.taken c.args.client.now.out) (taken_by g.W.Out.taken c.end_serving.new.client.out) c.end_serving.result.0 c.end_serving.result.1
     (same-session c.new-server.result.session c.args.store c.args.limits.most_events c.new-server.ensures.store c.new-server.ensures.life c.new-server.ensures.most)
     (subst (λ n. Appends (taken_by g.W.Out.taken c.args.client.now.out) (taken_by g.W.Out.taken c.greet.new.self.out) (greeting n)) c.life.ensures c.in_default.ensures.told)
     (match-ok _ _ c.run-server.result.1 c.in-Ok.field-0 c.in-Ok.is c.run-server.ensures.acknowledged) (of-ok c.run-server.result.1 c.in-Ok.field-0 c.in-Ok.is c.run-server.ensures.ended) c.into_store-store.ensures c.end-end.ensures
-    c.end_serving.ensures.clean c.end_serving.ensures.crash c.end_serving.ensures.renews c.end_serving.ensures.told c.end_serving.ensures.part
+    c.end_serving.ensures.clean c.end_serving.ensures.left c.end_serving.ensures.renews c.end_serving.ensures.told c.end_serving.ensures.part
 
 pub returns-in-Err-served-clause-acknowledged : goal.returns-in-Err-served-clause-acknowledged
 returns-in-Err-served-clause-acknowledged g c =
-    stops-safely-served (same-session c.new-server.result.session c.args.store c.args.limits.most_events c.new-server.ensures.store c.new-server.ensures.life c.new-server.ensures.most) c.into_store-store.ensures
+    stops-safely-served (g.R.Read.remaining c.run-server.new.input) (same-session c.new-server.result.session c.args.store c.args.limits.most_events c.new-server.ensures.store c.new-server.ensures.life c.new-server.ensures.most) c.into_store-store.ensures
     (subst (λ n. Appends (taken_by g.W.Out.taken c.args.client.now.out) (taken_by g.W.Out.taken c.greet.new.self.out) (greeting n)) c.life.ensures c.in_default.ensures.told)
     (match-err _ _ c.run-server.result.1 c.in-Err-served.fault c.in-Err-served.is c.run-server.ensures.acknowledged)

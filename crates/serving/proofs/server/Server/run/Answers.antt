@@ -1,7 +1,6 @@
 use Rattle.std.proofs.Common.{None, refl, rules}
 use Rattle.outputs.specs.Gathered.{taken_by}
-use Rattle.serving.proofs.Acknowledgements.{stops-safely, tells-none}
-use Rattle.serving.proofs.Groups.{stops-before}
+use Rattle.serving.proofs.Acknowledgements.{stops-here, tells-none}
 use Rattle.serving.proofs.LaterEpochs.{left-nowhere, left-then, writes-nowhere, writes-on}
 use Rattle.serving.proofs.Results.{of-err, of-ok}
 use Rattle.serving.proofs.server.Server.run.Goals as goal
@@ -65,9 +64,7 @@ returns-in-Err-clause-crash g c =
     (g.A.Archive.kept c.take_turn-next.new.archive) c.loop-turn.invariant.told.tells.served.lasts.clean c.loop-turn.invariant.writes c.loop-turn.invariant.crash c.take_turn-next.ensures.crash
 
 pub returns-clause-stops : goal.returns-clause-stops
-returns-clause-stops g c = stops-before c.loop-turn.server.session.store (λ clean. clean) c.loop-turn.invariant.told.tells
+returns-clause-stops g c = (stops-here c.loop-turn.invariant.told).stops
 
 pub returns-clause-acknowledged : goal.returns-clause-acknowledged
-returns-clause-acknowledged g c =
-    let store = c.loop-turn.server.session.store in
-    stops-safely store None None (λ clean. clean) (left-nowhere g.S.Store store store None refl) c.loop-turn.invariant.told
+returns-clause-acknowledged g c = stops-here c.loop-turn.invariant.told

@@ -1,0 +1,82 @@
+-- What a crash leaves of a store that serves: the file as it was after some of the lines that were read, and nothing that they didn't ask for.
+use Rattle.std.specs.Prelude.{◌≡◌, ◌⊎◌, ◌≤◌, ℕ, true, false, List, [], ◌∷◌, ◌++◌, length, take, drop, Option}
+use Rattle.sqlite_trees.specs.declared.store.Store.{Ghosts}
+use Rattle.sqlite_trees.specs.Tree.{Trees}
+use Rattle.store_laws.specs.Stored.{Stored}
+use Rattle.store.specs.Renews.{Renews}
+use Rattle.journal.specs.declared.header.Header.{Header}
+use Rattle.journal.specs.Contents.{Contents, IsFile, contents_of}
+use Rattle.journal.specs.Journal.{may_leave, written}
+use Rattle.durable_store.specs.declared.durable.Durable.{Durable}
+use Rattle.durable_store.specs.Epochs.{renewed}
+use Rattle.durable_store.specs.Recovered.{IsStoreOf}
+use Rattle.request_text.specs.declared.request.Asked.{Asked}
+use Rattle.serving.specs.declared.answer_line.Answered.{Answered}
+use Rattle.serving.specs.declared.session.Session.{Session}
+use Rattle.serving.specs.Does.{is_epoch_full}
+use Rattle.serving.specs.Epochs.{aborted}
+use Rattle.serving.specs.Lines.{AreLines}
+use Rattle.serving.specs.Served.{Serves}
+use Rattle.serving.specs.Told.{has_commit}
+
+-- ---- where serving began
+
+-- what its file said then, its life, its store, and with how many events an epoch is full
+pub record Began : Type 0 where
+  pub most : ℕ
+  pub file : Contents
+  pub life : ℕ
+  pub store : Stored
+
+abbrev pub began_at : {S : Type 0} (g : Ghosts S) → Session S → Began
+began_at g s = record { most = s.most_events; file = written g s.store.journal; life = s.life; store = s.store.store }
+
+-- ---- the file of a store
+
+-- the file says that this is its life
+abbrev pub IsInLife : Contents → ℕ → Type 0
+IsInLife c life = (h : Header) × (c.headers ≡ h ∷ []) × (h.life ≡ life)
+
+-- the file of this store in this life; where its epoch is over, also that file with an abort of each transaction that was open, and the file
+-- that begins anew from there
+pub data IsStoreFile (over : Type 0) (life : ℕ) (s : Stored) : Contents → Type 0 where
+  present : (c : Contents) → IsStoreOf c s → IsInLife c life → IsStoreFile over life s c
+  closed : (c : Contents) → over → IsStoreOf c (aborted s) → IsInLife c life → IsStoreFile over life s c
+  anew : (c : Contents) (next : Stored) → over → IsStoreOf c (aborted s) → IsInLife c life → Renews (aborted s) next → IsStoreFile over life s (renewed c next.types)
+
+-- since serving began these lines were done and so answered, and this is the file then; its epoch may be over where it is full, or where
+-- these lines are the last
+pub record IsFileAfter (b : Began) (last : List (List ℕ) → Type 0) (lines : List (List ℕ)) (done : List Answered) (c : Contents) : Type 0 where
+  pub life : ℕ
+  pub reached : Stored
+  pub ended : Option Asked
+  pub serves : Serves (Unit {0}) b.most b.file b.life lines b.store done life reached ended
+  pub file : IsStoreFile ((is_epoch_full b.most reached ≡ true) ⊎ last lines) life reached c
+
+-- ---- after a crash
+
+-- the answers that the client may have got, and those that it didn't get, begin with what these lines were answered; and no answer that it
+-- may have got and that comes after them is to a commit
+pub record AreFirstAnswers (told waiting done : List Answered) : Type 0 where
+  pub others : List Answered
+  pub all : told ++ waiting ≡ done ++ others
+  pub none : has_commit (drop (length done) told) ≡ false
+
+-- this is the file after the lines of the first bytes that were read, of which the client may have got these answers, and others wait
+pub record IsLeftAfter (b : Began) (last : List (List ℕ) → Type 0) (bytes : List ℕ) (told waiting : List Answered) (c : Contents) : Type 0 where
+  pub count : ℕ
+  pub within : count ≤ length bytes
+  pub lines : List (List ℕ)
+  pub half : List ℕ
+  pub asked : AreLines (take count bytes) lines half
+  pub done : List Answered
+  pub first : AreFirstAnswers told waiting done
+  pub file : IsFileAfter b last lines done c
+
+-- a crash at this moment leaves such a file, while these answers wait
+abbrev pub LeavesLines : {S : Type 0} (g : Ghosts S) → Began → (List (List ℕ) → Type 0) → List ℕ → List Answered → List Answered → Durable S → Type 0
+LeavesLines g b last bytes told waiting now = (db : Trees) → may_leave g now.journal db → IsFile db × IsLeftAfter b last bytes told waiting (contents_of db)
+
+-- the same, whatever waits
+abbrev pub Survives : {S : Type 0} (g : Ghosts S) → Began → (List (List ℕ) → Type 0) → List ℕ → List Answered → Durable S → Type 0
+Survives g b last bytes told now = (db : Trees) → may_leave g now.journal db → IsFile db × ((waiting : List Answered) × IsLeftAfter b last bytes told waiting (contents_of db))
