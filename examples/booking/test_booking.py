@@ -218,7 +218,7 @@ class History(NamedTuple):
 
 def histories(archive: str) -> List[History]:
     """The histories of a folder in their order, without those that are the beginning of the next one."""
-    names = sorted((name for name in os.listdir(archive) if name.endswith(".history")), key=lambda name: int(name.partition(".")[0]))
+    names = sorted((name for name in os.listdir(archive) if name.endswith(".history")), key=lambda name: int(name.partition(".")[0].rpartition("-")[2]))
     found: List[History] = []
     for name in names:
         path = os.path.join(archive, name)

@@ -46,11 +46,11 @@ class Backend(ABC):
 
     @abstractmethod
     def call(self, t: "Transaction", x: int, name: str) -> Reply:
-        """Calls the call of this name."""
+        """Calls the call of this name. Where it is executed, the transaction has touched the object."""
 
     @abstractmethod
     def call_op(self, t: "Transaction", x: int, call: int) -> Reply:
-        """Calls the call of this number."""
+        """Calls the call of this number, as `call`."""
 
     @abstractmethod
     def would(self, t: "Transaction", x: int, name: str) -> Reply:
@@ -61,8 +61,8 @@ class Backend(ABC):
         """What `call_op` would be answered."""
 
     @abstractmethod
-    def is_stale(self, t: "Transaction", blocker: int) -> bool:
-        """Whether the last answer, that the blocker is in the way of the transaction, may be so no more."""
+    def is_stale(self, x: int, blocker: int) -> bool:
+        """Whether the last answer, that the blocker is in the way at an object, may be so no more."""
 
     @abstractmethod
     def is_open(self, life: int, number: int) -> bool:

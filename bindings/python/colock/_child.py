@@ -22,8 +22,8 @@ from ._errors import (
     TooManyOpen,
 )
 from ._events import Event, read_event
-from ._outcomes import archived, outcome_in
-from ._replies import Busy, Reply
+from ._outcomes import Archive, outcome_in
+from ._replies import Busy, Operation, Reply
 from ._types import Type
 
 if TYPE_CHECKING:
@@ -50,7 +50,7 @@ class Child(Backend):
     What waits for an answer gives the lock up; the ends of transactions are awaited without the lock.
     """
 
-    def __init__(self, connection: Connection, life: int, types: Sequence[Type], archive: Optional[str]) -> None:
+    def __init__(self, connection: Connection, life: int, types: Sequence[Type], archive: Optional[Archive]) -> None:
         """The store that was opened in this life."""
         self._connection, self._is_closed = connection, False
         super().__init__(types)
@@ -61,6 +61,9 @@ class Child(Backend):
         self._open: Dict[int, int] = {}
         # the number of the request that was answered last
         self._answered = 0
+        # the number of the last end or rollback, and for each object of the last one that let go there
+        self._last_end = 0
+        self._let_go: Dict[int, int] = {}
         self._calls = [of._calls for of in types]
         connection.on_loss = self.graph.ring_all
 
@@ -141,18 +144,16 @@ class Child(Backend):
     def is_open(self, life: int, number: int) -> bool:
         return self._connection.lost is None and life == self.life and number in self._open
 
-    def is_stale(self, t: "Transaction", blocker: int) -> bool:
-        if t._ended or t._life != self.life or t._number not in self._open:
-            return True
+    def is_stale(self, x: int, blocker: int) -> bool:
         # an end or a rollback that was asked after the call, while its answer was awaited
         rolled_back = self._open.get(blocker)
-        return rolled_back is None or rolled_back > self._answered
+        return rolled_back is None or rolled_back > self._answered or self._let_go.get(x, 0) > self._answered
 
     def call(self, t: "Transaction", x: int, name: str) -> Reply:
-        return self._call(t, "call", x, self._call_here(t, x, name), name)
+        return self._called(t, x, self._call_here(t, x, name), name)
 
     def call_op(self, t: "Transaction", x: int, call: int) -> Reply:
-        return self._call(t, "call", x, call, self._name_here(t, x, call))
+        return self._called(t, x, call, self._name_here(t, x, call))
 
     def would(self, t: "Transaction", x: int, name: str) -> Reply:
         return self._call(t, "would", x, self._call_here(t, x, name), name)
@@ -173,6 +174,24 @@ class Child(Backend):
         if name is None:
             raise NoCall(NoCall.__doc__)
         return name
+
+    def _called(self, t: "Transaction", x: int, call: int, name: str) -> Reply:
+        """A call. Where its answer isn't seen, by an interrupt, it may have been executed."""
+        try:
+            reply = self._call(t, "call", x, call, name)
+        except BaseException:
+            self._touches(t, x)
+            raise
+        if reply.__class__ is Operation:
+            self._touches(t, x)
+        return reply
+
+    def _touches(self, t: "Transaction", x: int) -> None:
+        """The transaction has touched an object. Another thread may have asked it to let go, while the answer was awaited."""
+        t._touched.add(x)
+        if self._open.get(t._number, self._last_end) > self._answered:
+            self._let_go[x] = self._last_end
+            self.graph.let_go_at(x)
 
     def _call(self, t: "Transaction", verb: str, x: int, call: int, name: str) -> Reply:
         answer = self._ask(f"{verb} {t._life}.{t._number} {x} {name}")
@@ -198,7 +217,8 @@ class Child(Backend):
             raise BadRollback(BadRollback.__doc__)
         slot = self._connection.send(f"rollback {t._life}.{t._number} {operations}")
         self._open[t._number] = slot.number
-        self.graph.rolled_back(t._number)
+        self._lets_go(t, slot)
+        self.graph.let_go(t._number, t._touched)
         return lambda: self._finish(t, slot)
 
     def commit(self, t: "Transaction") -> Finish:
@@ -216,8 +236,15 @@ class Child(Backend):
         slot = self._connection.send(f"{verb} {t._life}.{t._number}")
         t._ended = True
         del self._open[t._number]
-        self.graph.ended(t._number)
+        self._lets_go(t, slot)
+        self.graph.ended(t._number, t._touched)
         return slot
+
+    def _lets_go(self, t: "Transaction", slot: Slot) -> None:
+        """An end or a rollback was asked for."""
+        self._last_end = slot.number
+        for x in t._touched:
+            self._let_go[x] = slot.number
 
     def _finish(self, t: "Transaction", slot: Slot) -> None:
         """The end of an abort or a rollback, outside the lock."""
@@ -314,9 +341,10 @@ class Child(Backend):
             return self._of_this_life(number)
         if life + 1 == self._first_life:
             return self._of_the_life_before(number)
-        # An archived history is named by the last life of its epoch. Of an earlier life of the epoch it isn't certain:
-        # what was lost by a crash left its number to a later transaction. So only the file of this very life says it.
-        return outcome_in(archived(self._archive, life), number)
+        # An archived history is named by the store and the last life of its epoch. Of an earlier life of the epoch it
+        # isn't certain: what was lost by a crash left its number to a later transaction. So only the file of this very
+        # life says it.
+        return outcome_in(self._archived(life), number)
 
     def _of_this_life(self, number: int) -> Optional[bool]:
         """By the events of this life: those after what was found and aborted as the store was opened."""
@@ -341,7 +369,11 @@ class Child(Backend):
         """The lines of the events of the epoch in which the store was opened, where they are still to be had."""
         if self._found == (0, 0):
             return []
-        return self._event_lines(0) if self.life == self._first_life else archived(self._archive, self._first_life)
+        return self._event_lines(0) if self.life == self._first_life else self._archived(self._first_life)
+
+    def _archived(self, life: int) -> Optional[List[bytes]]:
+        """The lines of the events of the epoch whose last life this was, by the archive, if there is one."""
+        return None if self._archive is None else self._archive.lines(life)
 
     # ---- the end
 

@@ -3,7 +3,7 @@
 Everything here is used under the lock of the store, but for `Graph.ring_all`, and for the sleep itself.
 """
 import threading
-from typing import Dict, List, Optional, Sequence
+from typing import Collection, Dict, List, Optional, Sequence
 
 from ._operations import PLACES
 from ._types import Type
@@ -153,25 +153,36 @@ class Graph:
 
     # ---- ends
 
-    def ended(self, number: int) -> None:
-        """A transaction has ended: who waits for it looks anew, and its own sleep is over."""
+    def ended(self, number: int, touched: Collection[int]) -> None:
+        """A transaction has ended, which had touched these objects. Its own sleep is over, and all is as of `let_go`."""
         gone = self.sleepers.get(number)
         if gone is not None:
             self._take_out(gone)
             gone.wake()
-        self.rolled_back(number)
+        self.let_go(number, touched)
         for bell in self.watchers.pop(number, []):
             bell.ring()
 
-    def rolled_back(self, number: int) -> None:
-        """A transaction has taken operations back: who waits for it looks anew."""
+    def let_go(self, number: int, touched: Collection[int]) -> None:
+        """Who waits for a transaction looks anew, and who waits for others at an object that it has touched.
+
+        That one may be free by now. Who waits there by the gate is woken by whom it waits for.
+        """
         for sleeper in self._led_to(number):
             sleeper.wake()
+        for x in touched:
+            self.let_go_at(x)
+
+    def let_go_at(self, x: int) -> None:
+        """At an object somebody has let go."""
+        for sleeper in self._gates.get(x, {}).values():
+            if sleeper.blocker is not None and not sleeper.by_gate:
+                sleeper.wake()
 
     def end_all(self) -> None:
         """Each transaction has ended."""
         for number in [*self.sleepers, *self.watchers]:
-            self.ended(number)
+            self.ended(number, ())
 
     def watch(self, number: int) -> Bell:
         """A bell that is rung where the transaction ends."""

@@ -56,7 +56,7 @@ class Memory(Backend):
     def is_open(self, life: int, number: int) -> bool:
         return life == self.life and _WOULD_OP(self._handle, number, 0, 0, self._answer) in (_library.OK, _library.NO_CALL)
 
-    def is_stale(self, t: "Transaction", blocker: int) -> bool:
+    def is_stale(self, x: int, blocker: int) -> bool:
         return False
 
     def call(self, t: "Transaction", x: int, name: str) -> Reply:
@@ -66,7 +66,10 @@ class Memory(Backend):
         code = _CALL(self._handle, t._worker, t._number, x, content, len(content), self._answer)
         if code:
             raise error_of(code)
-        return self._replies[x][self._answer.number] if self._answer.kind == 0 else self._otherwise()
+        if self._answer.kind:
+            return self._otherwise()
+        t._touched.add(x)
+        return self._replies[x][self._answer.number]
 
     def call_op(self, t: "Transaction", x: int, call: int) -> Reply:
         if t._life != self.life:
@@ -74,7 +77,10 @@ class Memory(Backend):
         code = _CALL_OP(self._handle, t._worker, t._number, x, call, self._answer)
         if code:
             raise error_of(code)
-        return self._replies[x][self._answer.number] if self._answer.kind == 0 else self._otherwise()
+        if self._answer.kind:
+            return self._otherwise()
+        t._touched.add(x)
+        return self._replies[x][self._answer.number]
 
     def would(self, t: "Transaction", x: int, name: str) -> Reply:
         content = name.encode("utf-8", "surrogatepass")
@@ -97,7 +103,7 @@ class Memory(Backend):
             raise NotOpen(NotOpen.__doc__)
         done(_ROLLBACK(self._handle, t._worker, t._number, operations))
         if self.graph.sleepers:
-            self.graph.rolled_back(t._number)
+            self.graph.let_go(t._number, t._touched)
         return None
 
     def commit(self, t: "Transaction") -> Finish:
@@ -121,7 +127,7 @@ class Memory(Backend):
     def _end(self, t: "Transaction") -> None:
         t._ended = True
         if self.graph.sleepers or self.graph.watchers:
-            self.graph.ended(t._number)
+            self.graph.ended(t._number, t._touched)
 
     def abort_all(self) -> int:
         count = self.open_count()

@@ -9,7 +9,9 @@ from typing import Dict, List, NamedTuple, NoReturn, Optional, Sequence, Set, Tu
 from ._child import Child
 from ._connection import Connection
 from ._errors import BadText, CannotOpen, ConnectionLost, OtherObjects, Refused
+from ._identity import store_id
 from ._library import unsigned
+from ._outcomes import Archive
 from ._types import Kind, Type
 
 PROGRAM = "colock"
@@ -174,7 +176,8 @@ def _greeted(connection: Connection, opening: Opening) -> Child:
     types = _types(_listed(connection, "objects"), _listed(connection, "types"))
     if opening.objects is not None:
         _compare(opening.objects, types)
-    return Child(connection, life, types, opening.archive)
+    archive = None if opening.archive is None else Archive(opening.archive, store_id(opening.path))
+    return Child(connection, life, types, archive)
 
 
 def _life(connection: Connection) -> int:

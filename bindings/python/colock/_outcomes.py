@@ -1,6 +1,6 @@
 """What became of a transaction, by the history of its epoch."""
 import os
-from typing import Iterable, List, Optional, Sequence, Tuple
+from typing import Iterable, List, NamedTuple, Optional, Sequence, Tuple
 
 from ._events import Event, EventKind
 
@@ -31,17 +31,22 @@ def outcome_in(lines: Optional[Sequence[bytes]], number: int) -> Optional[bool]:
     return None
 
 
-def archived(folder: Optional[str], life: int) -> Optional[List[bytes]]:
-    """The lines of events of the epoch whose last life this was, by the archive; None where it hasn't all of them.
+class Archive(NamedTuple):
+    """The histories that a store keeps of epochs that ended."""
 
-    Raises `OSError` where the file can't be read.
-    """
-    if folder is None:
-        return None
-    try:
-        with open(os.path.join(folder, f"{life}.history"), "rb") as file:
-            lines = file.read().split(b"\n")
-    except FileNotFoundError:
-        return None
-    objects = sum(line.startswith(b"object ") for line in lines[:MOST_OBJECTS])
-    return lines[objects : lines.index(b"end")] if b"end" in lines else None
+    folder: str
+    # the store's id, by which it knows its own where several keep theirs in the folder
+    store: str
+
+    def lines(self, life: int) -> Optional[List[bytes]]:
+        """The lines of events of the epoch whose last life this was; None where the archive hasn't all of them.
+
+        Raises `OSError` where the file can't be read.
+        """
+        try:
+            with open(os.path.join(self.folder, f"{self.store}-{life}.history"), "rb") as file:
+                lines = file.read().split(b"\n")
+        except FileNotFoundError:
+            return None
+        objects = sum(line.startswith(b"object ") for line in lines[:MOST_OBJECTS])
+        return lines[objects : lines.index(b"end")] if b"end" in lines else None

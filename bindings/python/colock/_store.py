@@ -64,10 +64,10 @@ class Store:
         this one. The objects are those of the file. Where `objects` are given they are compared with these; and
         where nothing is at the path and `create`, the file is made of them.
 
-        `archive` is a folder that keeps the history of each epoch, made where it isn't there. `fast` supposes that
-        the disk tears no write apart. `drain` is how many seconds what is open may go on in a full epoch, 5 where
-        it isn't given. `program` is the program; else `COLOCK` of the environment names it, or it is a file
-        `colock` beside the package, or on PATH. `limit` is how many seconds an answer may take.
+        `archive` is a folder that keeps the history of each epoch, made where it isn't there; several stores may
+        share it. `fast` supposes that the disk tears no write apart. `drain` is how many seconds what is open may go
+        on in a full epoch, 5 where it isn't given. `program` is the program; else `COLOCK` of the environment names
+        it, or it is a file `colock` beside the package, or on PATH. `limit` is how many seconds an answer may take.
 
         Raises `CannotOpen`, `OtherObjects`, `ValueError` where `create` comes without objects or `limit` isn't above
         0, or `OverflowError` where `drain` isn't a number of 32 bits.

@@ -1,6 +1,6 @@
 """Transactions."""
 from types import TracebackType
-from typing import TYPE_CHECKING, Optional
+from typing import TYPE_CHECKING, Optional, Set
 from typing import Type as Class
 
 from ._errors import ColockError, Deadlock
@@ -19,10 +19,12 @@ class Transaction:
     that, `Deadlock` is raised after the `with`, so that nobody takes it for committed. `Store.begin` makes it.
     """
 
-    __slots__ = ("_store", "_life", "_worker", "_number", "_age", "_ended", "_deadlock", "__weakref__")
+    __slots__ = ("_store", "_life", "_worker", "_number", "_age", "_touched", "_ended", "_deadlock", "__weakref__")
 
     def __init__(self, store: "Store", life: int, worker: int, number: int, age: int) -> None:
         self._store, self._life, self._worker, self._number, self._age = store, life, worker, number, age
+        # the objects at which it has executed operations, under the lock
+        self._touched: Set[int] = set()
         self._ended = False
         # the deadlock whose victim it was
         self._deadlock: Optional[Deadlock] = None
@@ -44,9 +46,9 @@ class Transaction:
         """Calls the call of this name at an object.
 
         With `wait`, 0 or more seconds, it waits where another transaction is in the way, and isn't answered `Busy`.
-        It wakes where that one has ended or rolled back, and tries again, until it is executed or illegal. It goes
-        after an older transaction that waits at the object and that it would hold up; without `wait` it is then
-        answered `Busy`, too.
+        It wakes where that one, or another one that executed something at the object, has ended or rolled back, and
+        tries again, until it is executed or illegal. It goes after an older transaction that waits at the object and
+        that it would hold up; without `wait` it is then answered `Busy`, too.
 
         Raises `NotOpen`, `NoObject`, `NoCall`, `HistoryFull`, `NoMemory` or `Closed`; of a store in a file
         `EpochEnded` or `ConnectionLost`. With `wait` also `TimedOut` where the time is over, and nothing was
@@ -108,7 +110,8 @@ class Transaction:
         return x < len(types) and types[x]._calls.name(call) is not None
 
     def rollback(self, operations: int) -> None:
-        """Takes back its last operations, over all objects together. It stays open, and who waits for it looks anew.
+        """Takes back its last operations, over all objects together. It stays open, and who waits for it or at one of its
+        objects looks anew.
 
         Raises `NotOpen`, `BadRollback`, `HistoryFull`, `NoMemory` or `Closed`; of a store in a file `EpochEnded` or
         `ConnectionLost`.

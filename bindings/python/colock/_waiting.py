@@ -56,9 +56,12 @@ class Waiting:
                     told = self._look(t, x, call, sleeper)
                     if isinstance(told, Reply):
                         return told
-                    self._check_time(deadline)
+                    if told is not None or sleeper is not None:
+                        self._check_time(deadline)
                     if sleeper is None:
                         sleeper = self._enter(t, x, call)
+                    if told is None:
+                        continue
                     self._lie_down(t, sleeper, told)
                 slept += self._sleep(sleeper, deadline)
                 self._wake_up(t, sleeper)
@@ -66,23 +69,21 @@ class Waiting:
             if sleeper is not None:
                 self._get_up(sleeper, slept)
 
-    def _look(self, t: "Transaction", x: int, call: int, sleeper: Optional[Sleeper]) -> Union[Reply, Ahead]:
-        """The answer of the call, or who is in its way."""
+    def _look(self, t: "Transaction", x: int, call: int, sleeper: Optional[Sleeper]) -> Union[Reply, Ahead, None]:
+        """The answer of the call, or who is in its way; None where somebody let go while the answer was awaited."""
         if self.turns:
             raise ValueError("a call can't wait inside of `transact`")
-        is_first = sleeper is None
-        while True:
-            # the transaction may have ended while it slept, and while an answer was awaited
-            self._backend.check(t)
-            ahead = self._graph.ahead(t._number, t._age, x, call)
-            if ahead is not None:
-                return Ahead(ahead, True)
-            reply = self._ask(t, x, call, is_first)
-            if not isinstance(reply, Busy):
-                return reply
-            if not self._backend.is_stale(t, reply.blocker):
-                return Ahead(reply.blocker, False)
-            is_first = False
+        # the transaction may have ended while it slept
+        self._backend.check(t)
+        ahead = self._graph.ahead(t._number, t._age, x, call)
+        if ahead is not None:
+            return Ahead(ahead, True)
+        reply = self._ask(t, x, call, sleeper is None)
+        if not isinstance(reply, Busy):
+            return reply
+        # or while the answer was awaited
+        self._backend.check(t)
+        return None if self._backend.is_stale(x, reply.blocker) else Ahead(reply.blocker, False)
 
     def _ask(self, t: "Transaction", x: int, call: int, is_first: bool) -> Reply:
         """Calls; but where it isn't the first time only what is free, so that a try is no event."""

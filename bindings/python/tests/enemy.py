@@ -383,7 +383,7 @@ def over_a_child(transactions, seed, program):
             work.all()
             check_rest(store, transactions)
             check(work, store.events())
-        audit(program, folder, types, os.path.join(archive, "1.history"))
+        audit(program, folder, types, os.path.join(archive, *os.listdir(archive)))
         return store.stats()
 
 

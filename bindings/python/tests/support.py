@@ -3,11 +3,13 @@
 With COLOCK_TESTS=quick in the environment what takes seconds is left out.
 """
 import os
+import sqlite3
 import sys
 import tempfile
 import threading
 import time
 import unittest
+from contextlib import closing
 
 import colock
 from colock._opening import find_program
@@ -73,6 +75,19 @@ def folder_of(test):
     folder = tempfile.TemporaryDirectory(prefix="colock-test-")
     test.addCleanup(folder.cleanup)
     return folder.name
+
+
+def id_of(path):
+    """The id of the store in a file, as it is in the names of its histories."""
+    with closing(sqlite3.connect(f"file:{path}?immutable=1", uri=True)) as file:
+        return file.execute("SELECT hex(id) FROM store").fetchone()[0].lower()
+
+
+def write_id(path, id):
+    """A file of which nothing is there but the table with the id of a store."""
+    with closing(sqlite3.connect(path)) as file, file:
+        file.execute("CREATE TABLE store (position INTEGER PRIMARY KEY, format INTEGER NOT NULL, id BLOB NOT NULL, s INTEGER NOT NULL)")
+        file.execute("INSERT INTO store VALUES (0, 3, ?, 5)", [bytes.fromhex(id)])
 
 
 class InMemory:
@@ -209,9 +224,9 @@ class Fakes(unittest.TestCase):
         os.chmod(path, 0o755)
         return path
 
-    def open(self, body, limit=SOON, archive=None):
+    def open(self, body, limit=SOON, path="nothing.db", archive=None):
         """A store that this program serves."""
-        store = colock.Store.open("nothing.db", program=self.fake(body), limit=limit, archive=archive)
+        store = colock.Store.open(path, program=self.fake(body), limit=limit, archive=archive)
         self.addCleanup(self.closed, store)
         return store
 

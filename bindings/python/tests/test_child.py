@@ -1,6 +1,7 @@
 """What holds of a store in a file alone."""
 import gc
 import os
+import shutil
 import signal
 import subprocess
 import sys
@@ -9,7 +10,7 @@ import unittest
 from unittest import mock
 
 import support
-from support import FIVE, SOON, TWO, Run, Timed, asleep, folder_of, is_running, pid_of, program, until
+from support import FIVE, SOON, TWO, Run, Timed, asleep, folder_of, id_of, is_running, pid_of, program, until
 
 import colock
 from colock import Kind, Operation, Store, Type
@@ -138,7 +139,7 @@ class Opening(Files):
         archive = os.path.join(self.folder, "deep", "archive")
         with self.open([COUNTER], create=True, archive=archive, fast=True, drain=0) as store:
             self.up(store)
-        self.assertEqual(os.listdir(archive), ["1.history"])
+        self.assertEqual(os.listdir(archive), [f"{id_of(self.path)}-1.history"])
 
     def test_in_memory_only(self):
         with self.open([COUNTER], create=True) as store:
@@ -216,6 +217,23 @@ class Outcomes(Files):
         with self.open() as store:
             self.assertIsNone(store.committed(ids[0]))
 
+    def test_archives_of_other_stores(self):
+        archive = os.path.join(self.folder, "archive")
+        for name, commits, options in [("a", True, {"archive": archive}), ("b", False, {"archive": archive}), ("c", True, {})]:
+            with Store.open(os.path.join(self.folder, name), [COUNTER], create=True, program=program(), **options) as store:
+                t = store.begin()
+                (t.commit if commits else t.abort)()
+                self.assertEqual(t.id, "1.0")
+        # the epoch of each ended in life 1, and is kept of two of them
+        paths = [os.path.join(self.folder, name) for name in "abc"]
+        self.assertEqual(sorted(os.listdir(archive)), sorted(f"{id_of(path)}-1.history" for path in paths[:2]))
+        shutil.copy(os.path.join(archive, f"{id_of(paths[0])}-1.history"), os.path.join(archive, "1.history"))
+        told = []
+        for path in paths:
+            with Store.open(path, program=program(), archive=archive) as store:
+                told.append(store.committed("1.0"))
+        self.assertEqual(told, [True, False, None])
+
     def test_earlier_lives_of_an_archived_epoch(self):
         archive = os.path.join(self.folder, "archive")
         store = self.open([COUNTER], create=True, archive=archive)
@@ -227,7 +245,7 @@ class Outcomes(Files):
             late = self.up(store)[0]
             self.assertEqual([store.committed(id) for id in early], [True, False, True])
         # the epoch had two lives, and its history has the name of the second
-        self.assertEqual(os.listdir(archive), ["2.history"])
+        self.assertEqual(os.listdir(archive), [f"{id_of(self.path)}-2.history"])
         with self.open(archive=archive) as store:
             self.assertEqual((late, store.committed(late), store.committed("2.9")), ("2.3", True, None))
             self.assertEqual([store.committed(id) for id in [*early, "1.9"]], [None] * 4)
@@ -315,7 +333,7 @@ class Losses(Files):
         archive = os.path.join(self.folder, "archive")
         store = self.open([COUNTER], create=True, archive=archive)
         self.up(store)
-        with open(os.path.join(archive, "1.history"), "w", encoding="ascii") as file:
+        with open(os.path.join(archive, f"{id_of(self.path)}-1.history"), "w", encoding="ascii") as file:
             file.write("end\n")
         with self.assertRaises(colock.ConnectionLost) as raised:
             store.close()

@@ -1,6 +1,7 @@
 """Numbers in escrow, in memory and in a file: who gives and takes beside whom, who waits, and what is kept."""
 import os
 import random
+import time
 import unittest
 
 import enemy
@@ -56,7 +57,8 @@ class Numbers:
     def test_what_was_given_before_covers_what_is_taken(self):
         store, t, u, v = self.number(3)
         self.assertEqual((self.told(t, "give:1"), self.told(t, "take:2"), self.told(u, "take:2")), (GIVE, TAKE, TAKE))
-        self.assertEqual(self.told(v, "take:2"), Busy(t.number))
+        # beside t alone there are two, and beside u alone there is one
+        self.assertEqual(self.told(v, "take:2"), Busy(u.number))
         t.rollback(1)
         # of t there is a give alone, which blocks no take
         self.assertEqual((self.told(v, "take:2"), self.told(t, "take:2")), (Busy(u.number), TAKE))
@@ -165,6 +167,112 @@ class Waits:
         self.assertEqual([store.kept(x) for x in range(2)], [0, 0])
 
 
+class LetsGo:
+    """Calls that are let go by another one than whom they wait for."""
+
+    def tens(self, objects=1):
+        """A store of counters up to 20 in escrow, each at 10."""
+        store = self.make([Type.counter(20, [3, 5, 8, 10], Kind.ESCROW)] * objects)
+        with store.begin() as t:
+            for x in range(objects):
+                t.call(x, "inc:10").executed()
+        return store
+
+    def caller(self, store, name):
+        """A transaction that has made a call at object 0."""
+        t = store.begin()
+        t.call(0, name).executed()
+        return t
+
+    def is_let_go(self, store, first, end):
+        """That a take of 5, which waits for the first, is let go by what `end` does, while that one stays open."""
+        u = store.begin()
+        self.assertEqual(u.would(0, "dec:5"), Busy(first.number))
+        waiting = Run(u.call, 0, "dec:5", LONG)
+        asleep(store, 1)
+        time.sleep(0.03)
+        self.assertTrue(waiting.is_alive())
+        end()
+        waiting.result().executed()
+        u.commit()
+        self.assertEqual(store.stats().waits, 1)
+
+    def test_a_give_that_commits(self):
+        for is_turn in (True, False):
+            store = self.tens()
+            first = self.caller(store, "dec:8")
+            give = (lambda store=store: store.transact(lambda t: t.call(0, "inc:10").executed())) if is_turn else self.caller(store, "inc:10").commit
+            self.is_let_go(store, first, give)
+            first.commit()
+            self.assertEqual(store.kept(0), 7)
+
+    def test_the_second_of_two_takes(self):
+        for end in (lambda t: t.abort(), lambda t: t.rollback(1)):
+            store = self.tens()
+            # together they keep out who takes 5 of 10, and neither does so alone
+            first, second = self.caller(store, "dec:3"), self.caller(store, "dec:3")
+            self.is_let_go(store, first, lambda end=end, second=second: end(second))
+            first.commit()
+            self.assertEqual(store.kept(0), 2)
+
+    def test_what_lets_go_elsewhere_wakes_nobody(self):
+        store = self.tens(2)
+        first = self.caller(store, "dec:8")
+
+        def end():
+            store.transact(lambda t: t.call(1, "inc:10").executed())
+            other = store.begin()
+            other.call(1, "dec:3").executed()
+            other.rollback(1)
+            other.commit()
+            # at the object, but nothing is executed
+            busy = store.begin()
+            self.assertEqual(busy.call(0, "dec:10"), Busy(first.number + 1))
+            busy.abort()
+            time.sleep(0.03)
+            self.assertEqual(store.stats().waits, 1)
+            self.caller(store, "inc:10").commit()
+
+        self.is_let_go(store, first, end)
+        first.commit()
+        self.assertEqual([store.kept(x) for x in range(2)], [7, 20])
+
+    def test_a_give_at_any_moment(self):
+        """A take and a give at the same moment, again and again. The give lets the take go, whichever is asked first."""
+        store = self.tens()
+        first = self.caller(store, "dec:8")
+        for turn in range(60):
+            u, give = store.begin(), self.caller(store, "inc:5")
+            waiting = Run(u.call, 0, "dec:5", LONG)
+            time.sleep(turn * 2e-5)
+            give.commit()
+            waiting.result().executed()
+            u.abort()
+            self.caller(store, "dec:5").commit()
+        first.commit()
+        self.assertEqual(store.kept(0), 2)
+
+    def test_a_give_that_another_thread_commits(self):
+        """The commit is asked while the answer to the give is awaited."""
+        store = self.tens()
+        first = self.caller(store, "dec:8")
+        for turn in range(60):
+            u, give = store.begin(), store.begin()
+            waiting = Run(u.call, 0, "dec:5", LONG)
+            giving = Run(give.call, 0, "inc:5")
+            time.sleep(turn * 2e-5)
+            give.commit()
+            try:
+                giving.result().executed()
+            except colock.NotOpen:  # the commit was first
+                self.caller(store, "inc:5").commit()
+            waiting.result().executed()
+            u.abort()
+            self.caller(store, "dec:5").commit()
+        first.commit()
+        self.assertEqual(store.kept(0), 2)
+
+
 class Model:
     """A number by its definition: an operation is admitted where all that is open stays legal, whatever becomes of it."""
 
@@ -245,7 +353,7 @@ class Pair:
         return ""
 
 
-class EscrowInMemory(support.InMemory, Numbers, Waits, unittest.TestCase):
+class EscrowInMemory(support.InMemory, Numbers, Waits, LetsGo, unittest.TestCase):
     """In memory."""
 
     def test_it_begins_anew(self):
@@ -270,7 +378,7 @@ class EscrowInMemory(support.InMemory, Numbers, Waits, unittest.TestCase):
         self.assertGreater(min(told.count(word) for word in ("Operation", "Busy", "Illegal")), 200)
 
 
-class EscrowOverAChild(support.OverChild, Numbers, Waits, unittest.TestCase):
+class EscrowOverAChild(support.OverChild, Numbers, Waits, LetsGo, unittest.TestCase):
     """Over a child."""
 
     def test_it_is_opened_again(self):

@@ -65,14 +65,14 @@ class Graphs(unittest.TestCase):
         # the third waits for what the first holds, and not for its turn
         self.assertEqual([(s.blocker, self.rung(s)) for s in (second, third)], [(None, True), (0, False)])
         self.graph.leave(first)
-        self.graph.ended(0)
+        self.graph.ended(0, ())
         self.assertEqual([(s.blocker, self.rung(s)) for s in (second, third)], [(None, False), (None, True)])
 
     def test_ends(self):
         first, second = self.sleeper(0), self.sleeper(1)
         self.graph.put_edge(second, 0, False)
         bell, other = self.graph.watch(0), self.graph.watch(5)
-        self.graph.ended(0)
+        self.graph.ended(0, ())
         self.assertEqual([self.rung(first), self.rung(second), bell.sleep(0), other.sleep(0)], [True, True, True, False])
         self.assertEqual((list(self.graph.sleepers), list(self.graph.watchers)), ([1], [5]))
         self.graph.ring_all()
@@ -80,6 +80,20 @@ class Graphs(unittest.TestCase):
         self.graph.unwatch(5, other)
         self.graph.end_all()
         self.assertEqual((self.graph.sleepers, self.graph.watchers, self.graph._gates), ({}, {}, {}))
+
+    def test_who_waits_where_somebody_else_lets_go_looks_anew(self):
+        first, second, third = self.sleeper(0, 1), self.sleeper(1, 2), self.sleeper(2, 1)
+        self.graph.put_edge(first, 9, False)
+        self.graph.put_edge(second, 9, False)
+        self.graph.put_edge(third, 0, True)
+        self.graph.ended(7, {0, 3})
+        self.assertEqual([self.rung(s) for s in (first, second, third)], [False, False, False])
+        # who waits by the gate stays there
+        self.graph.ended(7, {1})
+        self.assertEqual([(s.blocker, self.rung(s)) for s in (first, second, third)], [(None, True), (9, False), (0, False)])
+        # who looks anew already isn't woken again
+        self.graph.let_go(7, {1, 2})
+        self.assertEqual([(s.blocker, self.rung(s)) for s in (first, second, third)], [(None, False), (None, True), (0, False)])
 
     def test_a_bell_is_rung_once(self):
         sleeper = self.sleeper(0)

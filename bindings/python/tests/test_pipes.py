@@ -1,4 +1,5 @@
 """A store in a file whose program doesn't answer as it has to."""
+import os
 import unittest
 
 import support
@@ -228,16 +229,36 @@ class Pipes(support.Fakes):
             "    else:\n        events = []\n        say(f'{tag} ok 6.0\\n')\n"
         )
         archive = support.folder_of(self)
-        with open(f"{archive}/5.history", "w", encoding="ascii") as file:
+        path, id = os.path.join(archive, "nothing.db"), "00" * 15 + "ab"
+        support.write_id(path, id)
+        with open(f"{archive}/{id}-5.history", "w", encoding="ascii") as file:
             file.write("object undo 0\n" + "".join(line + "\n" for line in [*found, *more, "abort 0 5", "end"]))
+        # another store's, of the same life
+        with open(f"{archive}/{'00' * 16}-5.history", "w", encoding="ascii") as file:
+            file.write("object undo 0\nend\n")
         for folder in (archive, None):
-            store = self.open(body, archive=folder)
+            store = self.open(body, path=path, archive=folder)
             # 0 to 2 are of the lives before; 3 was given again, to another than the one that was lost
             self.assertEqual(self.outcomes(store, "4.0", "4.1", "4.2", "4.3"), [True, False, False, False])
             self.assertEqual(self.outcomes(store, "5.3", "5.4", "5.5", "5.6", "5.0", "3.0", "6.0"), [True, False, None, None, None, None, None])
             store.begin()
             told = self.outcomes(store, "4.0", "4.1", "4.3", "5.3", "5.4", "5.5", "6.0", "3.0")
             self.assertEqual(told, [True, False, False, True, False, False, None, None] if folder else [None] * 8)
+
+    def test_an_archive_without_an_id(self):
+        folder = support.folder_of(self)
+        for text in ("", "no database"):
+            path = os.path.join(folder, "nothing.db")
+            with open(path, "w", encoding="ascii") as file:
+                file.write(text)
+            with self.assertRaises(colock.CannotOpen) as raised:
+                self.open("for tag, words in opened():\n    pass\n", path=path, archive=folder)
+            self.assertIn("the id of the store can't be read", str(raised.exception))
+        os.remove(path)
+        support.write_id(path, "00" * 15)
+        with self.assertRaises(colock.CannotOpen) as raised:
+            self.open("for tag, words in opened():\n    pass\n", path=path, archive=folder)
+        self.assertIn("the store has no id", str(raised.exception))
 
     def test_outcomes_without_the_line_of_what_was_found(self):
         store = self.open("for tag, words in opened():\n    say(f'{tag} begin 0 0\\n{tag} commit 0 0\\n{tag} ok\\n')")

@@ -79,7 +79,7 @@ pub(crate) struct First {
 /// The answer to a first call.
 pub(crate) struct FirstTold {
     pub(crate) reply: Result<Reply, Error>,
-    /// How often operations had been taken back when it was asked.
+    /// As of [`Behind::since`] when it was asked.
     pub(crate) since: u64,
 }
 
@@ -174,7 +174,7 @@ impl Served {
         let thread = thread::current().id();
         self.put_due(Some(thread));
         self.conversation.ask_all()?;
-        let is_put_off = self.begins.names.next().is_some() && self.open.len() + self.begins.count() < MOST_PUT_OFF;
+        let is_put_off = self.begins.names.next().is_some() && self.open_count() + self.begins.count() < MOST_PUT_OFF;
         if is_put_off {
             self.begins.put_off.push(PutOff { thread, age });
         }
@@ -228,7 +228,7 @@ impl SharedStore {
             return Ok(SharedTransaction::put_off(self, age));
         }
         let (_guard, id) = self.begin_served(behind, guard, Lock::GivenUp)?;
-        Ok(SharedTransaction::of(self, Ticket { id, age, worker: 0 }))
+        Ok(SharedTransaction::of(self, Ticket::new(id, age, 0)))
     }
 
     /// Begins a transaction now, where the epoch isn't full, or the next one has begun within the limit.
@@ -281,7 +281,7 @@ impl SharedStore {
             return Ok(None);
         }
         let served = guard.served()?;
-        let since = served.moment;
+        let since = behind.since(served, object);
         let Some(both) = served.send_both(age, object, &name)? else { return Ok(None) };
         drop(guard);
         // it is answered after the begin

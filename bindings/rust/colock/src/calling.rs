@@ -7,6 +7,7 @@ use crate::request::{answer, Answer, Id, Request};
 use crate::shared::{Behind, Guard, Lock, SharedStore};
 use crate::store::Store;
 use crate::store_state::{resumed, Held, State, Ticket};
+use crate::touched::Touched;
 use crate::transaction::Reply;
 use crate::waiting::{Asker, Bed, Verdict};
 use std::borrow::Cow;
@@ -41,7 +42,7 @@ pub(crate) enum When {
 /// What a store answered.
 struct Told {
     reply: Reply,
-    /// Whether the blocker has ended or taken operations back since it was asked.
+    /// Whether the blocker has let go since it was asked, or another one at the object.
     has_let_go: bool,
 }
 
@@ -52,7 +53,7 @@ enum Look {
     Again,
 }
 
-/// Who was in the way of a call, and how often operations had been taken back when it was asked.
+/// Who was in the way of a call, and since when others may have let go, as of [`Behind::since`].
 #[derive(Clone, Copy)]
 pub(crate) struct InTheWay {
     pub(crate) blocker: u64,
@@ -60,10 +61,10 @@ pub(crate) struct InTheWay {
 }
 
 impl InTheWay {
-    /// Whom to wait for, where that one hasn't let go since.
-    fn look(self, state: &State) -> Look {
+    /// Whom to wait for at an object, where nobody has let go there since.
+    fn look(self, state: &State, object: u32) -> Look {
         match &state.held {
-            Held::Child(served) if served.has_let_go(self.blocker, self.since) => Look::Again,
+            Held::Child(served) if served.has_let_go(self.blocker, object, self.since) => Look::Again,
             _ => Look::Behind { blocker: self.blocker, by_gate: false },
         }
     }
@@ -135,17 +136,18 @@ impl SharedStore {
         if let Err(error) = guard.is_of_life(ticket) {
             return (guard, Err(error));
         }
-        let reply = match &guard.held {
-            Held::Memory(store) => in_memory(store, ticket, object, call, how.0),
-            Held::Child(served) => {
-                let since = served.moment;
+        let reply = match (&guard.held, self.child()) {
+            (Held::Memory(store), _) => in_memory(store, ticket, object, call, how.0),
+            (Held::Child(_), None) => Err(Error::NotOpen),
+            (Held::Child(served), Some(behind)) => {
+                let since = behind.since(served, object);
                 return self.executed_by_child(guard, ticket.id, (object, call), how, since);
             }
         };
         (guard, reply.map(|reply| Told { reply, has_let_go: false }))
     }
 
-    /// The same, where a child is asked. `since` says how often operations were taken back before.
+    /// The same, where a child is asked. `since` is as of [`Behind::since`].
     fn executed_by_child<'s>(
         &'s self,
         guard: Guard<'s>,
@@ -166,7 +168,7 @@ impl SharedStore {
         let reply = text.and_then(|text| self.reply_of(&text, object, number));
         let told = reply.and_then(|reply| {
             let served = guard.served()?;
-            let has_let_go = matches!(reply, Reply::Busy { blocker } if served.has_let_go(blocker, since));
+            let has_let_go = matches!(reply, Reply::Busy { blocker } if served.has_let_go(blocker, object, since));
             Ok(Told { reply, has_let_go })
         });
         (guard, told)
@@ -250,10 +252,11 @@ impl SharedStore {
         let (mut guard, mut look) = match first {
             None => self.look(guard, wait, Verb::Call),
             Some(first) => {
-                let look = first.look(&guard);
+                let look = first.look(&guard, wait.asker.object);
                 (guard, Ok(look))
             }
         };
+        let mut is_first = true;
         loop {
             match look {
                 Ok(Look::Done(reply)) => return (guard, Ok(reply)),
@@ -264,9 +267,11 @@ impl SharedStore {
                         return (guard, Err(error));
                     }
                 }
-                Ok(Look::Again) => {}
+                Ok(Look::Again) if !is_first && is_over(wait.deadline) => return (guard, Err(Error::TimedOut)),
+                Ok(Look::Again) => enter(&mut guard, wait),
                 Err(error) => return (guard, Err(error)),
             }
+            is_first = false;
             // after the first look the store is asked without an event
             (guard, look) = self.look(guard, wait, Verb::Would);
         }
@@ -297,13 +302,13 @@ impl SharedStore {
         (guard, look)
     }
 
-    /// Sleeps until the blocker has ended, taken operations back, or left the gate.
+    /// Sleeps until the blocker has let go or left the gate, or another one has let go at the object.
     fn sleep<'s>(&'s self, mut guard: Guard<'s>, wait: Wait, blocker: u64, by_gate: bool) -> (Guard<'s>, Result<(), Error>) {
         // the number of a transaction of an epoch that has ended may be another one's
         if let Some(error) = guard.is_of_life(wait.ticket).err().or_else(|| self.lost()) {
             return (guard, Err(error));
         }
-        if time_left(wait.deadline).is_some_and(|left| left.is_zero()) {
+        if is_over(wait.deadline) {
             return (guard, Err(Error::TimedOut));
         }
         guard.stats.count_sleep(wait.asker.object);
@@ -352,6 +357,13 @@ impl SharedStore {
     }
 }
 
+/// Who looks again goes on waiting: younger ones go after it, and no commit lets it go first.
+fn enter(state: &mut State, wait: Wait) {
+    if state.is_of_life(wait.ticket).is_ok() {
+        state.waiting.enter(wait.asker);
+    }
+}
+
 /// Sleeps while there is something to wait for; whether the limit is over.
 fn asleep<'s>(mut guard: Guard<'s>, bed: &Bed, wait: Wait) -> (Guard<'s>, bool) {
     while bed.verdict().is_none() && guard.waiting.is_asleep(wait.asker.number) {
@@ -362,6 +374,11 @@ fn asleep<'s>(mut guard: Guard<'s>, bed: &Bed, wait: Wait) -> (Guard<'s>, bool) 
         guard = rested(guard, bed, left);
     }
     (guard, false)
+}
+
+/// Whether a limit is over.
+fn is_over(deadline: Option<Instant>) -> bool {
+    time_left(deadline).is_some_and(|left| left.is_zero())
 }
 
 /// The time to a moment; none where there is no limit.
@@ -379,7 +396,7 @@ fn rested<'s>(guard: Guard<'s>, bed: &Bed, left: Option<Duration>) -> Guard<'s> 
 // ---- rollbacks and ends
 
 impl SharedStore {
-    /// Takes back the last operations of a transaction, and wakes who waits for it.
+    /// Takes back the last operations of a transaction, and wakes who waits for it or where it executed something.
     pub(crate) fn take_back<'s>(&'s self, mut guard: Guard<'s>, ticket: Ticket, operations: u64, lock: Lock) -> (Guard<'s>, Result<(), Error>) {
         if let Err(error) = guard.is_of_life(ticket) {
             return (guard, Err(error));
@@ -387,17 +404,17 @@ impl SharedStore {
         let number = ticket.id.number;
         if let Held::Memory(store) = &guard.held {
             let done = resumed(store, ticket.worker, number).rollback(operations);
-            guard.waiting.rolled_back(number);
+            guard.waiting.let_go(number, ticket.touched);
             return (guard, done);
         }
         let Ok(count) = u32::try_from(operations) else {
             return (guard, Err(Error::BadRollback));
         };
         if let Ok(served) = guard.served() {
-            served.takes_back(number);
+            served.takes_back(ticket);
         }
         // what they ask next comes after this request
-        guard.waiting.rolled_back(number);
+        guard.waiting.let_go(number, ticket.touched);
         let (guard, text) = self.ask(guard, Request::Rollback(ticket.id, count), lock);
         (guard, text.and_then(|text| self.done(&text)))
     }
@@ -424,7 +441,7 @@ impl SharedStore {
         guard.is_of_life(ticket)?;
         ManuallyDrop::into_inner(resumed(guard.memory()?, ticket.worker, ticket.id.number)).commit()?;
         guard.stats.commits += 1;
-        guard.waiting.ended(ticket.id.number);
+        guard.waiting.ended(ticket.id.number, ticket.touched);
         Ok(())
     }
 
@@ -442,13 +459,14 @@ impl SharedStore {
         guard.is_of_life(ticket)?;
         let is_abort = request.committed().is_none();
         // who waits is woken now, and is to find that it has ended
-        let slot = match when {
-            When::OthersFirst if guard.waiting.is_empty() => guard.served()?.send_last(request)?,
-            _ => guard.send(request)?,
-        };
+        let goes_last = when == When::OthersFirst && guard.waiting.is_empty();
+        let slot = if goes_last { guard.served()?.send_last(request)? } else { guard.send(request)? };
+        let underway = if goes_last { ticket.touched } else { Touched::default() };
+        behind.underway.starts(underway);
         counts_as_ended(&mut guard, ticket, is_abort);
         drop(guard);
         let told = behind.link.answered(&slot);
+        behind.underway.is_answered(underway);
         if told.is_err() {
             self.lock().waiting.release_all(Verdict::Lost);
         }
@@ -478,16 +496,16 @@ pub(crate) fn abort_at_once(state: &mut State, ticket: Ticket) {
 /// The end of a transaction was asked of a child.
 fn counts_as_ended(state: &mut State, ticket: Ticket, is_abort: bool) {
     if let Ok(served) = state.served() {
-        served.open.remove(&ticket.id.number);
+        served.ends(ticket);
     }
     state.stats.aborts += u64::from(is_abort);
-    state.waiting.ended(ticket.id.number);
+    state.waiting.ended(ticket.id.number, ticket.touched);
 }
 
 fn abort_in_memory(state: &mut State, ticket: Ticket) -> Result<(), Error> {
     state.is_of_life(ticket)?;
     ManuallyDrop::into_inner(resumed(state.memory()?, ticket.worker, ticket.id.number)).abort()?;
     state.stats.aborts += 1;
-    state.waiting.ended(ticket.id.number);
+    state.waiting.ended(ticket.id.number, ticket.touched);
     Ok(())
 }

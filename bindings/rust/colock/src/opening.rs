@@ -3,8 +3,9 @@ use crate::calls::Calls;
 use crate::child::{listed, Conversation, Link};
 use crate::creating;
 use crate::error::Error;
+use crate::identity::store_id;
 use crate::operation::Operation;
-use crate::past::Past;
+use crate::past::{Archive, Past};
 use crate::program;
 use crate::request::Request;
 use crate::shared::SharedStore;
@@ -86,7 +87,7 @@ impl<'t> OpenOptions<'t> {
         self
     }
 
-    /// The folder that keeps the history of each epoch that ends. It has to be there.
+    /// The folder that keeps the history of each epoch that ends. It has to be there. Several stores may share it.
     pub fn archive(mut self, folder: impl Into<PathBuf>) -> OpenOptions<'t> {
         self.archive = Some(folder.into());
         self
@@ -155,7 +156,7 @@ impl<'t> OpenOptions<'t> {
         }
         command.arg(&path);
         let (link, greeting) = Link::start(command, self.limit).map_err(Error::CannotOpen)?;
-        let opened = self.greeted(&link, &greeting, archive);
+        let opened = self.greeted(&link, &greeting, &path, archive);
         opened.map_err(|error| {
             link.lose("it wasn't opened");
             as_not_opened(error)
@@ -163,8 +164,9 @@ impl<'t> OpenOptions<'t> {
     }
 
     /// The store of a child that was started, when it has greeted and listed its objects.
-    fn greeted(&self, link: &Arc<Link>, greeting: &Slot, archive: Option<PathBuf>) -> Result<SharedStore, Error> {
+    fn greeted(&self, link: &Arc<Link>, greeting: &Slot, path: &Path, folder: Option<PathBuf>) -> Result<SharedStore, Error> {
         let life = life_of(&link.answered(greeting)?)?;
+        let archive = folder.map(|folder| store_id(path).map(|store| Archive { folder, store })).transpose()?;
         let mut conversation = Conversation::new(Arc::clone(link));
         let objects = objects_of(listed(link, &conversation.ask(Request::Objects)?)?, link)?;
         let texts = texts_of(listed(link, &conversation.ask(Request::Types)?)?);

@@ -24,8 +24,16 @@ pub(crate) struct Past {
     pub(crate) greeted: u64,
     /// What was in the file, where the child said so.
     pub(crate) found: Option<Found>,
-    /// The folder of the archive, if any.
-    pub(crate) archive: Option<PathBuf>,
+    /// The archive, if any.
+    pub(crate) archive: Option<Archive>,
+}
+
+/// The histories that a store keeps of epochs that ended.
+#[derive(Debug)]
+pub(crate) struct Archive {
+    pub(crate) folder: PathBuf,
+    /// The store's id, by which it knows its own where several keep theirs in the folder.
+    pub(crate) store: String,
 }
 
 impl SharedStore {
@@ -33,8 +41,9 @@ impl SharedStore {
     /// where that isn't certain. It answers of transactions of this opening, of those of the one before it, where that
     /// crashed, and of those of the archive.
     ///
-    /// An archived history is of the life in which its epoch ended. Of an earlier life of that epoch, which crashed,
-    /// it says nothing: what such a life lost left its number to a later transaction.
+    /// An archived history is of the store by whose id it is named, and of the life in which its epoch ended. Of an
+    /// earlier life of that epoch, which crashed, it says nothing: what such a life lost left its number to a later
+    /// transaction.
     ///
     /// ```
     /// # use colock::{Kind, SharedStore, Type};
@@ -128,10 +137,10 @@ impl Past {
 
     /// The events of the epoch that ended in a life, where the archive has them.
     fn archived(&self, life: u64) -> Result<Option<Vec<Event>>, Error> {
-        let Some(folder) = &self.archive else {
+        let Some(Archive { folder, store }) = &self.archive else {
             return Ok(None);
         };
-        let path = folder.join(format!("{life}.history"));
+        let path = folder.join(format!("{store}-{life}.history"));
         match fs::read_to_string(&path) {
             Ok(text) => Ok(read(&text)),
             Err(error) if error.kind() == ErrorKind::NotFound => Ok(None),

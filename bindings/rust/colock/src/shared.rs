@@ -10,7 +10,8 @@ use crate::shared_transaction::SharedTransaction;
 use crate::slot::Slot;
 use crate::stats::Stats;
 use crate::store::Store;
-use crate::store_state::{Held, State, Ticket};
+use crate::store_state::{Held, Served, State, Ticket};
+use crate::touched::Underway;
 use crate::types::Type;
 use crate::waiting::Verdict;
 use std::fmt;
@@ -38,6 +39,20 @@ pub(crate) struct Behind {
     pub(crate) link: Arc<Link>,
     pub(crate) past: Past,
     pub(crate) commits: AtomicU64,
+    /// The commits that may come after what is asked later.
+    pub(crate) underway: Underway,
+}
+
+impl Behind {
+    /// Since when what others let go may be missing in an answer about an object that is asked for now: from this moment
+    /// on, or from the first one where a commit is underway there.
+    pub(crate) fn since(&self, served: &Served, object: u32) -> u64 {
+        if self.underway.is_at(object) {
+            0
+        } else {
+            served.let_go.moment()
+        }
+    }
 }
 
 /// The one lock of a store.
@@ -85,7 +100,7 @@ impl SharedStore {
     pub(crate) fn behind(state: State, calls: Vec<Arc<Calls>>, link: Arc<Link>, past: Past) -> SharedStore {
         let state = Arc::new(Mutex::new(state));
         link.belongs_to(&state);
-        SharedStore { state, calls, behind: Some(Behind { link, past, commits: AtomicU64::new(0) }), is_closed: false }
+        SharedStore { state, calls, behind: Some(Behind { link, past, commits: AtomicU64::new(0), underway: Underway::new() }), is_closed: false }
     }
 
     /// The lock, where this process isn't a fork: there whoever had it may be gone.
@@ -221,7 +236,7 @@ impl SharedStore {
             None => self.begin_in_memory(worker)?,
         };
         let age = age.unwrap_or_else(|| guard.waiting.next_age());
-        Ok(SharedTransaction::of(self, Ticket { id, age, worker }))
+        Ok(SharedTransaction::of(self, Ticket::new(id, age, worker)))
     }
 
     /// Begins a transaction in memory.

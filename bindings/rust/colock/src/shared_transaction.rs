@@ -6,6 +6,7 @@ use crate::operation::Operation;
 use crate::request::Id;
 use crate::shared::{Lock, SharedStore};
 use crate::store_state::Ticket;
+use crate::touched::Touched;
 use crate::transaction::Reply;
 use std::sync::{Mutex, OnceLock};
 use std::time::{Duration, Instant};
@@ -35,6 +36,8 @@ pub struct SharedTransaction<'s> {
     beginning: Mutex<()>,
     age: u64,
     worker: u8,
+    /// At which objects it has executed operations.
+    touched: Touched,
     /// For whom it waited where it was aborted as a victim.
     victim_of: Option<u64>,
     /// Whether its end was asked for.
@@ -52,7 +55,16 @@ impl<'s> SharedTransaction<'s> {
 
     /// One whose begin is put off.
     pub(crate) fn put_off(store: &'s SharedStore, age: u64) -> SharedTransaction<'s> {
-        SharedTransaction { store, name: OnceLock::new(), beginning: Mutex::new(()), age, worker: 0, victim_of: None, is_over: false }
+        SharedTransaction {
+            store,
+            name: OnceLock::new(),
+            beginning: Mutex::new(()),
+            age,
+            worker: 0,
+            touched: Touched::default(),
+            victim_of: None,
+            is_over: false,
+        }
     }
 
     pub(crate) fn age(&self) -> u64 {
@@ -66,7 +78,11 @@ impl<'s> SharedTransaction<'s> {
 
     /// What each call needs, but for the first one. Where its begin was put off it begins now.
     fn ticket(&self) -> Result<Ticket, Error> {
-        self.begun(None).map(|id| Ticket { id, age: self.age, worker: self.worker })
+        self.begun(None).map(|id| self.ticket_of(id))
+    }
+
+    fn ticket_of(&self, id: Id) -> Ticket {
+        Ticket { id, age: self.age, worker: self.worker, touched: self.touched }
     }
 
     /// Its name, where it has begun or does so now. A full epoch is waited for this long.
@@ -161,7 +177,7 @@ impl<'s> SharedTransaction<'s> {
 
     fn called(&mut self, object: u32, call: Call<'_>) -> Result<Reply, Error> {
         self.is_open()?;
-        match self.first_told(object, call)? {
+        let reply = match self.first_told(object, call)? {
             None => self.store.call_now(self.ticket()?, object, call),
             Some(first) => {
                 if let Ok(Reply::Busy { .. }) = first.reply {
@@ -169,7 +185,9 @@ impl<'s> SharedTransaction<'s> {
                 }
                 first.reply
             }
-        }
+        };
+        self.touched.note(object, &reply);
+        reply
     }
 
     /// What was answered to a first call that was made together with the begin.
@@ -236,17 +254,22 @@ impl<'s> SharedTransaction<'s> {
 
     fn waited(&mut self, object: u32, call: Call<'_>, limit: Duration) -> Result<Reply, Error> {
         self.is_open()?;
-        let deadline = Instant::now().checked_add(limit);
+        let done = self.done_by(object, call, Instant::now().checked_add(limit));
+        self.touched.note(object, &done);
+        if let Err(Error::Deadlock { waited_for }) = done {
+            self.victim_of = Some(waited_for);
+        }
+        done
+    }
+
+    /// What is answered to a call that waits up to a moment.
+    fn done_by(&mut self, object: u32, call: Call<'_>, deadline: Option<Instant>) -> Result<Reply, Error> {
         let in_the_way = match self.first_told(object, call)? {
             None => None,
             Some(FirstTold { reply: Ok(Reply::Busy { blocker }), since }) => Some(InTheWay { blocker, since }),
             Some(first) => return first.reply,
         };
-        let done = self.store.call_waiting(self.ticket()?, object, call, deadline, in_the_way);
-        if let Err(Error::Deadlock { waited_for }) = done {
-            self.victim_of = Some(waited_for);
-        }
-        done
+        self.store.call_waiting(self.ticket()?, object, call, deadline, in_the_way)
     }
 
     /// What [`SharedTransaction::call`] would be answered now. Nothing is executed, and it is no event.
@@ -364,7 +387,7 @@ impl Drop for SharedTransaction<'_> {
         // what was put off begins too, so that its history is the same everywhere; but a full epoch isn't waited for
         let Ok(id) = self.begun(Some(Duration::ZERO)) else { return };
         if let Ok(mut guard) = self.store.enter() {
-            abort_at_once(&mut guard, Ticket { id, age: self.age, worker: self.worker });
+            abort_at_once(&mut guard, self.ticket_of(id));
             self.store.leave(guard);
         }
     }

@@ -7,6 +7,7 @@ use crate::request::{Id, Request};
 use crate::slot::Slot;
 use crate::stats::Stats;
 use crate::store::Store;
+use crate::touched::{LetGo, Touched};
 use crate::transaction::Transaction;
 use crate::waiting::{Verdict, Waiting};
 use std::collections::BTreeMap;
@@ -26,9 +27,9 @@ pub(crate) struct Served {
     pub(crate) conversation: Conversation,
     pub(crate) begins: Begins,
     /// Who is open, and the last moment at which operations were taken back.
-    pub(crate) open: BTreeMap<u64, u64>,
-    /// How often operations were taken back.
-    pub(crate) moment: u64,
+    open: BTreeMap<u64, u64>,
+    /// When transactions let go.
+    pub(crate) let_go: LetGo,
 }
 
 /// A transaction, by what every call of it needs.
@@ -37,6 +38,16 @@ pub(crate) struct Ticket {
     pub(crate) id: Id,
     pub(crate) age: u64,
     pub(crate) worker: u8,
+    /// At which objects it has executed operations.
+    pub(crate) touched: Touched,
+}
+
+impl Ticket {
+    /// That of one that has just begun.
+    #[inline]
+    pub(crate) fn new(id: Id, age: u64, worker: u8) -> Ticket {
+        Ticket { id, age, worker, touched: Touched::default() }
+    }
 }
 
 /// What is under the lock.
@@ -115,20 +126,31 @@ impl State {
 
 impl Served {
     pub(crate) fn new(conversation: Conversation) -> Served {
-        Served { conversation, begins: Begins::default(), open: BTreeMap::new(), moment: 0 }
+        Served { conversation, begins: Begins::default(), open: BTreeMap::new(), let_go: LetGo::new() }
     }
 
-    /// Whether a blocker in an answer may have let go since a moment.
-    pub(crate) fn has_let_go(&self, number: u64, since: u64) -> bool {
-        self.open.get(&number).is_none_or(|moment| *moment > since)
+    /// How many are open.
+    pub(crate) fn open_count(&self) -> usize {
+        self.open.len()
+    }
+
+    /// Whether a blocker in an answer about an object may have let go since a moment, or another one that touched it.
+    pub(crate) fn has_let_go(&self, number: u64, object: u32, since: u64) -> bool {
+        self.let_go.is_after(object, since) || self.open.get(&number).is_none_or(|moment| *moment > since)
     }
 
     /// A transaction takes operations back.
-    pub(crate) fn takes_back(&mut self, number: u64) {
-        self.moment += 1;
-        if let Some(moment) = self.open.get_mut(&number) {
-            *moment = self.moment;
+    pub(crate) fn takes_back(&mut self, ticket: Ticket) {
+        self.let_go.lets_go(ticket.touched);
+        if let Some(moment) = self.open.get_mut(&ticket.id.number) {
+            *moment = self.let_go.moment();
         }
+    }
+
+    /// The end of a transaction was asked for.
+    pub(crate) fn ends(&mut self, ticket: Ticket) {
+        self.let_go.lets_go(ticket.touched);
+        self.open.remove(&ticket.id.number);
     }
 }
 

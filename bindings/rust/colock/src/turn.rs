@@ -58,7 +58,7 @@ impl SharedStore {
             Some(behind) => self.begin_served(behind, self.enter()?, Lock::Kept)?,
         };
         let age = guard.waiting.next_age();
-        Ok(Turn { store: self, guard: Some(guard), ticket: Ticket { id, age, worker: 0 } })
+        Ok(Turn { store: self, guard: Some(guard), ticket: Ticket::new(id, age, 0) })
     }
 }
 
@@ -74,10 +74,12 @@ impl<'s> Turn<'s> {
     #[inline]
     fn called(&mut self, object: u32, call: Call<'_>) -> Result<Reply, Error> {
         let ticket = self.ticket;
-        if let Some(reply) = self.called_at_once(object, call) {
-            return reply;
-        }
-        self.with(|store, guard| store.call_within_turn(guard, ticket, object, call, Lock::Kept))
+        let reply = match self.called_at_once(object, call) {
+            Some(reply) => reply,
+            None => self.with(|store, guard| store.call_within_turn(guard, ticket, object, call, Lock::Kept)),
+        };
+        self.ticket.touched.note(object, &reply);
+        reply
     }
 
     /// The shortest way, in memory and where nobody waits: no life ends in a turn.

@@ -4,6 +4,7 @@
 
 use crate::calls::Calls;
 use crate::operation::Operation;
+use crate::touched::Touched;
 use std::collections::BTreeMap;
 use std::sync::{Arc, Condvar, OnceLock};
 
@@ -132,10 +133,19 @@ impl Waiting {
         self.edge(number).is_some()
     }
 
+    /// A transaction waits, and is about to look again.
+    pub(crate) fn enter(&mut self, asker: Asker) {
+        self.waiter(asker);
+    }
+
+    fn waiter(&mut self, asker: Asker) -> &mut Waiter {
+        let new = || Waiter { asker, edge: None, bed: Arc::default() };
+        self.waiters.entry(asker.number).or_insert_with(new)
+    }
+
     /// A transaction is to wait for another one. Where that makes a circle, it is broken.
     pub(crate) fn wait_for(&mut self, asker: Asker, to: u64, by_gate: bool) -> Arc<Bed> {
-        let new = || Waiter { asker, edge: None, bed: Arc::default() };
-        let waiter = self.waiters.entry(asker.number).or_insert_with(new);
+        let waiter = self.waiter(asker);
         waiter.edge = Some(Edge { to, by_gate });
         let bed = Arc::clone(&waiter.bed);
         if let Some(circle) = self.circle(asker.number) {
@@ -173,17 +183,17 @@ impl Waiting {
     /// A transaction waits no more, and who waited after it at the gate looks again.
     pub(crate) fn leave(&mut self, number: u64) {
         if self.waiters.remove(&number).is_some() {
-            self.wake_where(|edge| edge.by_gate && edge.to == number);
+            self.wake_where(|_, edge| edge.by_gate && edge.to == number);
         }
     }
 
-    /// A transaction has ended.
-    pub(crate) fn ended(&mut self, number: u64) {
+    /// A transaction has ended, which had touched some objects.
+    pub(crate) fn ended(&mut self, number: u64, touched: Touched) {
         if self.is_empty() {
             return;
         }
         self.leave(number);
-        self.wake_where(|edge| edge.to == number);
+        self.let_go(number, touched);
         self.onlookers.retain(|(of, bed)| {
             let is_over = *of == number;
             if is_over {
@@ -193,19 +203,22 @@ impl Waiting {
         });
     }
 
-    /// A transaction has taken operations back.
-    pub(crate) fn rolled_back(&mut self, number: u64) {
-        self.wake_where(|edge| edge.to == number);
+    /// Who waits for a transaction looks again, and whoever waits for others at an object that it touched: it may be free by
+    /// now. Who waits there by the gate is woken by whom it waits for.
+    pub(crate) fn let_go(&mut self, number: u64, touched: Touched) {
+        self.wake_where(|object, edge| edge.to == number || !edge.by_gate && touched.has(object));
     }
 
     /// All look again.
     pub(crate) fn wake_all(&mut self) {
-        self.wake_where(|_| true);
+        self.wake_where(|_, _| true);
         self.onlookers.drain(..).for_each(|(_, bed)| bed.woken.notify_all());
     }
 
-    fn wake_where(&mut self, is_meant: impl Fn(Edge) -> bool) {
-        for waiter in self.waiters.values_mut().filter(|waiter| waiter.edge.is_some_and(&is_meant)) {
+    /// Wakes those who sleep at such an object, with such an edge.
+    fn wake_where(&mut self, is_meant: impl Fn(u32, Edge) -> bool) {
+        let is_meant = |waiter: &Waiter| waiter.edge.is_some_and(|edge| is_meant(waiter.asker.object, edge));
+        for waiter in self.waiters.values_mut().filter(|waiter| is_meant(waiter)) {
             waiter.wake();
         }
     }
@@ -238,6 +251,8 @@ impl Waiting {
 mod tests {
     use super::{Asker, Verdict, Waiting};
     use crate::calls::Calls;
+    use crate::touched::tests::touched;
+    use crate::touched::Touched;
     use crate::{Kind, Operation, Type};
 
     const UP: Operation = Operation::listed(0);
@@ -295,14 +310,30 @@ mod tests {
         waiting.wait_for(asker(1, DOWN), 90, false);
         waiting.wait_for(asker(2, UP), 10, true);
         let bed = waiting.look_on(90);
-        waiting.rolled_back(90);
+        waiting.let_go(90, Touched::default());
         assert!(!waiting.is_asleep(10) && waiting.is_asleep(20) && waiting.looks_on(&bed));
         waiting.leave(10);
         assert!(!waiting.is_asleep(20));
-        waiting.ended(90);
+        waiting.ended(90, Touched::default());
         assert!(!waiting.looks_on(&bed));
         waiting.leave(20);
         assert!(waiting.is_empty());
+    }
+
+    #[test]
+    fn who_waits_where_somebody_else_lets_go_looks_again() {
+        let mut waiting = Waiting::new();
+        let at = |age, object| Asker { object, ..asker(age, DOWN) };
+        waiting.wait_for(at(1, 3), 90, false);
+        waiting.wait_for(at(2, 4), 90, false);
+        waiting.wait_for(at(5, 3), 10, true);
+        waiting.ended(70, touched(&[2, 5]));
+        assert!(waiting.is_asleep(10) && waiting.is_asleep(20) && waiting.is_asleep(50));
+        // who waits by the gate stays there
+        waiting.ended(70, touched(&[3]));
+        assert!(!waiting.is_asleep(10) && waiting.is_asleep(20) && waiting.is_asleep(50));
+        waiting.let_go(70, touched(&[4]));
+        assert!(!waiting.is_asleep(20));
     }
 
     #[test]

@@ -5,6 +5,7 @@ mod common;
 use colock::{Error, Kind, OpenOptions, Reply, SharedStore, Type};
 use common::{counter, lines, program, until_asleep, Drawn, Folder, LONG};
 use std::fs;
+use std::path::Path;
 use std::process::Command;
 use std::sync::Mutex;
 use std::thread;
@@ -44,8 +45,23 @@ fn kill(store: &SharedStore) {
     assert!(Command::new("kill").args(["-9", &process]).status().unwrap().success());
 }
 
+/// The lives by which histories are named, in order, each behind the id of a store.
+fn lives(archive: &Path) -> Vec<String> {
+    let names = fs::read_dir(archive).unwrap().map(|file| file.unwrap().file_name().into_string().unwrap());
+    let mut lives: Vec<String> = names.map(|name| life_in(&name).unwrap_or_else(|| panic!("{name}"))).collect();
+    lives.sort();
+    lives
+}
+
+/// The life in the name of a history.
+fn life_in(name: &str) -> Option<String> {
+    let (id, life) = name.strip_suffix(".history")?.split_once('-')?;
+    let is_id = id.len() == 32 && id.bytes().all(|digit| matches!(digit, b'0'..=b'9' | b'a'..=b'f'));
+    is_id.then(|| life.to_owned())
+}
+
 fn is_gone(process: u32) -> bool {
-    !std::path::Path::new(&format!("/proc/{process}")).exists()
+    !Path::new(&format!("/proc/{process}")).exists()
 }
 
 #[test]
@@ -285,7 +301,7 @@ fn an_archive_tells_of_epochs_that_ended() {
     store.transact(|turn| turn.call(0, "tick")?.executed()).unwrap();
     store.begin().unwrap().abort().unwrap();
     store.close().unwrap();
-    assert!(archive.join("1.history").exists());
+    assert_eq!(lives(&archive), ["1"]);
     let store = options.clone().open(folder.file("a.db")).unwrap();
     let mut t = store.begin().unwrap();
     assert_eq!((t.call(0, "tick"), t.id().as_str()), (Ok(Reply::Operation(0.into())), "3.0"));
@@ -299,7 +315,7 @@ fn an_archive_tells_of_epochs_that_ended() {
     assert_eq!(store.committed("3.0"), Ok(Some(true)));
     store.close().unwrap();
     let store = options.open(folder.file("a.db")).unwrap();
-    assert!(archive.join("4.history").exists());
+    assert_eq!(lives(&archive), ["1", "4"]);
     // by the archive alone 3.0 may be another transaction of the epoch, and 3.1 one of an epoch that isn't archived
     assert_eq!((store.committed("3.0"), store.committed("3.1"), store.committed("1.0")), (Ok(None), Ok(None), Ok(Some(true))));
 }
@@ -326,12 +342,35 @@ fn of_earlier_lives_of_an_archived_epoch_nothing_is_told() {
     assert_eq!(early.iter().map(|id| store.committed(id)).collect::<Vec<_>>(), [Ok(Some(true)), Ok(Some(false)), Ok(Some(true))]);
     store.close().unwrap();
     // the epoch had two lives, and its history has the name of the second
-    assert!(archive.join("2.history").exists() && !archive.join("1.history").exists());
+    assert_eq!(lives(&archive), ["2"]);
     let store = options.open(folder.file("a.db")).unwrap();
     assert_eq!((late.as_str(), store.committed(&late), store.committed("2.9")), ("2.3", Ok(Some(true)), Ok(None)));
     for id in early.iter().map(String::as_str).chain(["1.9"]) {
         assert_eq!(store.committed(id), Ok(None), "{id}");
     }
+}
+
+#[test]
+fn of_other_stores_an_archive_tells_nothing() {
+    let folder = Folder::new();
+    let archive = folder.file("old");
+    fs::create_dir(&archive).unwrap();
+    let options = options(&[kept(wheel())]);
+    let end = |file: &str, commits: bool, options: OpenOptions<'static>| {
+        let store = options.open(folder.file(file)).unwrap();
+        let t = store.begin().unwrap();
+        assert_eq!(t.id(), "1.0");
+        if commits { t.commit() } else { t.abort() }.unwrap();
+        store.close().unwrap();
+    };
+    // the epoch of each ends in life 1, and is kept of two of them
+    end("a.db", true, options.clone().archive(&archive));
+    end("b.db", false, options.clone().archive(&archive));
+    end("c.db", true, options.clone());
+    assert_eq!(lives(&archive), ["1", "1"]);
+    fs::copy(fs::read_dir(&archive).unwrap().next().unwrap().unwrap().path(), archive.join("1.history")).unwrap();
+    let told = ["a.db", "b.db", "c.db"].map(|file| options.clone().archive(&archive).open(folder.file(file)).unwrap().committed("1.0"));
+    assert_eq!(told, [Ok(Some(true)), Ok(Some(false)), Ok(None)]);
 }
 
 #[test]
@@ -357,9 +396,13 @@ fn an_archive_that_fails_is_told_at_the_end() {
     let folder = Folder::new();
     let archive = folder.file("old");
     fs::create_dir(&archive).unwrap();
-    fs::write(archive.join("1.history"), "of another store").unwrap();
-    let store = options(&[kept(wheel())]).archive(&archive).open(folder.file("a.db")).unwrap();
+    let options = options(&[kept(wheel())]).archive(&archive);
+    options.clone().open(folder.file("a.db")).unwrap().close().unwrap();
+    let store = options.open(folder.file("a.db")).unwrap();
     store.begin().unwrap().commit().unwrap();
+    // the epoch ends in life 3, of which there is a history already
+    let first = fs::read_dir(&archive).unwrap().next().unwrap().unwrap().path();
+    fs::rename(&first, first.to_str().unwrap().replace("-1.history", "-3.history")).unwrap();
     match store.close() {
         Err(Error::ConnectionLost(words)) => assert!(words.contains("file exists"), "{words}"),
         other => panic!("{other:?}"),

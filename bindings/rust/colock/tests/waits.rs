@@ -41,6 +41,12 @@ over_both![
     a_take_in_escrow_waits_for_a_take,
     the_gate_of_a_number_lets_gives_pass,
     takes_in_escrow_deadlock,
+    a_give_that_commits_lets_a_take_go,
+    an_abort_of_another_one_lets_a_take_go,
+    a_drop_of_another_one_lets_a_take_go,
+    a_rollback_of_another_one_lets_a_take_go,
+    what_lets_go_elsewhere_wakes_nobody,
+    a_give_at_any_moment_lets_a_take_go,
 ];
 
 /// A transaction that counts an object up, by 1.
@@ -527,4 +533,126 @@ fn takes_in_escrow_deadlock(make: Make) {
         assert_eq!(victim.join().unwrap().0, Err(Error::Deadlock { waited_for: blocker }));
     });
     assert_eq!((store.kept(0), store.kept(1), store.stats().deadlocks), (Ok(0), Ok(0), 1));
+}
+
+/// A store of counters up to 20 in escrow, each at 10.
+fn tens(make: Make, objects: u32) -> Fixture {
+    let of = Type::counter(20, &[3, 5, 8, 10], Kind::Escrow).unwrap();
+    let store = make(&vec![&of; objects as usize]);
+    for object in 0..objects {
+        store.transact(|turn| turn.call(object, "inc:10")?.executed()).unwrap();
+    }
+    store
+}
+
+/// A transaction that has made a call at object 0.
+fn caller<'s>(store: &'s SharedStore, name: &str) -> SharedTransaction<'s> {
+    let mut caller = store.begin().unwrap();
+    caller.call(0, name).unwrap().executed().unwrap();
+    caller
+}
+
+/// That a take of 5, which waits for the first of those that are open, is let go by what `end` does, while that one stays
+/// open.
+fn is_let_go(store: &SharedStore, first: &SharedTransaction<'_>, end: impl FnOnce()) {
+    let name = first.number();
+    thread::scope(|scope| {
+        let waiter = scope.spawn(|| {
+            let mut waiter = store.begin().unwrap();
+            assert_eq!(waiter.would(0, "dec:5"), Ok(Reply::Busy { blocker: name }));
+            let reply = waiter.call_within(0, "dec:5", LONG);
+            waiter.commit().unwrap();
+            reply
+        });
+        until_asleep(store, 1);
+        thread::sleep(SHORT);
+        assert!(!waiter.is_finished());
+        end();
+        waiter.join().unwrap().unwrap().executed().unwrap();
+    });
+    assert_eq!(store.stats().waits, 1);
+}
+
+fn a_give_that_commits_lets_a_take_go(make: Make) {
+    for is_turn in [true, false] {
+        let store = tens(make, 1);
+        let first = caller(&store, "dec:8");
+        is_let_go(&store, &first, || match is_turn {
+            true => store.transact(|turn| turn.call(0, "inc:10")?.executed()).map(drop).unwrap(),
+            false => caller(&store, "inc:10").commit().unwrap(),
+        });
+        first.commit().unwrap();
+        assert_eq!(store.kept(0), Ok(7));
+    }
+}
+
+/// Two that have taken 3 of 10 keep out together who takes 5, and neither does so alone. The first is named.
+fn is_let_go_by_the_second(make: Make, end: impl FnOnce(&mut Option<SharedTransaction<'_>>)) {
+    let store = tens(make, 1);
+    let first = caller(&store, "dec:3");
+    let mut second = Some(caller(&store, "dec:3"));
+    is_let_go(&store, &first, || end(&mut second));
+    drop(second);
+    first.commit().unwrap();
+    assert_eq!(store.kept(0), Ok(2));
+}
+
+fn an_abort_of_another_one_lets_a_take_go(make: Make) {
+    is_let_go_by_the_second(make, |second| second.take().unwrap().abort().unwrap());
+}
+
+fn a_drop_of_another_one_lets_a_take_go(make: Make) {
+    is_let_go_by_the_second(make, |second| drop(second.take()));
+}
+
+fn a_rollback_of_another_one_lets_a_take_go(make: Make) {
+    is_let_go_by_the_second(make, |second| second.as_mut().unwrap().rollback(1).unwrap());
+}
+
+fn what_lets_go_elsewhere_wakes_nobody(make: Make) {
+    let store = tens(make, 2);
+    let first = caller(&store, "dec:8");
+    is_let_go(&store, &first, || {
+        store.transact(|turn| turn.call(1, "inc:10")?.executed()).unwrap();
+        let mut other = store.begin().unwrap();
+        other.call(1, "dec:3").unwrap().executed().unwrap();
+        other.rollback(1).unwrap();
+        other.commit().unwrap();
+        // at the object, but nothing is executed
+        let mut busy = store.begin().unwrap();
+        assert_eq!(busy.call(0, "dec:10"), Ok(Reply::Busy { blocker: first.number() + 1 }));
+        busy.abort().unwrap();
+        thread::sleep(SHORT);
+        assert_eq!(store.stats().waits, 1);
+        caller(&store, "inc:10").commit().unwrap();
+    });
+    first.commit().unwrap();
+    assert_eq!((store.kept(0), store.kept(1)), (Ok(7), Ok(20)));
+}
+
+/// A take of 5 and a give of 5 at the same moment, again and again, while one who took 8 of 10 stays open. The give lets the
+/// take go, whichever is asked for first.
+fn a_give_at_any_moment_lets_a_take_go(make: Make) {
+    let store = tens(make, 1);
+    let first = caller(&store, "dec:8");
+    for turn in 0..100 {
+        let meet = Barrier::new(2);
+        thread::scope(|scope| {
+            let waiter = scope.spawn(|| {
+                let mut waiter = store.begin().unwrap();
+                meet.wait();
+                let reply = waiter.call_within(0, "dec:5", LONG);
+                waiter.abort().unwrap();
+                reply
+            });
+            let give = caller(&store, "inc:5");
+            meet.wait();
+            thread::sleep(Duration::from_micros(turn * 10));
+            give.commit().unwrap();
+            waiter.join().unwrap().unwrap().executed().unwrap();
+        });
+        caller(&store, "dec:5").commit().unwrap();
+    }
+    first.commit().unwrap();
+    assert_eq!(store.kept(0), Ok(2));
 }
