@@ -65,7 +65,7 @@ static uint32_t commands_of(char *text, struct command **commands) {
 }
 
 /* Gives a store the commands, and answers how many of them it refused. */
-static uint64_t run(colock_handle *store, const struct command *commands, uint32_t count) {
+static uint64_t run(colock_store *store, const struct command *commands, uint32_t count) {
     uint64_t refused = 0, begun;
     colock_answer answer;
     for (const struct command *it = commands; it < commands + count; it++) {
@@ -95,8 +95,8 @@ static uint64_t with_event(uint64_t sum, const colock_event *e) {
     return sum;
 }
 
-static colock_handle store_of(colock_handle *type, uint32_t objects) {
-    colock_handle store = COLOCK_HANDLE;
+static colock_store store_of(colock_type *type, uint32_t objects) {
+    colock_store store = COLOCK_EMPTY;
     need(colock_store_new(&store) == COLOCK_OK, "no store");
     for (uint32_t x = 0; x < objects; x++) need(colock_store_add(&store, type) == COLOCK_OK, "no object");
     need(colock_store_open(&store, MOST_EVENTS) == COLOCK_OK, "not opened");
@@ -110,7 +110,7 @@ static uint64_t now(void) {
 }
 
 /* The whole history, after the abort of what is open. */
-static colock_event *events_of(colock_handle *store, uint64_t *count) {
+static colock_event *events_of(colock_store *store, uint64_t *count) {
     uint64_t forgotten;
     need(colock_abort_all(store) == COLOCK_OK, "no abort");
     need(colock_event_count(store, count, &forgotten) == COLOCK_OK, "no count");
@@ -130,19 +130,19 @@ static void note_events(const colock_event *events, uint64_t count, struct outco
 }
 
 /* The nanoseconds in which a new store follows these events. */
-static uint64_t following(colock_handle *type, uint32_t objects, const colock_event *events, uint64_t count) {
-    colock_handle store = store_of(type, objects);
+static uint64_t following(colock_type *type, uint32_t objects, const colock_event *events, uint64_t count) {
+    colock_store store = store_of(type, objects);
     uint64_t made, start = now();
     need(colock_follow(&store, events, (size_t)count, &made) == COLOCK_OK, "not followed");
     uint64_t time = now() - start;
-    colock_close(&store);
+    colock_store_close(&store);
     return time;
 }
 
 /* A run in a new store. */
-static struct outcome measured(colock_handle *type, uint32_t objects, const struct command *commands, uint32_t count) {
+static struct outcome measured(colock_type *type, uint32_t objects, const struct command *commands, uint32_t count) {
     struct outcome told = {0};
-    colock_handle store = store_of(type, objects);
+    colock_store store = store_of(type, objects);
     uint64_t made, start = now();
     told.refused = run(&store, commands, count);
     told.nanoseconds = now() - start;
@@ -153,7 +153,7 @@ static struct outcome measured(colock_handle *type, uint32_t objects, const stru
     }
     colock_event *events = events_of(&store, &made);
     note_events(events, made, &told);
-    colock_close(&store);
+    colock_store_close(&store);
     told.follow = following(type, objects, events, made);
     free(events);
     return told;
@@ -167,7 +167,7 @@ int main(int count, char **words) {
     need(count == 6, "KIND FILE OBJECTS COMMANDS ROUNDS");
     size_t bytes;
     char *text = read_file(words[2], &bytes);
-    colock_handle type = COLOCK_HANDLE;
+    colock_type type = COLOCK_EMPTY;
     colock_fault fault;
     uint32_t kind = strcmp(words[1], "undo") == 0 ? COLOCK_UNDO : strcmp(words[1], "escrow") == 0 ? COLOCK_ESCROW : COLOCK_INTENTIONS;
     need(colock_type_read(&type, kind, text, bytes, &fault) == COLOCK_OK, "no type");
@@ -188,5 +188,5 @@ int main(int count, char **words) {
     printf("kept %" PRIu64 "\nhistory %" PRIu64 "\n", it.kept, it.history);
     free(commands);
     free(text);
-    return colock_close(&type) != COLOCK_OK;
+    return colock_type_close(&type) != COLOCK_OK;
 }

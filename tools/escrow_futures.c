@@ -42,7 +42,7 @@ static operations calls[CALLS];
 /* How many of the first calls are executed, and not asked alone. */
 static int executed;
 static int most, base;
-static colock_handle store = COLOCK_HANDLE;
+static colock_store store = COLOCK_EMPTY;
 static uint64_t transactions[OPEN];
 static done own[OPEN];
 static uint64_t states, requests, replies, busies, nones;
@@ -232,13 +232,13 @@ static size_t write_number(char *text, size_t room) {
 static void open_store(bool is_any) {
     static char text[65536];
     size_t count = is_any ? write_number(text, sizeof text) : write_table(text, sizeof text);
-    colock_handle type = COLOCK_HANDLE;
+    colock_type type = COLOCK_EMPTY;
     colock_fault fault;
     want(colock_type_read(&type, COLOCK_ESCROW, text, count, &fault), "type");
     want(colock_store_new(&store), "new store");
     want(colock_store_add(&store, &type), "object");
     want(colock_store_open(&store, UINT32_MAX), "store");
-    want(colock_close(&type), "close");
+    want(colock_type_close(&type), "close");
 }
 
 /* A first transaction gives what is committed, and the others begin. */
@@ -263,7 +263,7 @@ int main(int count, char **words) {
         open_store(is_any);
         begin();
         go(0, depth);
-        want(colock_close(&store), "close");
+        want(colock_store_close(&store), "close");
     }
     printf("a %s from 0 to %d, at most %d operations: ", is_any ? "number" : "table", most, depth);
     printf("%" PRIu64 " states, ", states);

@@ -5,7 +5,8 @@
  * becomes of them. A type is read from a text or made of a family, and checked for a kind of recovery. A store
  * is made of objects of such types. Transactions call operations of the objects, and commit or abort.
  *
- *     colock_handle type = COLOCK_HANDLE, store = COLOCK_HANDLE;
+ *     colock_type type = COLOCK_EMPTY;
+ *     colock_store store = COLOCK_EMPTY;
  *     colock_type_counter(&type, COLOCK_UNDO, 5, amounts, 1, &fault);
  *     colock_store_new(&store);
  *     colock_store_add(&store, &type);
@@ -13,16 +14,16 @@
  *     colock_begin(&store, 0, &transaction);
  *     colock_call(&store, 0, transaction, 0, "inc:1", 5, &answer);
  *     colock_commit(&store, 0, transaction);
- *     colock_close(&store);
- *     colock_close(&type);
+ *     colock_store_close(&store);
+ *     colock_type_close(&type);
  *
  * What each call does is proved, under what its caller owes:
  *
- * - Each pointer is there (not NULL, not even where its count is 0), is aligned, and points at as many values
- *   as its count says, which may be written where the pointer isn't const.
+ * - Each pointer is there, is aligned, and points at as many values as its count says, which may be written where the
+ *   pointer isn't const. With a count of 0 it may be anything, NULL too, if the compiler is gcc or clang (see the end).
  * - What the pointers of one call point at is apart: no two of them share a byte.
- * - A handle is COLOCK_HANDLE (zeros) before its first call. It is never copied or written by others. Before
- *   its memory goes, colock_close is called, or what it holds is lost.
+ * - A handle, which is a colock_type or a colock_store, is COLOCK_EMPTY (zeros) before its first call. It is never
+ *   copied or written by others. Before its memory goes it is closed, or what it holds is lost.
  * - A handle is in one call at a time; for more threads there is a lock of the caller round each call. Any
  *   thread may make the next call. Reading a type or a store is a call like any other.
  *
@@ -49,13 +50,24 @@ uint32_t colock_version(void);
 /* The release that this header is of, which `colock --version` and the packages of other languages have too. */
 #define COLOCK_RELEASE "0.2.0"
 
-/* What a handle holds is a type, the objects of a store that is being made, or a store. */
-typedef struct colock_handle {
+/* A handle that holds a type, or nothing. */
+typedef struct colock_type {
     bool live_;
     void *at_;
-} colock_handle;
+} colock_type;
 
-#define COLOCK_HANDLE {false, NULL}
+/* A handle that holds the objects of a store that is being made, or a store, or nothing. */
+typedef struct colock_store {
+    bool live_;
+    void *at_;
+} colock_store;
+
+struct colock_held; /* either of them, see colock_close */
+
+/* Either handle before its first call. */
+#define COLOCK_EMPTY {false, NULL}
+/* Its name up to 0.2, which goes with the next version. */
+#define COLOCK_HANDLE COLOCK_EMPTY
 
 typedef enum colock_code {
     COLOCK_OK = 0,                /* it was done */
@@ -86,6 +98,42 @@ typedef enum colock_code {
     COLOCK_NO_ROOM = 25,          /* the room is too small */
     COLOCK_NEEDS_ESCROW = 26      /* the type is a number, which is for COLOCK_ESCROW alone */
 } colock_code;
+
+/* The words of a code, which no one frees or writes. */
+static inline const char *colock_strerror(uint32_t code) {
+    /* another number is no colock_code, nor may C++ make it one */
+    if (code > COLOCK_NEEDS_ESCROW) return "the code is unknown";
+    switch ((colock_code)code) {
+    case COLOCK_OK: return "it was done";
+    case COLOCK_NOT_OPEN: return "the transaction isn't open";
+    case COLOCK_NO_OBJECT: return "the store has no object of this number";
+    case COLOCK_NO_CALL: return "no operation of the object's type has this call";
+    case COLOCK_TOO_MANY_OPEN: return "too many transactions are open";
+    case COLOCK_HISTORY_FULL: return "the history is full";
+    case COLOCK_NO_MEMORY: return "memory was refused";
+    case COLOCK_BAD_ROLLBACK: return "a rollback of no operation, or of more than there are";
+    case COLOCK_NOT_HELD: return "the handle holds nothing, or another sort of thing than is meant";
+    case COLOCK_IN_USE: return "the handle holds something already";
+    case COLOCK_BAD_TEXT: return "the text has a fault";
+    case COLOCK_REFUSED: return "the checker refuses the type";
+    case COLOCK_BAD_KIND: return "no kind of recovery has this number";
+    case COLOCK_NO_OBJECTS: return "a store of no object";
+    case COLOCK_TOO_MANY_OBJECTS: return "a store of too many objects";
+    case COLOCK_NOT_FRESH: return "an object isn't as it was made";
+    case COLOCK_BAD_MAX: return "the limit of events is out of its range";
+    case COLOCK_STILL_OPEN: return "a transaction is open";
+    case COLOCK_NOT_MADE: return "no command makes this event now";
+    case COLOCK_FORGOTTEN: return "these events were forgotten";
+    case COLOCK_BAD_PARAMETER: return "a parameter is out of its range or in a wrong order";
+    case COLOCK_TOO_LARGE: return "the type would have too many operations or states";
+    case COLOCK_NO_STATE: return "the type has no state of this number";
+    case COLOCK_NO_OPERATION: return "the type has no such operation";
+    case COLOCK_NOT_LEGAL: return "the operation isn't legal in the state";
+    case COLOCK_NO_ROOM: return "the room is too small";
+    case COLOCK_NEEDS_ESCROW: return "the type is a number, which needs escrow";
+    }
+    return "the code is unknown";
+}
 
 /* How an object recovers from aborts. */
 typedef enum colock_kind {
@@ -193,72 +241,72 @@ typedef struct colock_event {
  * `number` and not `type`, it is a number up to 4,294,967,295 (docs/formats.md), which has no table and is for
  * COLOCK_ESCROW alone. It lists amounts, and with `take any` or `give any` a call may have each one from 1 to the
  * greatest number, as take:17; with `value` it answers what it is. COLOCK_BAD_TEXT, COLOCK_NEEDS_ESCROW. */
-uint32_t colock_type_read(colock_handle *type, uint32_t kind, const char *text, size_t text_count,
+uint32_t colock_type_read(colock_type *type, uint32_t kind, const char *text, size_t text_count,
                           colock_fault *fault);
 /* The type of a text with made tables in place of its own: which operations conflict is found out. It isn't a number's.
  * COLOCK_BAD_TEXT. */
-uint32_t colock_type_tables(colock_handle *type, uint32_t kind, const char *text, size_t text_count,
+uint32_t colock_type_tables(colock_type *type, uint32_t kind, const char *text, size_t text_count,
                             colock_fault *fault);
 /* An account of 0 to `cap`: calls deposit:A and withdraw:A for each amount A, and balance. Amounts are 1 to
  * cap, ascending. COLOCK_BAD_PARAMETER, COLOCK_TOO_LARGE. */
-uint32_t colock_type_account(colock_handle *type, uint32_t kind, uint64_t cap, const uint64_t *amounts,
+uint32_t colock_type_account(colock_type *type, uint32_t kind, uint64_t cap, const uint64_t *amounts,
                              size_t amounts_count, colock_fault *fault);
 /* A counter of 0 to `cap`: calls inc:A and dec:A for each amount A. As an account. */
-uint32_t colock_type_counter(colock_handle *type, uint32_t kind, uint64_t cap, const uint64_t *amounts,
+uint32_t colock_type_counter(colock_type *type, uint32_t kind, uint64_t cap, const uint64_t *amounts,
                              size_t amounts_count, colock_fault *fault);
 /* A stock of 0 to `cap`: calls give:A and take:A for each amount A, whose refusals, full and short, are replies. As
  * an account. */
-uint32_t colock_type_stock(colock_handle *type, uint32_t kind, uint64_t cap, const uint64_t *amounts,
+uint32_t colock_type_stock(colock_type *type, uint32_t kind, uint64_t cap, const uint64_t *amounts,
                            size_t amounts_count, colock_fault *fault);
 /* A set of the words of a text of `elements_count` bytes, with spaces between them: calls insert:E, delete:E and
  * member:E for each element E. COLOCK_BAD_PARAMETER, COLOCK_TOO_LARGE. */
-uint32_t colock_type_set(colock_handle *type, uint32_t kind, const char *elements, size_t elements_count,
+uint32_t colock_type_set(colock_type *type, uint32_t kind, const char *elements, size_t elements_count,
                          colock_fault *fault);
 /* A semiqueue of at most `capacity` items: calls enq:E for each element E, and deq, whose reply is any item.
  * As a set. */
-uint32_t colock_type_semiqueue(colock_handle *type, uint32_t kind, const char *elements,
+uint32_t colock_type_semiqueue(colock_type *type, uint32_t kind, const char *elements,
                                size_t elements_count, uint64_t capacity, colock_fault *fault);
 /* A queue of at most `capacity` items: calls enq:E for each element E, and deq, whose reply is the item that is
  * longest there. As a set. */
-uint32_t colock_type_queue(colock_handle *type, uint32_t kind, const char *elements, size_t elements_count,
+uint32_t colock_type_queue(colock_type *type, uint32_t kind, const char *elements, size_t elements_count,
                            uint64_t capacity, colock_fault *fault);
 /* `count` seats, 1 to 6, each free, held or booked: calls hold:I, release:I, book:I and cancel:I for each I from 1
  * to `count`, and free, whose reply is how many are free. COLOCK_BAD_PARAMETER, COLOCK_TOO_LARGE. */
-uint32_t colock_type_seats(colock_handle *type, uint32_t kind, uint64_t count, colock_fault *fault);
+uint32_t colock_type_seats(colock_type *type, uint32_t kind, uint64_t count, colock_fault *fault);
 /* A number of 0 to `max`, which has no table and is for COLOCK_ESCROW alone: calls take:A and give:A for each amount A,
  * whose refusals, short and full, are replies. Amounts are 1 to max, ascending, at most 16. COLOCK_BAD_PARAMETER,
  * COLOCK_TOO_LARGE, COLOCK_NEEDS_ESCROW. */
-uint32_t colock_type_number(colock_handle *type, uint32_t kind, uint32_t max, const uint32_t *amounts,
+uint32_t colock_type_number(colock_type *type, uint32_t kind, uint32_t max, const uint32_t *amounts,
                             size_t amounts_count, colock_fault *fault);
 
 /* What is read of a type. COLOCK_NOT_HELD where the handle holds no type. */
-uint32_t colock_type_shape(colock_handle *type, colock_shape *shape);
+uint32_t colock_type_shape(colock_type *type, colock_shape *shape);
 /* Its name, without an ending zero: the first bytes of the room, and their number, which is at most
  * COLOCK_LONGEST_NAME. COLOCK_NO_ROOM. */
 #define COLOCK_LONGEST_NAME 32
-uint32_t colock_type_name(colock_handle *type, char *room, size_t room_count, uint64_t *count);
+uint32_t colock_type_name(colock_type *type, char *room, size_t room_count, uint64_t *count);
 /* The call of operation k, and its reply, as the name; at a place alone those of its line, as take:any and ok.
  * COLOCK_NO_OPERATION, COLOCK_NO_ROOM. */
-uint32_t colock_type_call(colock_handle *type, uint64_t k, char *room, size_t room_count, uint64_t *count);
-uint32_t colock_type_reply(colock_handle *type, uint64_t k, char *room, size_t room_count, uint64_t *count);
+uint32_t colock_type_call(colock_type *type, uint64_t k, char *room, size_t room_count, uint64_t *count);
+uint32_t colock_type_reply(colock_type *type, uint64_t k, char *room, size_t room_count, uint64_t *count);
 /* The state to which operation k leads from state s. COLOCK_NO_STATE, COLOCK_NO_OPERATION, COLOCK_NOT_LEGAL. */
-uint32_t colock_type_step(colock_handle *type, uint64_t s, uint64_t k, uint64_t *to);
+uint32_t colock_type_step(colock_type *type, uint64_t s, uint64_t k, uint64_t *to);
 /* Whether operation `requested` conflicts with `other`, which another transaction holds: 1 or 0. Of
  * COLOCK_ESCROW it is 0: there is no conflict table, and the numbers say what has to wait. Both are places.
  * COLOCK_NO_OPERATION. */
-uint32_t colock_type_conflict(colock_handle *type, uint64_t requested, uint64_t other, uint32_t *told);
+uint32_t colock_type_conflict(colock_type *type, uint64_t requested, uint64_t other, uint32_t *told);
 
 /* ---- The making of a store */
 
 /* Begins a store behind a handle that holds nothing: no object yet. COLOCK_IN_USE, COLOCK_NO_MEMORY. */
-uint32_t colock_store_new(colock_handle *store);
+uint32_t colock_store_new(colock_store *store);
 /* Adds an object of a type, in its initial state. Objects are numbered from 0; several may have one type. The
  * type may be closed before the store. COLOCK_NOT_HELD, COLOCK_NO_MEMORY. */
-uint32_t colock_store_add(colock_handle *store, colock_handle *type);
+uint32_t colock_store_add(colock_store *store, colock_type *type);
 /* Makes the store of its objects, whose history will have at most `max_events` events, those that were
  * forgotten among them. COLOCK_NOT_HELD, COLOCK_NO_OBJECTS, COLOCK_TOO_MANY_OBJECTS, COLOCK_BAD_MAX,
  * COLOCK_NO_MEMORY: the objects stay. */
-uint32_t colock_store_open(colock_handle *store, uint64_t max_events);
+uint32_t colock_store_open(colock_store *store, uint64_t max_events);
 
 /* ---- Transactions
  *
@@ -267,39 +315,39 @@ uint32_t colock_store_open(colock_handle *store, uint64_t max_events);
 
 /* Begins a transaction, and gives its number: they count from 0. COLOCK_TOO_MANY_OPEN, COLOCK_HISTORY_FULL,
  * COLOCK_NO_MEMORY. */
-uint32_t colock_begin(colock_handle *store, uint8_t worker, uint64_t *transaction);
+uint32_t colock_begin(colock_store *store, uint8_t worker, uint64_t *transaction);
 /* Calls, for a transaction, the call of this name at an object. COLOCK_OK whether the answer is COLOCK_REPLY,
  * COLOCK_BUSY or COLOCK_NONE: each is an event. COLOCK_NOT_OPEN, COLOCK_NO_OBJECT, COLOCK_NO_CALL,
  * COLOCK_HISTORY_FULL, COLOCK_NO_MEMORY. */
-uint32_t colock_call(colock_handle *store, uint8_t worker, uint64_t transaction, uint32_t object,
+uint32_t colock_call(colock_store *store, uint8_t worker, uint64_t transaction, uint32_t object,
                      const char *name, size_t name_count, colock_answer *answer);
 /* The same by the number of the call, for which colock_call_number is asked once; of take:17 it is
  * COLOCK_OPERATION(p, 17), p being the place of take:any. */
-uint32_t colock_call_op(colock_handle *store, uint8_t worker, uint64_t transaction, uint32_t object,
+uint32_t colock_call_op(colock_store *store, uint8_t worker, uint64_t transaction, uint32_t object,
                         uint64_t call, colock_answer *answer);
 /* The number of the call of this name at an object: that of the first operation that has it, of `value` that of the
  * value 0. COLOCK_NO_OBJECT, COLOCK_NO_CALL. */
-uint32_t colock_call_number(colock_handle *store, uint32_t object, const char *name, size_t name_count,
+uint32_t colock_call_number(colock_store *store, uint32_t object, const char *name, size_t name_count,
                             uint64_t *call);
 /* What colock_call or colock_call_op would be answered now. It is no event, and needs no memory. The codes are
  * theirs, COLOCK_HISTORY_FULL too. */
-uint32_t colock_would(colock_handle *store, uint64_t transaction, uint32_t object, const char *name,
+uint32_t colock_would(colock_store *store, uint64_t transaction, uint32_t object, const char *name,
                       size_t name_count, colock_answer *answer);
-uint32_t colock_would_op(colock_handle *store, uint64_t transaction, uint32_t object, uint64_t call,
+uint32_t colock_would_op(colock_store *store, uint64_t transaction, uint32_t object, uint64_t call,
                          colock_answer *answer);
 /* Ends a transaction, which needs no memory and no more room in the history. COLOCK_NOT_OPEN. */
-uint32_t colock_commit(colock_handle *store, uint8_t worker, uint64_t transaction);
-uint32_t colock_abort(colock_handle *store, uint8_t worker, uint64_t transaction);
+uint32_t colock_commit(colock_store *store, uint8_t worker, uint64_t transaction);
+uint32_t colock_abort(colock_store *store, uint8_t worker, uint64_t transaction);
 /* Takes back the last operations of a transaction, which stays open. COLOCK_NOT_OPEN, COLOCK_BAD_ROLLBACK,
  * COLOCK_HISTORY_FULL, COLOCK_NO_MEMORY. */
-uint32_t colock_rollback(colock_handle *store, uint8_t worker, uint64_t transaction, uint64_t operations);
+uint32_t colock_rollback(colock_store *store, uint8_t worker, uint64_t transaction, uint64_t operations);
 /* The state that is kept of an object: of COLOCK_UNDO with what open transactions did, and of the other kinds
  * without it. COLOCK_NO_OBJECT. */
-uint32_t colock_kept(colock_handle *store, uint32_t object, uint64_t *state);
+uint32_t colock_kept(colock_store *store, uint32_t object, uint64_t *state);
 /* How many transactions are open. */
-uint32_t colock_open_count(colock_handle *store, uint64_t *count);
+uint32_t colock_open_count(colock_store *store, uint64_t *count);
 /* Aborts each open transaction, in ascending order, as the worker that began it. */
-uint32_t colock_abort_all(colock_handle *store);
+uint32_t colock_abort_all(colock_store *store);
 
 /* ---- Events
  *
@@ -307,24 +355,108 @@ uint32_t colock_abort_all(colock_handle *store);
 
 /* Copies the events from `from` on into the room, as many as there are and it has room for; gives how many.
  * COLOCK_FORGOTTEN where `from` is below the number of those that were forgotten. */
-uint32_t colock_events(colock_handle *store, uint64_t from, colock_event *room, size_t room_count,
+uint32_t colock_events(colock_store *store, uint64_t from, colock_event *room, size_t room_count,
                        uint64_t *count);
 /* How many events there were, and how many of the first of them were forgotten. */
-uint32_t colock_event_count(colock_handle *store, uint64_t *count, uint64_t *forgotten);
+uint32_t colock_event_count(colock_store *store, uint64_t *count, uint64_t *forgotten);
 /* Forgets the first `events` of those that are in memory, or all. */
-uint32_t colock_forget(colock_handle *store, uint64_t events);
+uint32_t colock_forget(colock_store *store, uint64_t events);
 /* Makes events again, one after another, each as its worker: a store becomes what another was. `made` gets
  * how many were made, at COLOCK_NOT_MADE and COLOCK_NO_MEMORY too: those before that place are made. */
-uint32_t colock_follow(colock_handle *store, const colock_event *events, size_t events_count, uint64_t *made);
+uint32_t colock_follow(colock_store *store, const colock_event *events, size_t events_count, uint64_t *made);
 
 /* ---- Ends */
 
 /* Begins anew at the states that are kept, with no event and the same limit: transactions count from 0 again.
  * COLOCK_STILL_OPEN, COLOCK_NO_MEMORY. */
-uint32_t colock_renew(colock_handle *store);
-/* Ends what the handle holds, of any sort; a store aborts what is open. The handle may be used again.
- * COLOCK_NOT_HELD where it holds nothing. */
-uint32_t colock_close(colock_handle *handle);
+uint32_t colock_renew(colock_store *store);
+/* Ends what the handle holds; a store aborts what is open. The handle may be used again. COLOCK_NOT_HELD where it
+ * holds nothing. In C it is called by one of the two below. */
+uint32_t colock_close(struct colock_held *handle);
+static inline uint32_t colock_type_close(colock_type *type) {
+    return colock_close((struct colock_held *)type);
+}
+static inline uint32_t colock_store_close(colock_store *store) {
+    return colock_close((struct colock_held *)store);
+}
+
+/* ---- Pointers where a count is 0
+ *
+ * The library's own functions promise nothing at a NULL, not even where its count is 0. So before each that has a count
+ * comes an inline function of the same name, which gives it another pointer then. The C library puts its own checks
+ * before its functions in this way. Who calls by an address calls the library's function, and owes it a pointer. */
+#ifdef __GNUC__
+#define COLOCK_BEFORE_(call, parameters, arguments) \
+    uint32_t call##_itself_ parameters __asm__(#call) __attribute__((nonnull)); \
+    extern inline __attribute__((gnu_inline, always_inline)) uint32_t call parameters { \
+        uint64_t none_ = 0; \
+        return call##_itself_ arguments; \
+    }
+#define COLOCK_THERE_(kind, pointer) pointer##_count ? pointer : (kind *)&none_
+
+COLOCK_BEFORE_(colock_type_read,
+               (colock_type *type, uint32_t kind, const char *text, size_t text_count, colock_fault *fault),
+               (type, kind, COLOCK_THERE_(const char, text), text_count, fault))
+COLOCK_BEFORE_(colock_type_tables,
+               (colock_type *type, uint32_t kind, const char *text, size_t text_count, colock_fault *fault),
+               (type, kind, COLOCK_THERE_(const char, text), text_count, fault))
+COLOCK_BEFORE_(colock_type_account,
+               (colock_type *type, uint32_t kind, uint64_t cap, const uint64_t *amounts, size_t amounts_count,
+                colock_fault *fault),
+               (type, kind, cap, COLOCK_THERE_(const uint64_t, amounts), amounts_count, fault))
+COLOCK_BEFORE_(colock_type_counter,
+               (colock_type *type, uint32_t kind, uint64_t cap, const uint64_t *amounts, size_t amounts_count,
+                colock_fault *fault),
+               (type, kind, cap, COLOCK_THERE_(const uint64_t, amounts), amounts_count, fault))
+COLOCK_BEFORE_(colock_type_stock,
+               (colock_type *type, uint32_t kind, uint64_t cap, const uint64_t *amounts, size_t amounts_count,
+                colock_fault *fault),
+               (type, kind, cap, COLOCK_THERE_(const uint64_t, amounts), amounts_count, fault))
+COLOCK_BEFORE_(colock_type_set,
+               (colock_type *type, uint32_t kind, const char *elements, size_t elements_count, colock_fault *fault),
+               (type, kind, COLOCK_THERE_(const char, elements), elements_count, fault))
+COLOCK_BEFORE_(colock_type_semiqueue,
+               (colock_type *type, uint32_t kind, const char *elements, size_t elements_count, uint64_t capacity,
+                colock_fault *fault),
+               (type, kind, COLOCK_THERE_(const char, elements), elements_count, capacity, fault))
+COLOCK_BEFORE_(colock_type_queue,
+               (colock_type *type, uint32_t kind, const char *elements, size_t elements_count, uint64_t capacity,
+                colock_fault *fault),
+               (type, kind, COLOCK_THERE_(const char, elements), elements_count, capacity, fault))
+COLOCK_BEFORE_(colock_type_number,
+               (colock_type *type, uint32_t kind, uint32_t max, const uint32_t *amounts, size_t amounts_count,
+                colock_fault *fault),
+               (type, kind, max, COLOCK_THERE_(const uint32_t, amounts), amounts_count, fault))
+COLOCK_BEFORE_(colock_type_name,
+               (colock_type *type, char *room, size_t room_count, uint64_t *count),
+               (type, COLOCK_THERE_(char, room), room_count, count))
+COLOCK_BEFORE_(colock_type_call,
+               (colock_type *type, uint64_t k, char *room, size_t room_count, uint64_t *count),
+               (type, k, COLOCK_THERE_(char, room), room_count, count))
+COLOCK_BEFORE_(colock_type_reply,
+               (colock_type *type, uint64_t k, char *room, size_t room_count, uint64_t *count),
+               (type, k, COLOCK_THERE_(char, room), room_count, count))
+COLOCK_BEFORE_(colock_call,
+               (colock_store *store, uint8_t worker, uint64_t transaction, uint32_t object, const char *name,
+                size_t name_count, colock_answer *answer),
+               (store, worker, transaction, object, COLOCK_THERE_(const char, name), name_count, answer))
+COLOCK_BEFORE_(colock_call_number,
+               (colock_store *store, uint32_t object, const char *name, size_t name_count, uint64_t *call),
+               (store, object, COLOCK_THERE_(const char, name), name_count, call))
+COLOCK_BEFORE_(colock_would,
+               (colock_store *store, uint64_t transaction, uint32_t object, const char *name, size_t name_count,
+                colock_answer *answer),
+               (store, transaction, object, COLOCK_THERE_(const char, name), name_count, answer))
+COLOCK_BEFORE_(colock_events,
+               (colock_store *store, uint64_t from, colock_event *room, size_t room_count, uint64_t *count),
+               (store, from, COLOCK_THERE_(colock_event, room), room_count, count))
+COLOCK_BEFORE_(colock_follow,
+               (colock_store *store, const colock_event *events, size_t events_count, uint64_t *made),
+               (store, COLOCK_THERE_(const colock_event, events), events_count, made))
+
+#undef COLOCK_THERE_
+#undef COLOCK_BEFORE_
+#endif
 
 #ifdef __cplusplus
 }

@@ -7,7 +7,7 @@
 #include <stdio.h>
 #include <string.h>
 
-static uint32_t counter_store(colock_handle *store, colock_handle *type) {
+static uint32_t counter_store(colock_store *store, colock_type *type) {
     static const uint64_t amounts[] = {1};
     colock_fault fault;
     uint32_t code = colock_type_counter(type, COLOCK_UNDO, 5, amounts, 1, &fault);
@@ -16,12 +16,12 @@ static uint32_t counter_store(colock_handle *store, colock_handle *type) {
     return code ? code : colock_store_open(store, 1000000);
 }
 
-static void call(colock_handle *store, uint64_t transaction, const char *name) {
+static void call(colock_store *store, uint64_t transaction, const char *name) {
     colock_answer answer;
     uint32_t code = colock_call(store, 0, transaction, 0, name, strlen(name), &answer);
     printf("%" PRIu64 " %s: ", transaction, name);
     if (code)
-        printf("refused, code %" PRIu32 "\n", code);
+        printf("refused: %s\n", colock_strerror(code));
     else if (answer.kind == COLOCK_REPLY)
         printf("done\n");
     else if (answer.kind == COLOCK_BUSY)
@@ -31,7 +31,8 @@ static void call(colock_handle *store, uint64_t transaction, const char *name) {
 }
 
 int main(void) {
-    colock_handle type = COLOCK_HANDLE, store = COLOCK_HANDLE;
+    colock_type type = COLOCK_EMPTY;
+    colock_store store = COLOCK_EMPTY;
     if (colock_version() != COLOCK_VERSION || counter_store(&store, &type) != COLOCK_OK) return 1;
     uint64_t first, second, kept;
     if (colock_begin(&store, 0, &first) || colock_begin(&store, 0, &second)) return 1;
@@ -41,5 +42,5 @@ int main(void) {
     if (colock_abort(&store, 0, first)) return 1;
     if (colock_commit(&store, 0, second) || colock_kept(&store, 0, &kept)) return 1;
     printf("kept: %" PRIu64 "\n", kept);
-    return colock_close(&store) || colock_close(&type);
+    return colock_store_close(&store) || colock_type_close(&type);
 }

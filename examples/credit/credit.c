@@ -15,8 +15,8 @@ enum { ALICE, BOB, ACCOUNTS };
 static const char *const names[] = {"Alice", "Bob"};
 
 typedef struct bank {
-    colock_handle type;
-    colock_handle store;
+    colock_type type;
+    colock_store store;
 } bank;
 
 /* Ends the program where a call has a code that it can't have here but where memory was refused. */
@@ -107,7 +107,7 @@ static void side_by_side(bank *b) {
 }
 
 int main(void) {
-    bank b = {COLOCK_HANDLE, COLOCK_HANDLE};
+    bank b = {COLOCK_EMPTY, COLOCK_EMPTY};
     open_bank(&b);
     pay_in(&b, ALICE, 10);
     transfer(&b, ALICE, BOB, 5);
@@ -121,7 +121,7 @@ int main(void) {
         must(colock_kept(&b.store, i, &balance));
         printf("%s has %" PRIu64 "\n", names[i], balance);
     }
-    must(colock_close(&b.store));
-    must(colock_close(&b.type));
+    must(colock_store_close(&b.store));
+    must(colock_type_close(&b.type));
     return 0;
 }

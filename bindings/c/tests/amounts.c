@@ -17,21 +17,21 @@ static bool is_named(uint32_t code, const char *room, const uint64_t *count, con
 }
 
 /* Whether an operation has these names. */
-static bool has_names(colock_handle *type, uint64_t k, const char *call, const char *reply) {
+static bool has_names(colock_type *type, uint64_t k, const char *call, const char *reply) {
     char room[COLOCK_LONGEST_NAME];
     uint64_t count = UNTOUCHED;
     bool is_called = is_named(colock_type_call(type, k, room, sizeof room, &count), room, &count, call);
     return is_called && is_named(colock_type_reply(type, k, room, sizeof room, &count), room, &count, reply);
 }
 
-static bool is_no_operation(colock_handle *type, uint64_t k) {
+static bool is_no_operation(colock_type *type, uint64_t k) {
     char room[COLOCK_LONGEST_NAME];
     uint64_t count = UNTOUCHED;
     WANT(colock_type_reply(type, k, room, sizeof room, &count) == COLOCK_NO_OPERATION);
     return colock_type_call(type, k, room, sizeof room, &count) == COLOCK_NO_OPERATION && count == UNTOUCHED;
 }
 
-static void read_purse(colock_handle *type) {
+static void read_purse(colock_type *type) {
     colock_fault fault;
     WANT(colock_type_read(type, COLOCK_ESCROW, TEXT(PURSE), &fault) == COLOCK_OK);
 }
@@ -42,7 +42,7 @@ static void operations_have_names(void) {
         7, COLOCK_OPERATION(7, 1), COLOCK_OPERATION(TAKE_100, 100), COLOCK_OPERATION(TAKE_ANY, 0), COLOCK_OPERATION(TAKE_ANY, 10001),
         COLOCK_OPERATION(VALUE, 10001), COLOCK_OPERATION(TAKE_ANY, UINT32_MAX), COLOCK_OPERATION(255, UINT32_MAX) + 1, UINT64_MAX,
     };
-    colock_handle type = COLOCK_HANDLE;
+    colock_type type = COLOCK_EMPTY;
     colock_shape shape;
     read_purse(&type);
     WANT(colock_type_shape(&type, &shape) == COLOCK_OK && shape.states == 10001 && shape.initial == 500 && shape.ops == 7);
@@ -54,10 +54,10 @@ static void operations_have_names(void) {
     WANT(has_names(&type, COLOCK_OPERATION(GIVE_ANY, 10000), "give:10000", "ok") && has_names(&type, COLOCK_OPERATION(GIVE_FULL, 1), "give:1", "full"));
     WANT(has_names(&type, COLOCK_OPERATION(VALUE, 0), "value", "0") && has_names(&type, COLOCK_OPERATION(VALUE, 10000), "value", "10000"));
     for (size_t i = 0; i < sizeof none / sizeof *none; i++) WANT(is_no_operation(&type, none[i]));
-    WANT(colock_close(&type) == COLOCK_OK);
+    WANT(colock_type_close(&type) == COLOCK_OK);
 }
 
-static uint64_t step(colock_handle *type, uint64_t s, uint64_t k) {
+static uint64_t step(colock_type *type, uint64_t s, uint64_t k) {
     uint64_t to = UNTOUCHED;
     uint32_t code = colock_type_step(type, s, k, &to);
     WANT(code == COLOCK_OK || (code == COLOCK_NOT_LEGAL && to == UNTOUCHED));
@@ -65,7 +65,7 @@ static uint64_t step(colock_handle *type, uint64_t s, uint64_t k) {
 }
 
 static void operations_have_steps(void) {
-    colock_handle type = COLOCK_HANDLE;
+    colock_type type = COLOCK_EMPTY;
     uint64_t to = UNTOUCHED;
     uint32_t told = UNTOUCHED;
     read_purse(&type);
@@ -81,22 +81,22 @@ static void operations_have_steps(void) {
     WANT(colock_type_step(&type, 500, COLOCK_OPERATION(TAKE_ANY, 10001), &to) == COLOCK_NO_OPERATION && to == UNTOUCHED);
     WANT(colock_type_conflict(&type, COLOCK_OPERATION(TAKE_ANY, 17), 0, &told) == COLOCK_NO_OPERATION && told == UNTOUCHED);
     WANT(colock_type_conflict(&type, TAKE_ANY, VALUE, &told) == COLOCK_OK && told == 0);
-    WANT(colock_close(&type) == COLOCK_OK);
+    WANT(colock_type_close(&type) == COLOCK_OK);
 }
 
 /* ---- objects */
 
 /* A store of one purse, with this many open transactions. */
-static void open_purse(colock_handle *store, uint64_t transactions) {
-    colock_handle type = COLOCK_HANDLE;
+static void open_purse(colock_store *store, uint64_t transactions) {
+    colock_type type = COLOCK_EMPTY;
     read_purse(&type);
     WANT(colock_store_new(store) == COLOCK_OK && colock_store_add(store, &type) == COLOCK_OK);
-    WANT(colock_store_open(store, 100) == COLOCK_OK && colock_close(&type) == COLOCK_OK);
+    WANT(colock_store_open(store, 100) == COLOCK_OK && colock_type_close(&type) == COLOCK_OK);
     for (uint64_t t = 0; t < transactions; t++) WANT(begin(store, 0) == t);
 }
 
 /* Whether a call is answered so, by its name and by its number, and would be. */
-static bool answers(colock_handle *store, uint64_t t, const char *name, uint64_t kind, uint64_t number) {
+static bool answers(colock_store *store, uint64_t t, const char *name, uint64_t kind, uint64_t number) {
     colock_answer a = {UNTOUCHED, UNTOUCHED}, would = {UNTOUCHED, UNTOUCHED}, would_op = {UNTOUCHED, UNTOUCHED};
     uint64_t call = UNTOUCHED;
     WANT(colock_would(store, t, 0, TEXT(name), &would) == COLOCK_OK && would.kind == kind && would.number == number);
@@ -107,13 +107,13 @@ static bool answers(colock_handle *store, uint64_t t, const char *name, uint64_t
     return a.kind == kind && a.number == number;
 }
 
-static bool keeps(colock_handle *store, uint64_t number) {
+static bool keeps(colock_store *store, uint64_t number) {
     uint64_t kept = UNTOUCHED;
     return colock_kept(store, 0, &kept) == COLOCK_OK && kept == number;
 }
 
 /* 500 - 17 + 3 = 486, and without the 100 that are taken by a line of their own 386. */
-static void any_amount_is_taken_and_given(colock_handle *s) {
+static void any_amount_is_taken_and_given(colock_store *s) {
     open_purse(s, 1);
     WANT(answers(s, 0, "take:17", COLOCK_REPLY, COLOCK_OPERATION(TAKE_ANY, 17)));
     WANT(answers(s, 0, "give:3", COLOCK_REPLY, COLOCK_OPERATION(GIVE_ANY, 3)));
@@ -129,9 +129,9 @@ static bool is_event(const colock_event *e, uint32_t kind, uint64_t t, uint64_t 
 }
 
 /* What was done there, with its amounts, another purse does again; and not with an amount that isn't legal, or none. */
-static void events_have_amounts(colock_handle *s) {
+static void events_have_amounts(colock_store *s) {
     static const uint64_t illegal[] = {COLOCK_OPERATION(TAKE_ANY, 387), COLOCK_OPERATION(VALUE, 387), COLOCK_OPERATION(TAKE_ANY, 100), TAKE_ANY, VALUE};
-    colock_handle other = COLOCK_HANDLE;
+    colock_store other = COLOCK_EMPTY;
     colock_event room[10];
     uint64_t count = UNTOUCHED, made = UNTOUCHED;
     WANT(colock_events(s, 0, room, 10, &count) == COLOCK_OK && count == 9);
@@ -145,10 +145,10 @@ static void events_have_amounts(colock_handle *s) {
         colock_event wrong = {.transaction = 1, .kind = COLOCK_EVENT_OP, .op = illegal[i]};
         WANT(colock_follow(&other, &wrong, 1, &made) == COLOCK_NOT_MADE && made == 0);
     }
-    WANT(colock_close(&other) == COLOCK_OK);
+    WANT(colock_store_close(&other) == COLOCK_OK);
 }
 
-static void these_are_no_calls(colock_handle *s) {
+static void these_are_no_calls(colock_store *s) {
     static const char *const names[] = {"take:0", "take:007", "take:10001", "take:4294967313", "take:any", "take:", "take", "give:any", "value:500", "500"};
     /* the place alone, an amount that is listed, a second operation, a value that isn't 0, and more than there may be */
     static const uint64_t numbers[] = {
@@ -173,7 +173,7 @@ static void these_are_no_calls(colock_handle *s) {
 
 /* A value is read where nobody else may move the number, and then nobody may until the reader ends. */
 static void a_value_waits_for_an_open_give(void) {
-    colock_handle s = COLOCK_HANDLE;
+    colock_store s = COLOCK_EMPTY;
     colock_event room[12];
     uint64_t count = UNTOUCHED;
     open_purse(&s, 3);
@@ -188,18 +188,18 @@ static void a_value_waits_for_an_open_give(void) {
     WANT(is_event(&room[4], COLOCK_EVENT_BUSY, 1, VALUE, 0) && is_event(&room[8], COLOCK_EVENT_BUSY, 2, GIVE_ANY, 1));
     WANT(colock_commit(&s, 0, 1) == COLOCK_OK && keeps(&s, 486));
     WANT(answers(&s, 2, "value", COLOCK_REPLY, COLOCK_OPERATION(VALUE, 486)));
-    WANT(colock_close(&s) == COLOCK_OK);
+    WANT(colock_store_close(&s) == COLOCK_OK);
 }
 
 int main(void) {
-    colock_handle s = COLOCK_HANDLE;
+    colock_store s = COLOCK_EMPTY;
     an_operation_is_one_number();
     operations_have_names();
     operations_have_steps();
     any_amount_is_taken_and_given(&s);
     events_have_amounts(&s);
     these_are_no_calls(&s);
-    WANT(colock_close(&s) == COLOCK_OK);
+    WANT(colock_store_close(&s) == COLOCK_OK);
     a_value_waits_for_an_open_give();
     puts("amounts and values: as they have to be");
     return 0;

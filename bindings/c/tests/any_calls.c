@@ -6,7 +6,13 @@ enum { HANDLES = 4 };
 
 typedef enum sort { NOTHING, A_TYPE, OBJECTS, A_STORE } sort;
 
-static colock_handle handles[HANDLES];
+/* Each is given to calls of either sort, which tell by what it holds. */
+typedef union handle {
+    colock_type type;
+    colock_store store;
+} handle;
+
+static handle handles[HANDLES];
 static sort holds[HANDLES];
 static uint64_t drawn;
 static long by_code[COLOCK_NEEDS_ESCROW + 1];
@@ -25,6 +31,11 @@ static uint64_t number(void) {
 /* The number of an operation, or of a call: half of them have an amount. */
 static uint64_t operation(void) {
     return draw(2) ? number() : COLOCK_OPERATION(draw(6), (uint32_t)number());
+}
+
+/* By either name, whatever is there. */
+static uint32_t ended(int h) {
+    return draw(2) ? colock_type_close(&handles[h].type) : colock_store_close(&handles[h].store);
 }
 
 static void counted(uint32_t code) {
@@ -48,16 +59,16 @@ static void make_type(int h) {
     colock_fault fault = {UNTOUCHED, UNTOUCHED, UNTOUCHED, UNTOUCHED, UNTOUCHED};
     uint32_t kind = (uint32_t)(draw(9) ? draw(3) : number()), code = 0;
     switch (draw(10)) {
-    case 0: code = colock_type_read(&handles[h], kind, TEXT(text), &fault); break;
-    case 1: code = colock_type_tables(&handles[h], kind, TEXT(text), &fault); break;
-    case 2: code = colock_type_account(&handles[h], kind, number(), amounts, draw(4), &fault); break;
-    case 3: code = colock_type_counter(&handles[h], kind, number(), amounts, draw(4), &fault); break;
-    case 4: code = colock_type_set(&handles[h], kind, TEXT(words), &fault); break;
-    case 5: code = colock_type_semiqueue(&handles[h], kind, TEXT(words), number(), &fault); break;
-    case 6: code = colock_type_stock(&handles[h], kind, number(), amounts, draw(4), &fault); break;
-    case 7: code = colock_type_queue(&handles[h], kind, TEXT(words), number(), &fault); break;
-    case 8: code = colock_type_seats(&handles[h], kind, number(), &fault); break;
-    case 9: code = colock_type_number(&handles[h], kind, (uint32_t)number(), small, draw(4), &fault); break;
+    case 0: code = colock_type_read(&handles[h].type, kind, TEXT(text), &fault); break;
+    case 1: code = colock_type_tables(&handles[h].type, kind, TEXT(text), &fault); break;
+    case 2: code = colock_type_account(&handles[h].type, kind, number(), amounts, draw(4), &fault); break;
+    case 3: code = colock_type_counter(&handles[h].type, kind, number(), amounts, draw(4), &fault); break;
+    case 4: code = colock_type_set(&handles[h].type, kind, TEXT(words), &fault); break;
+    case 5: code = colock_type_semiqueue(&handles[h].type, kind, TEXT(words), number(), &fault); break;
+    case 6: code = colock_type_stock(&handles[h].type, kind, number(), amounts, draw(4), &fault); break;
+    case 7: code = colock_type_queue(&handles[h].type, kind, TEXT(words), number(), &fault); break;
+    case 8: code = colock_type_seats(&handles[h].type, kind, number(), &fault); break;
+    case 9: code = colock_type_number(&handles[h].type, kind, (uint32_t)number(), small, draw(4), &fault); break;
     }
     WANT((code == COLOCK_IN_USE) == (holds[h] != NOTHING));
     WANT((code == COLOCK_BAD_TEXT || code == COLOCK_REFUSED) == (fault.line != UNTOUCHED));
@@ -71,34 +82,34 @@ static void read_type(int h) {
     size_t size = draw(COLOCK_LONGEST_NAME + 1);
     uint64_t count = UNTOUCHED, to = UNTOUCHED;
     uint32_t told = UNTOUCHED;
-    uint32_t code = meant_for(h, A_TYPE, colock_type_shape(&handles[h], &shape));
+    uint32_t code = meant_for(h, A_TYPE, colock_type_shape(&handles[h].type, &shape));
     WANT((code == COLOCK_OK) == (shape.states != UNTOUCHED));
     memset(room, '!', sizeof room);
     switch (draw(3)) {
-    case 0: code = colock_type_name(&handles[h], room, size, &count); break;
-    case 1: code = colock_type_call(&handles[h], operation(), room, size, &count); break;
-    case 2: code = colock_type_reply(&handles[h], operation(), room, size, &count); break;
+    case 0: code = colock_type_name(&handles[h].type, room, size, &count); break;
+    case 1: code = colock_type_call(&handles[h].type, operation(), room, size, &count); break;
+    case 2: code = colock_type_reply(&handles[h].type, operation(), room, size, &count); break;
     }
     meant_for(h, A_TYPE, code);
     WANT(code ? count == UNTOUCHED && room[0] == '!' : count <= size && room[count - 1] != '!');
-    code = meant_for(h, A_TYPE, colock_type_step(&handles[h], number(), operation(), &to));
+    code = meant_for(h, A_TYPE, colock_type_step(&handles[h].type, number(), operation(), &to));
     WANT(code == COLOCK_OK || to == UNTOUCHED);
-    code = meant_for(h, A_TYPE, colock_type_conflict(&handles[h], operation(), operation(), &told));
+    code = meant_for(h, A_TYPE, colock_type_conflict(&handles[h].type, operation(), operation(), &told));
     WANT(code ? told == UNTOUCHED : told <= 1);
 }
 
 static void make_store(int h) {
     int of = (h + 1 + (int)draw(HANDLES - 1)) % HANDLES;
-    uint32_t code = colock_store_new(&handles[h]);
+    uint32_t code = colock_store_new(&handles[h].store);
     WANT((code == COLOCK_IN_USE) == (holds[h] != NOTHING));
     counted(code);
     if (!code) holds[h] = OBJECTS;
     for (uint64_t n = draw(4); n; n--) {
-        code = colock_store_add(&handles[h], &handles[of]);
+        code = colock_store_add(&handles[h].store, &handles[of].type);
         WANT((code == COLOCK_NOT_HELD) == (holds[h] != OBJECTS || holds[of] != A_TYPE));
         counted(code);
     }
-    code = meant_for(h, OBJECTS, colock_store_open(&handles[h], draw(2) ? 1000 : number()));
+    code = meant_for(h, OBJECTS, colock_store_open(&handles[h].store, draw(2) ? 1000 : number()));
     if (!code) holds[h] = A_STORE;
 }
 
@@ -114,13 +125,13 @@ static void transact(int h) {
     uint8_t worker = (uint8_t)number();
     uint64_t c = operation();
     switch (draw(7)) {
-    case 0: code = colock_call(&handles[h], worker, t, x, TEXT(name), &answer); break;
-    case 1: code = colock_call_op(&handles[h], worker, t, x, c, &answer); break;
-    case 2: code = colock_would(&handles[h], t, x, TEXT(name), &answer); break;
-    case 3: code = colock_would_op(&handles[h], t, x, c, &answer); break;
-    case 4: meant_for(h, A_STORE, colock_commit(&handles[h], worker, t)); return;
-    case 5: meant_for(h, A_STORE, colock_abort(&handles[h], worker, t)); return;
-    case 6: meant_for(h, A_STORE, colock_rollback(&handles[h], worker, t, number())); return;
+    case 0: code = colock_call(&handles[h].store, worker, t, x, TEXT(name), &answer); break;
+    case 1: code = colock_call_op(&handles[h].store, worker, t, x, c, &answer); break;
+    case 2: code = colock_would(&handles[h].store, t, x, TEXT(name), &answer); break;
+    case 3: code = colock_would_op(&handles[h].store, t, x, c, &answer); break;
+    case 4: meant_for(h, A_STORE, colock_commit(&handles[h].store, worker, t)); return;
+    case 5: meant_for(h, A_STORE, colock_abort(&handles[h].store, worker, t)); return;
+    case 6: meant_for(h, A_STORE, colock_rollback(&handles[h].store, worker, t, number())); return;
     }
     meant_for(h, A_STORE, code);
     WANT(code ? answer.kind == UNTOUCHED : answer.kind <= COLOCK_NONE);
@@ -129,16 +140,16 @@ static void transact(int h) {
 static void read_store(int h) {
     uint64_t n = UNTOUCHED, m = UNTOUCHED;
     uint64_t c = UNTOUCHED;
-    uint32_t code = meant_for(h, A_STORE, colock_kept(&handles[h], (uint32_t)number(), &n));
+    uint32_t code = meant_for(h, A_STORE, colock_kept(&handles[h].store, (uint32_t)number(), &n));
     WANT(code == COLOCK_OK || n == UNTOUCHED);
     n = UNTOUCHED;
-    code = meant_for(h, A_STORE, colock_event_count(&handles[h], &n, &m));
+    code = meant_for(h, A_STORE, colock_event_count(&handles[h].store, &n, &m));
     WANT(code ? n == UNTOUCHED && m == UNTOUCHED : m <= n);
-    code = meant_for(h, A_STORE, colock_call_number(&handles[h], (uint32_t)number(), TEXT("dec:1"), &c));
+    code = meant_for(h, A_STORE, colock_call_number(&handles[h].store, (uint32_t)number(), TEXT("dec:1"), &c));
     WANT(code == COLOCK_OK || c == UNTOUCHED);
-    if (!draw(9)) meant_for(h, A_STORE, colock_forget(&handles[h], number()));
-    if (!draw(9)) meant_for(h, A_STORE, colock_abort_all(&handles[h]));
-    if (!draw(9)) meant_for(h, A_STORE, colock_renew(&handles[h]));
+    if (!draw(9)) meant_for(h, A_STORE, colock_forget(&handles[h].store, number()));
+    if (!draw(9)) meant_for(h, A_STORE, colock_abort_all(&handles[h].store));
+    if (!draw(9)) meant_for(h, A_STORE, colock_renew(&handles[h].store));
 }
 
 /* Events of one store at another, or made up ones. */
@@ -147,12 +158,12 @@ static void follow(int h) {
     colock_event room[9];
     uint64_t count = UNTOUCHED, made = UNTOUCHED;
     memset(room, 0x55, sizeof room);
-    uint32_t code = meant_for(from, A_STORE, colock_events(&handles[from], number(), room, draw(9), &count));
+    uint32_t code = meant_for(from, A_STORE, colock_events(&handles[from].store, number(), room, draw(9), &count));
     WANT(code ? count == UNTOUCHED : count <= 8);
     WANT(room[code ? 0 : count].kind == 0x55555555);
     room[8] = (colock_event){number(), number(), operation(), (uint32_t)number(), (uint32_t)draw(9), (uint32_t)number(), (uint32_t)number()};
     uint64_t size = code ? 0 : count;
-    code = meant_for(h, A_STORE, colock_follow(&handles[h], draw(2) ? room : room + 8, size > 1 ? 1 : size, &made));
+    code = meant_for(h, A_STORE, colock_follow(&handles[h].store, draw(2) ? room : room + 8, size > 1 ? 1 : size, &made));
     WANT(code == COLOCK_NOT_HELD ? made == UNTOUCHED : made <= size);
 }
 
@@ -160,13 +171,13 @@ int main(int argc, char **argv) {
     WANT(argc == 3);
     drawn = strtoull(argv[1], NULL, 10);
     long calls = atol(argv[2]), codes = 0;
-    for (int h = 0; h < HANDLES; h++) handles[h] = (colock_handle)COLOCK_HANDLE;
+    memset(handles, 0, sizeof handles);
     for (long i = 0; i < calls; i++) {
         int h = (int)draw(HANDLES);
         uint64_t t;
         switch (draw(40)) {
         case 0:
-            WANT(colock_close(&handles[h]) == (holds[h] == NOTHING ? COLOCK_NOT_HELD : COLOCK_OK));
+            WANT(ended(h) == (holds[h] == NOTHING ? COLOCK_NOT_HELD : COLOCK_OK));
             holds[h] = NOTHING;
             break;
         case 1: case 2: case 3: make_type(h); break;
@@ -174,11 +185,11 @@ int main(int argc, char **argv) {
         case 6: case 7: case 8: make_store(h); break;
         case 9: case 10: read_store(h); break;
         case 11: case 12: follow(h); break;
-        case 13: case 14: meant_for(h, A_STORE, colock_begin(&handles[h], (uint8_t)number(), &t)); break;
+        case 13: case 14: meant_for(h, A_STORE, colock_begin(&handles[h].store, (uint8_t)number(), &t)); break;
         default: transact(h);
         }
     }
-    for (int h = 0; h < HANDLES; h++) WANT(colock_close(&handles[h]) == (holds[h] == NOTHING ? COLOCK_NOT_HELD : COLOCK_OK));
+    for (int h = 0; h < HANDLES; h++) WANT(ended(h) == (holds[h] == NOTHING ? COLOCK_NOT_HELD : COLOCK_OK));
     for (int code = 0; code <= COLOCK_NEEDS_ESCROW; code++) codes += by_code[code] > 0;
     printf("%ld random calls at handles that hold anything: %ld codes, each where it has to be\n", calls, codes);
     return 0;

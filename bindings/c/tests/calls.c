@@ -2,7 +2,8 @@
 #include "want.h"
 
 /* The structs as the library has them. */
-_Static_assert(sizeof(colock_handle) == 16 && offsetof(colock_handle, at_) == 8, "a handle");
+_Static_assert(sizeof(colock_type) == 16 && offsetof(colock_type, at_) == 8, "a type");
+_Static_assert(sizeof(colock_store) == 16 && offsetof(colock_store, at_) == 8, "a store");
 _Static_assert(sizeof(colock_answer) == 16 && offsetof(colock_answer, number) == 8, "an answer");
 _Static_assert(sizeof(colock_fault) == 40 && offsetof(colock_fault, third) == 32, "a fault");
 _Static_assert(sizeof(colock_shape) == 32 && offsetof(colock_shape, kind) == 24, "a shape");
@@ -17,14 +18,14 @@ static bool is(const colock_fault *f, uint64_t line, uint64_t kind, uint64_t a, 
 }
 
 static void a_text_has(const char *text, uint64_t line, uint64_t kind) {
-    colock_handle type = COLOCK_HANDLE;
+    colock_type type = COLOCK_EMPTY;
     colock_fault fault = NO_FAULT;
     WANT(colock_type_read(&type, COLOCK_UNDO, TEXT(text), &fault) == COLOCK_BAD_TEXT);
     WANT(is(&fault, line, kind, 0, 0, 0));
     fault = NO_FAULT;
     WANT(colock_type_tables(&type, COLOCK_UNDO, TEXT(text), &fault) == COLOCK_BAD_TEXT);
     WANT(is(&fault, line, kind, 0, 0, 0));
-    WANT(colock_close(&type) == COLOCK_NOT_HELD);
+    WANT(colock_type_close(&type) == COLOCK_NOT_HELD);
 }
 
 static void texts_have_faults(void) {
@@ -44,11 +45,11 @@ static void texts_have_faults(void) {
 }
 
 static void a_type_is_refused(const char *text, uint64_t kind, uint64_t a, uint64_t b, uint64_t c) {
-    colock_handle type = COLOCK_HANDLE;
+    colock_type type = COLOCK_EMPTY;
     colock_fault fault = NO_FAULT;
     WANT(colock_type_read(&type, COLOCK_UNDO, TEXT(text), &fault) == COLOCK_REFUSED);
     WANT(is(&fault, 0, kind, a, b, c));
-    WANT(colock_close(&type) == COLOCK_NOT_HELD);
+    WANT(colock_type_close(&type) == COLOCK_NOT_HELD);
 }
 
 static void types_are_refused(void) {
@@ -58,7 +59,7 @@ static void types_are_refused(void) {
     a_type_is_refused(text, COLOCK_INITIAL_OUTSIDE, 0, 0, 0);
     snprintf(text, sizeof text, "%sstep 0 1 1\nreach 0\nend\n", four);
     a_type_is_refused(text, COLOCK_NOT_CLOSED, 0, 1, 0);
-    colock_handle type = COLOCK_HANDLE;
+    colock_type type = COLOCK_EMPTY;
     colock_fault fault = NO_FAULT;
     WANT(colock_type_tables(&type, COLOCK_UNDO, TEXT(text), &fault) == COLOCK_REFUSED);
     WANT(is(&fault, 0, COLOCK_NOT_CLOSED, 0, 1, 0));
@@ -70,13 +71,13 @@ static void types_are_refused(void) {
 
 /* A number is for escrow alone, which is said of a text without a fault. No table is made of it. */
 static void a_number_needs_escrow(void) {
-    colock_handle type = COLOCK_HANDLE;
+    colock_type type = COLOCK_EMPTY;
     colock_fault f = NO_FAULT;
     WANT(colock_type_read(&type, COLOCK_UNDO, TEXT(CENTS), &f) == COLOCK_NEEDS_ESCROW);
     WANT(colock_type_read(&type, COLOCK_INTENTIONS, TEXT(CENTS), &f) == COLOCK_NEEDS_ESCROW);
     WANT(colock_type_read(&type, 3, TEXT(CENTS), &f) == COLOCK_BAD_KIND);
     WANT(is(&f, UNTOUCHED, UNTOUCHED, UNTOUCHED, UNTOUCHED, UNTOUCHED));
-    WANT(colock_close(&type) == COLOCK_NOT_HELD);
+    WANT(colock_type_close(&type) == COLOCK_NOT_HELD);
     WANT(colock_type_read(&type, COLOCK_UNDO, TEXT("number cents\nmax 0\n"), &f) == COLOCK_BAD_TEXT);
     WANT(is(&f, 2, COLOCK_OUT_OF_RANGE, 0, 0, 0));
     WANT(colock_type_read(&type, COLOCK_ESCROW, TEXT("number cents\nmax 5\ninitial 0\nop take ok\n"), &f) == COLOCK_BAD_TEXT);
@@ -86,14 +87,23 @@ static void a_number_needs_escrow(void) {
     WANT(colock_type_read(&type, COLOCK_ESCROW, TEXT(CENTS), &f) == COLOCK_OK);
     WANT(is(&f, 1, COLOCK_UNKNOWN_WORD, 0, 0, 0));
     WANT(colock_type_read(&type, COLOCK_UNDO, TEXT(CENTS), &f) == COLOCK_IN_USE);
-    WANT(colock_close(&type) == COLOCK_OK);
+    WANT(colock_type_close(&type) == COLOCK_OK);
+}
+
+/* A handle of the other sort, which the library tells by what it holds. */
+static colock_type *as_type(colock_store *store) {
+    return (colock_type *)store;
+}
+
+static colock_store *as_store(colock_type *type) {
+    return (colock_store *)type;
 }
 
 /* Each maker refuses a kind that isn't, and a handle that holds something, of whatever sort. */
-static void makers_refuse(colock_handle *held) {
+static void makers_refuse(colock_type *held) {
     static const uint64_t one[] = {1};
     static const uint32_t small[] = {1};
-    colock_handle type = COLOCK_HANDLE;
+    colock_type type = COLOCK_EMPTY;
     colock_fault f = NO_FAULT;
     WANT(colock_type_read(&type, 3, TEXT(CTR2), &f) == COLOCK_BAD_KIND);
     WANT(colock_type_tables(&type, 3, TEXT(CTR2), &f) == COLOCK_BAD_KIND);
@@ -105,7 +115,7 @@ static void makers_refuse(colock_handle *held) {
     WANT(colock_type_queue(&type, 3, TEXT("a"), 2, &f) == COLOCK_BAD_KIND);
     WANT(colock_type_seats(&type, 3, 2, &f) == COLOCK_BAD_KIND);
     WANT(colock_type_number(&type, 3, 5, small, 1, &f) == COLOCK_BAD_KIND);
-    WANT(colock_close(&type) == COLOCK_NOT_HELD);
+    WANT(colock_type_close(&type) == COLOCK_NOT_HELD);
     WANT(colock_type_read(held, 3, TEXT(CTR2), &f) == COLOCK_IN_USE);
     WANT(colock_type_tables(held, 0, TEXT(CTR2), &f) == COLOCK_IN_USE);
     WANT(colock_type_account(held, 0, 5, one, 1, &f) == COLOCK_IN_USE);
@@ -116,7 +126,7 @@ static void makers_refuse(colock_handle *held) {
     WANT(colock_type_queue(held, 0, TEXT("a"), 2, &f) == COLOCK_IN_USE);
     WANT(colock_type_seats(held, 0, 2, &f) == COLOCK_IN_USE);
     WANT(colock_type_number(held, COLOCK_ESCROW, 5, small, 1, &f) == COLOCK_IN_USE);
-    WANT(colock_store_new(held) == COLOCK_IN_USE);
+    WANT(colock_store_new(as_store(held)) == COLOCK_IN_USE);
     WANT(is(&f, UNTOUCHED, UNTOUCHED, UNTOUCHED, UNTOUCHED, UNTOUCHED));
 }
 
@@ -127,7 +137,7 @@ static void families_have_ranges(void) {
     uint32_t few[17];
     for (int i = 0; i < 40; i++) many[i] = (uint64_t)i + 1;
     for (int i = 0; i < 17; i++) few[i] = (uint32_t)i + 1;
-    colock_handle type = COLOCK_HANDLE;
+    colock_type type = COLOCK_EMPTY;
     colock_fault f = NO_FAULT;
     WANT(colock_type_account(&type, 0, 5, down, 2, &f) == COLOCK_BAD_PARAMETER);
     WANT(colock_type_account(&type, 0, 5, one, 0, &f) == COLOCK_BAD_PARAMETER);
@@ -161,7 +171,7 @@ static void families_have_ranges(void) {
     WANT(colock_type_number(&type, COLOCK_UNDO, 5, small, 1, &f) == COLOCK_NEEDS_ESCROW);
     WANT(colock_type_number(&type, COLOCK_INTENTIONS, 5, small, 1, &f) == COLOCK_NEEDS_ESCROW);
     WANT(is(&f, UNTOUCHED, UNTOUCHED, UNTOUCHED, UNTOUCHED, UNTOUCHED));
-    WANT(colock_close(&type) == COLOCK_NOT_HELD);
+    WANT(colock_type_close(&type) == COLOCK_NOT_HELD);
 }
 
 static bool is_named(uint32_t code, const char *room, const uint64_t *count, const char *name) {
@@ -170,7 +180,7 @@ static bool is_named(uint32_t code, const char *room, const uint64_t *count, con
 
 static void a_type_is_read(void) {
     static const uint64_t amounts[] = {1, 2};
-    colock_handle type = COLOCK_HANDLE;
+    colock_type type = COLOCK_EMPTY;
     colock_fault fault = NO_FAULT;
     colock_shape shape = {UNTOUCHED, UNTOUCHED, UNTOUCHED, UNTOUCHED};
     char room[COLOCK_LONGEST_NAME + 1];
@@ -202,24 +212,24 @@ static void a_type_is_read(void) {
     WANT(colock_type_conflict(&type, 2, 2, &told) == COLOCK_OK && told == 1);
     WANT(colock_type_conflict(&type, 3, 3, &told) == COLOCK_OK && told == 0);
     makers_refuse(&type);
-    WANT(colock_close(&type) == COLOCK_OK && colock_close(&type) == COLOCK_NOT_HELD);
+    WANT(colock_type_close(&type) == COLOCK_OK && colock_type_close(&type) == COLOCK_NOT_HELD);
 }
 
 /* A text without tables is refused, and accepted with made ones. */
 static void tables_are_made(void) {
     static const char text[] = "type up\nstates 2\ninitial 0\nop inc ok\nop inc full\nstep 0 0 1\nstep 1 1 1\nend\n";
-    colock_handle type = COLOCK_HANDLE;
+    colock_type type = COLOCK_EMPTY;
     colock_fault fault = NO_FAULT;
     uint32_t told = UNTOUCHED;
     WANT(colock_type_read(&type, COLOCK_UNDO, TEXT(text), &fault) == COLOCK_REFUSED);
     WANT(colock_type_tables(&type, COLOCK_UNDO, TEXT(text), &fault) == COLOCK_OK);
     WANT(colock_type_conflict(&type, 1, 0, &told) == COLOCK_OK && told == 1);
     WANT(colock_type_conflict(&type, 1, 1, &told) == COLOCK_OK && told == 0);
-    WANT(colock_close(&type) == COLOCK_OK);
+    WANT(colock_type_close(&type) == COLOCK_OK);
 }
 
 /* What is read of a type isn't read of a handle that holds none. */
-static void is_no_type(colock_handle *handle) {
+static void is_no_type(colock_type *handle) {
     colock_shape shape = {UNTOUCHED, 0, 0, 0};
     char room[32] = "!";
     uint64_t count = UNTOUCHED;
@@ -234,7 +244,7 @@ static void is_no_type(colock_handle *handle) {
 }
 
 /* Nor is any call of a store made at one that holds none. */
-static void is_no_store(colock_handle *handle) {
+static void is_no_store(colock_store *handle) {
     uint64_t n = UNTOUCHED, m = UNTOUCHED;
     uint64_t call = UNTOUCHED;
     colock_answer answer = {UNTOUCHED, UNTOUCHED};
@@ -261,37 +271,38 @@ static void is_no_store(colock_handle *handle) {
 }
 
 static void a_store_is_made(void) {
-    colock_handle store = COLOCK_HANDLE, type = COLOCK_HANDLE, none = COLOCK_HANDLE;
+    colock_store store = COLOCK_EMPTY, none = COLOCK_EMPTY;
+    colock_type type = COLOCK_EMPTY;
     colock_fault fault = NO_FAULT;
     WANT(colock_type_read(&type, COLOCK_UNDO, TEXT(CTR2), &fault) == COLOCK_OK);
-    is_no_type(&store), is_no_store(&store), is_no_store(&type);
+    is_no_type(as_type(&store)), is_no_store(&store), is_no_store(as_store(&type));
     WANT(colock_store_add(&store, &type) == COLOCK_NOT_HELD);
-    WANT(colock_store_open(&store, 9) == COLOCK_NOT_HELD && colock_store_open(&type, 9) == COLOCK_NOT_HELD);
+    WANT(colock_store_open(&store, 9) == COLOCK_NOT_HELD && colock_store_open(as_store(&type), 9) == COLOCK_NOT_HELD);
     WANT(colock_store_new(&store) == COLOCK_OK);
-    makers_refuse(&store), is_no_type(&store), is_no_store(&store);
-    WANT(colock_store_add(&store, &none) == COLOCK_NOT_HELD && colock_store_add(&type, &store) == COLOCK_NOT_HELD);
+    makers_refuse(as_type(&store)), is_no_type(as_type(&store)), is_no_store(&store);
+    WANT(colock_store_add(&store, as_type(&none)) == COLOCK_NOT_HELD && colock_store_add(as_store(&type), as_type(&store)) == COLOCK_NOT_HELD);
     WANT(colock_store_open(&store, 9) == COLOCK_NO_OBJECTS);
     WANT(colock_store_add(&store, &type) == COLOCK_OK && colock_store_add(&store, &type) == COLOCK_OK);
     WANT(colock_store_open(&store, 0) == COLOCK_BAD_MAX && colock_store_open(&store, 1) == COLOCK_BAD_MAX);
     WANT(colock_store_open(&store, (uint64_t)1 << 32) == COLOCK_BAD_MAX);
     WANT(colock_store_open(&store, UINT64_MAX) == COLOCK_BAD_MAX);
     WANT(colock_store_open(&store, UINT32_MAX) == COLOCK_OK);
-    makers_refuse(&store), is_no_type(&store);
+    makers_refuse(as_type(&store)), is_no_type(as_type(&store));
     WANT(colock_store_open(&store, 9) == COLOCK_NOT_HELD && colock_store_add(&store, &type) == COLOCK_NOT_HELD);
-    WANT(colock_store_new(&none) == COLOCK_OK && colock_store_add(&none, &store) == COLOCK_NOT_HELD);
-    WANT(colock_close(&none) == COLOCK_OK && colock_close(&type) == COLOCK_OK);
+    WANT(colock_store_new(&none) == COLOCK_OK && colock_store_add(&none, as_type(&store)) == COLOCK_NOT_HELD);
+    WANT(colock_store_close(&none) == COLOCK_OK && colock_type_close(&type) == COLOCK_OK);
     WANT(begin(&store, 0) == 0); /* the type is still in it */
-    WANT(colock_close(&store) == COLOCK_OK && colock_close(&store) == COLOCK_NOT_HELD);
-    is_no_type(&store), is_no_store(&store);
+    WANT(colock_store_close(&store) == COLOCK_OK && colock_store_close(&store) == COLOCK_NOT_HELD);
+    is_no_type(as_type(&store)), is_no_store(&store);
     open_counters(&store, 1, 9); /* the handle may be used again */
-    WANT(begin(&store, 0) == 0 && colock_close(&store) == COLOCK_OK);
+    WANT(begin(&store, 0) == 0 && colock_store_close(&store) == COLOCK_OK);
 }
 
 static bool is_told(uint32_t code, const colock_answer *answer, uint64_t kind, uint64_t number) {
     return code == COLOCK_OK && answer->kind == kind && answer->number == number;
 }
 
-static void calls_are_answered(colock_handle *s) {
+static void calls_are_answered(colock_store *s) {
     colock_answer a = {UNTOUCHED, UNTOUCHED};
     uint64_t c = UNTOUCHED;
     WANT(begin(s, 3) == 0 && begin(s, 4) == 1);
@@ -307,7 +318,7 @@ static void calls_are_answered(colock_handle *s) {
     WANT(is_told(colock_would(s, 1, 1, TEXT("dec:1"), &a), &a, COLOCK_NONE, 0));
 }
 
-static void calls_are_refused(colock_handle *s) {
+static void calls_are_refused(colock_store *s) {
     colock_answer a = {UNTOUCHED, UNTOUCHED};
     static const uint64_t none[] = {2, (uint64_t)1 << 32, UINT64_MAX};
     for (int i = 0; i < 3; i++) {
@@ -333,7 +344,7 @@ static void calls_are_refused(colock_handle *s) {
     WANT(a.kind == UNTOUCHED && a.number == UNTOUCHED);
 }
 
-static void transactions_end(colock_handle *s) {
+static void transactions_end(colock_store *s) {
     uint64_t n = UNTOUCHED;
     WANT(colock_rollback(s, 3, 0, 0) == COLOCK_BAD_ROLLBACK && colock_rollback(s, 3, 0, 2) == COLOCK_BAD_ROLLBACK);
     WANT(colock_rollback(s, 3, 0, ((uint64_t)1 << 32) + 1) == COLOCK_BAD_ROLLBACK);
@@ -351,7 +362,7 @@ static bool is_event(const colock_event *e, uint32_t kind, uint32_t worker, uint
     return e->kind == kind && e->worker == worker && e->transaction == t && e->object == x && e->op == op && e->other == other && e->reserved == 0;
 }
 
-static void events_are_copied(colock_handle *s, colock_event room[16]) {
+static void events_are_copied(colock_store *s, colock_event room[16]) {
     uint64_t count = UNTOUCHED, forgotten = UNTOUCHED;
     memset(room, 0x55, 16 * sizeof *room);
     WANT(colock_events(s, 0, room, 16, &count) == COLOCK_OK && count == 12 && room[12].kind == 0x55555555);
@@ -374,7 +385,7 @@ static void events_are_copied(colock_handle *s, colock_event room[16]) {
 }
 
 static void events_are_followed(colock_event room[16]) {
-    colock_handle s = COLOCK_HANDLE;
+    colock_store s = COLOCK_EMPTY;
     uint64_t made = UNTOUCHED, kept = UNTOUCHED;
     open_counters(&s, 2, 40);
     WANT(colock_follow(&s, room, 3, &made) == COLOCK_OK && made == 3);
@@ -394,10 +405,10 @@ static void events_are_followed(colock_event room[16]) {
     };
     for (int i = 0; i < 7; i++) WANT(colock_follow(&s, wrong + i, 1, &made) == COLOCK_NOT_MADE && made == 0);
     WANT(colock_follow(&s, wrong, 0, &made) == COLOCK_OK && made == 0);
-    WANT(colock_close(&s) == COLOCK_OK);
+    WANT(colock_store_close(&s) == COLOCK_OK);
 }
 
-static void a_store_begins_anew(colock_handle *s) {
+static void a_store_begins_anew(colock_store *s) {
     uint64_t n = UNTOUCHED, forgotten = UNTOUCHED;
     colock_answer a;
     WANT(begin(s, 0) == 4 && colock_call_op(s, 0, 4, 1, 0, &a) == COLOCK_OK && colock_commit(s, 0, 4) == COLOCK_OK);
@@ -406,7 +417,7 @@ static void a_store_begins_anew(colock_handle *s) {
 }
 
 static void a_store_is_used(void) {
-    colock_handle store = COLOCK_HANDLE;
+    colock_store store = COLOCK_EMPTY;
     colock_event room[16];
     open_counters(&store, 2, 100);
     calls_are_answered(&store);
@@ -415,13 +426,14 @@ static void a_store_is_used(void) {
     events_are_copied(&store, room);
     events_are_followed(room);
     a_store_begins_anew(&store);
-    WANT(colock_close(&store) == COLOCK_OK);
+    WANT(colock_store_close(&store) == COLOCK_OK);
 }
 
 /* From the text of a type to the close of all. */
 static void a_store_is_made_and_closed(void) {
     static const char text[] = "type up\nstates 2\ninitial 0\nop inc ok\nstep 0 0 1\nconflict undo 0 0\nend\n";
-    colock_handle up = COLOCK_HANDLE, store = COLOCK_HANDLE;
+    colock_type up = COLOCK_EMPTY;
+    colock_store store = COLOCK_EMPTY;
     colock_fault fault = NO_FAULT;
     colock_answer a = {UNTOUCHED, UNTOUCHED};
     WANT(colock_type_read(&up, COLOCK_UNDO, TEXT("tipe\n"), &fault) == COLOCK_BAD_TEXT && fault.line == 1);
@@ -431,11 +443,11 @@ static void a_store_is_made_and_closed(void) {
     WANT(is_told(colock_call(&store, 0, 0, 0, TEXT("inc"), &a), &a, COLOCK_REPLY, 0));
     WANT(colock_commit(&store, 0, 0) == COLOCK_OK && colock_commit(&store, 0, 0) == COLOCK_NOT_OPEN);
     WANT(colock_commit(&store, 0, (uint64_t)1 << 40) == COLOCK_NOT_OPEN);
-    WANT(colock_close(&store) == COLOCK_OK && colock_close(&store) == COLOCK_NOT_HELD);
-    WANT(colock_close(&up) == COLOCK_OK);
+    WANT(colock_store_close(&store) == COLOCK_OK && colock_store_close(&store) == COLOCK_NOT_HELD);
+    WANT(colock_type_close(&up) == COLOCK_OK);
 }
 
-static void open_store_of(colock_handle *store, colock_handle *type) {
+static void open_store_of(colock_store *store, colock_type *type) {
     WANT(colock_store_new(store) == COLOCK_OK && colock_store_add(store, type) == COLOCK_OK);
     WANT(colock_store_open(store, 10) == COLOCK_OK);
 }
@@ -443,7 +455,8 @@ static void open_store_of(colock_handle *store, colock_handle *type) {
 /* What one store did, another of the same type does again, up to what is no event. */
 static void events_cross_and_are_made_again(void) {
     static const uint64_t amounts[] = {1, (uint64_t)1 << 40};
-    colock_handle counter = COLOCK_HANDLE, store = COLOCK_HANDLE, other = COLOCK_HANDLE;
+    colock_type counter = COLOCK_EMPTY;
+    colock_store store = COLOCK_EMPTY, other = COLOCK_EMPTY;
     colock_fault fault = NO_FAULT;
     colock_answer a = {UNTOUCHED, UNTOUCHED};
     colock_event room[3] = {{0}, {0}, {.transaction = 9, .other = 9, .op = 9, .object = 9, .kind = 9, .worker = 9}};
@@ -456,10 +469,61 @@ static void events_cross_and_are_made_again(void) {
     WANT(is_event(&room[1], COLOCK_EVENT_OP, 3, 0, 0, 0, 0) && is_event(&room[2], 9, 9, 9, 9, 9, 9));
     WANT(colock_follow(&other, room, 3, &count) == COLOCK_NOT_MADE && count == 2);
     WANT(colock_renew(&other) == COLOCK_STILL_OPEN);
-    WANT(colock_close(&store) == COLOCK_OK && colock_close(&other) == COLOCK_OK && colock_close(&counter) == COLOCK_OK);
+    WANT(colock_store_close(&store) == COLOCK_OK && colock_store_close(&other) == COLOCK_OK && colock_type_close(&counter) == COLOCK_OK);
+}
+
+/* Types without a text, an element or an amount: no pointer is needed where the count is 0. */
+static void types_of_nothing(void) {
+    colock_type type = COLOCK_EMPTY;
+    colock_fault fault = NO_FAULT;
+    WANT(colock_type_read(&type, COLOCK_UNDO, NULL, 0, &fault) == COLOCK_BAD_TEXT && fault.line == 1 && fault.kind == COLOCK_MISSING);
+    WANT(colock_type_tables(&type, COLOCK_UNDO, NULL, 0, &fault) == COLOCK_BAD_TEXT);
+    WANT(colock_type_account(&type, COLOCK_UNDO, 5, NULL, 0, &fault) == colock_type_account(&type, COLOCK_UNDO, 5, &(uint64_t){0}, 0, &fault));
+    WANT(colock_type_counter(&type, COLOCK_UNDO, 5, NULL, 0, &fault) == COLOCK_BAD_PARAMETER);
+    WANT(colock_type_stock(&type, COLOCK_UNDO, 5, NULL, 0, &fault) == COLOCK_BAD_PARAMETER);
+    WANT(colock_type_number(&type, COLOCK_ESCROW, 5, NULL, 0, &fault) == COLOCK_BAD_PARAMETER);
+    WANT(colock_type_set(&type, COLOCK_UNDO, NULL, 0, &fault) == COLOCK_BAD_PARAMETER);
+    WANT(colock_type_semiqueue(&type, COLOCK_UNDO, NULL, 0, 1, &fault) == COLOCK_BAD_PARAMETER);
+    WANT(colock_type_queue(&type, COLOCK_UNDO, NULL, 0, 1, &fault) == COLOCK_BAD_PARAMETER);
+    WANT(colock_type_close(&type) == COLOCK_NOT_HELD);
+}
+
+/* Nor is it for rooms, names and events; those who call by an address say where it is. */
+static void calls_of_nothing(void) {
+    colock_type type = COLOCK_EMPTY;
+    colock_store store = COLOCK_EMPTY;
+    colock_fault fault = NO_FAULT;
+    colock_answer answer = {UNTOUCHED, UNTOUCHED};
+    uint64_t count = UNTOUCHED;
+    uint32_t (*by_address)(colock_store *, uint32_t, const char *, size_t, uint64_t *) = colock_call_number;
+    WANT(colock_type_read(&type, COLOCK_UNDO, TEXT(CTR2), &fault) == COLOCK_OK);
+    WANT(colock_type_name(&type, NULL, 0, &count) == COLOCK_NO_ROOM && colock_type_call(&type, 0, NULL, 0, &count) == COLOCK_NO_ROOM);
+    WANT(colock_type_reply(&type, 0, NULL, 0, &count) == COLOCK_NO_ROOM && colock_type_close(&type) == COLOCK_OK);
+    open_counters(&store, 1, 9);
+    WANT(begin(&store, 0) == 0 && colock_call(&store, 0, 0, 0, NULL, 0, &answer) == COLOCK_NO_CALL);
+    WANT(colock_would(&store, 0, 0, NULL, 0, &answer) == COLOCK_NO_CALL && colock_call_number(&store, 0, NULL, 0, &count) == COLOCK_NO_CALL);
+    WANT(count == UNTOUCHED && answer.kind == UNTOUCHED && by_address(&store, 0, "", 0, &count) == COLOCK_NO_CALL);
+    WANT(colock_events(&store, 0, NULL, 0, &count) == COLOCK_OK && count == 0);
+    count = UNTOUCHED;
+    WANT(colock_follow(&store, NULL, 0, &count) == COLOCK_OK && count == 0);
+    WANT(colock_store_close(&store) == COLOCK_OK);
+}
+
+/* Each code has words of its own, and no other number has. */
+static void codes_have_words(void) {
+    const char *unknown = colock_strerror(UINT32_MAX);
+    WANT(!strcmp(unknown, "the code is unknown") && !strcmp(colock_strerror(COLOCK_NEEDS_ESCROW + 1), unknown));
+    for (uint32_t code = COLOCK_OK; code <= COLOCK_NEEDS_ESCROW; code++) {
+        WANT(strcmp(colock_strerror(code), unknown));
+        for (uint32_t other = COLOCK_OK; other < code; other++) WANT(strcmp(colock_strerror(code), colock_strerror(other)));
+    }
+    WANT(!strcmp(colock_strerror(COLOCK_STILL_OPEN), "a transaction is open"));
 }
 
 int main(void) {
+    codes_have_words();
+    types_of_nothing();
+    calls_of_nothing();
     WANT(colock_version() == COLOCK_VERSION);
     texts_have_faults();
     types_are_refused();

@@ -1,15 +1,14 @@
 #!/usr/bin/env python3
-"""exports.py [--plant]: whether the header, the extern block of Rust and the declarations of Python are those of
-the library.
+"""exports.py [--plant]: whether the header, and the tables of Rust and of Python, are those of the library.
 
-What the library exports is read in crates/colock_c/src: each `extern "C"` function and each `repr(C)` struct,
-whose sizes and offsets follow from it. Compared are the names and parameters of each call, the fields of each
-struct with their sizes and offsets as cc, rustc and Python have them, the codes, the kinds of faults and of
-recovery, the checker's refusals, the version, and the names that libcolock.so and libcolock.a give. A line for
-each difference, and status 1 where there is one. With --plant faults are planted in what is read, each of which
-has to be found.
+What the library exports is read in crates/colock_c/src: each `extern "C"` function and each `repr(C)` struct, whose
+sizes and offsets follow from it. Compared with the header are the names and parameters of each call, the fields of each
+struct with their sizes and offsets as cc has them, the codes and their words, the kinds of faults and of recovery, the
+checker's refusals, the version, and the names that libcolock.so and libcolock.a give. (bindings/declare makes the
+declarations of Rust and Python of the header.) Compared with Rust and Python are the kinds, the refusals, and what a
+code raises. A line for each difference, and status 1 where there is one. With --plant faults are planted in what is
+read, each of which has to be found.
 """
-import ctypes
 import functools
 import glob
 import os
@@ -24,15 +23,15 @@ FAULTS = os.path.join(BINDINGS, "..", "crates", "line_text", "src", "fault.rt")
 BUILD = os.path.join(BINDINGS, "c", "build")
 PATHS = {
     "header": os.path.join(BINDINGS, "c", "colock.h"),
-    "rust": os.path.join(BINDINGS, "rust", "colock-sys", "src", "lib.rs"),
     "rust types": os.path.join(BINDINGS, "rust", "colock", "src", "types.rs"),
     "rust errors": os.path.join(BINDINGS, "rust", "colock", "src", "error.rs"),
-    "python": os.path.join(BINDINGS, "python", "colock", "_library.py"),
     "types": os.path.join(BINDINGS, "python", "colock", "_types.py"),
     "errors": os.path.join(BINDINGS, "python", "colock", "_errors.py"),
     "make": os.path.join(BINDINGS, "c", "Makefile"),
 }
 STRUCTS = ["handle", "answer", "fault", "shape", "event"]
+# what the header has in place of the one handle
+HANDLES = ["type", "store", "held"]
 SIZES = {"bool": 1, "u8": 1, "u32": 4, "u64": 8, "usize": 8, "pointer": 8}
 
 
@@ -135,8 +134,8 @@ def exported():
 # ---- what is said of it
 
 def header_parameter(text):
-    kinds = {"uint8_t": "u8", "uint32_t": "u32", "uint64_t": "u64", "size_t": "usize", "char": "u8"}
-    match = re.fullmatch(r"(const )?(?:colock_)?(\w+) (\*?)\w+", text)
+    kinds = {"uint8_t": "u8", "uint32_t": "u32", "uint64_t": "u64", "size_t": "usize", "char": "u8", **dict.fromkeys(HANDLES, "handle")}
+    match = re.fullmatch(r"(const )?(?:struct )?(?:colock_)?(\w+) (\*?)\w+", text)
     return (match[1] or "") + kinds.get(match[2], match[2]) + match[3]
 
 
@@ -147,42 +146,35 @@ def run(words):
     return done.stdout
 
 
-def output_of(files, words):
-    """What a program writes that is made of files, of which it is the last."""
-    with tempfile.TemporaryDirectory() as folder:
-        for name, text in files.items():
-            path = os.path.join(folder, name)
-            with open(path, "w", encoding="utf-8") as file:
-                file.write(text)
-        program = os.path.join(folder, "program")
-        run([*words, path, "-o", program])
-        return run([program])
+def written(path, text):
+    with open(path, "w", encoding="utf-8") as file:
+        file.write(text)
 
 
-def fields_told(text):
-    """The structs as lines `STRUCT FIELD OFFSET SIZE` and `STRUCT SIZE` say them."""
-    structs, fields = {name: (None, []) for name in STRUCTS}, {name: [] for name in STRUCTS}
-    for words in map(str.split, text.splitlines()):
-        if len(words) == 2:
-            structs[words[0]] = (int(words[1]), structs[words[0]][1])
-        else:
-            structs[words[0]][1].append((int(words[2]), int(words[3])))
-            fields[words[0]].append(words[1].rstrip("_"))
-    return structs, fields
+def structs_of(plain):
+    """The names of the structs of a header without comments, and of their fields."""
+    found = re.findall(r"typedef struct colock_(\w+) \{(.*?)\}", plain, re.S)
+    return {name: re.findall(r"(\w+);", body) for name, body in found}
 
 
 @functools.lru_cache
-def header_structs(text):
-    """The structs as cc lays them out."""
+def layouts_of(text):
+    """The structs of a header as cc lays them out: the size of each, and the offset and the size of each field."""
+    # what comes before the calls repeats their parameters
+    text = re.sub(r"#ifdef __GNUC__\n.*?\n#endif\n", "", text, flags=re.S)
     lines = []
-    for name, body in re.findall(r"typedef struct colock_(\w+) \{(.*?)\}", without_comments(text), re.S):
+    for name, fields in structs_of(without_comments(text)).items():
         struct = f"colock_{name}"
-        lines.append(f'printf("{name} %zu\\n", sizeof({struct}));')
-        for field in re.findall(r"(\w+);", body):
-            lines.append(f'printf("{name} {field} %zu %zu\\n", offsetof({struct}, {field}), sizeof((({struct} *)0)->{field}));')
-    code = '#include "colock.h"\n#include <stdio.h>\nint main(void) {\n' + "\n".join(lines) + "\n}\n"
-    words = [os.environ.get("CC", "cc"), "-Wall", "-Werror"]
-    return fields_told(output_of({"colock.h": text, "layout.c": code}, words))
+        lines.append(f'printf("{name} %zu", sizeof({struct}));')
+        lines += [f'printf(" %zu %zu", offsetof({struct}, {field}), sizeof((({struct} *)0)->{field}));' for field in fields]
+        lines.append('puts("");')
+    with tempfile.TemporaryDirectory() as folder:
+        source, program = os.path.join(folder, "layout.c"), os.path.join(folder, "layout")
+        written(os.path.join(folder, "colock.h"), text)
+        written(source, '#include "colock.h"\n#include <stdio.h>\nint main(void) {\n' + "\n".join(lines) + "\n}\n")
+        run([os.environ.get("CC", "cc"), "-Wall", "-Werror", source, "-o", program])
+        told = [line.split() for line in run([program]).splitlines()]
+    return {name: (int(size), list(zip(map(int, places[::2]), map(int, places[1::2])))) for name, size, *places in told}
 
 
 def of_header(text):
@@ -192,77 +184,28 @@ def of_header(text):
         kinds = [] if parameters == "void" else [header_parameter(" ".join(p.split())) for p in pieces(parameters)]
         calls[name] = kinds + [header_parameter(result + " x")]
     enums = {name: dict(re.findall(r"COLOCK_(\w+) = (\d+)", body)) for name, body in re.findall(r"typedef enum colock_(\w+) \{(.*?)\}", plain, re.S)}
-    structs, fields = header_structs(text)
+    fields = {name: [field.rstrip("_") for field in fields] for name, fields in structs_of(plain).items()}
     numbers = lambda enum: {name: int(number) for name, number in enums[enum].items()}
     return {
-        "calls": calls, "structs": structs, "fields": fields, "codes": numbers("code"), "faults": numbers("fault_kind"),
+        "calls": calls, "structs": layouts_of(text), "fields": fields, "codes": numbers("code"), "faults": numbers("fault_kind"),
         "kinds": numbers("kind"), "refusals": numbers("refusal"),
         "version": int(re.search(r"#define COLOCK_VERSION (\d+)", plain)[1]),
     }
 
 
-def rust_parameter(text):
-    names = {"Handle": "handle", "Answer": "answer", "Fault": "fault", "Shape": "shape", "Event": "event"}
-    match = re.fullmatch(r"\*(mut|const) (\w+)", text)
-    if match:
-        return ("const " if match[1] == "const" else "") + names.get(match[2], match[2]) + "*"
-    return text
-
-
-@functools.lru_cache
-def rust_structs(text):
-    """The structs as rustc lays them out."""
-    lines = []
-    for name, body in re.findall(r"pub struct (\w+) \{(.*?)\n\}", without_comments(text), re.S):
-        lower = name.lower()
-        lines.append(f'println!("{lower} {{}}", size_of::<sys::{name}>());')
-        for field in re.findall(r"pub (\w+):", body):
-            lines.append(f'println!("{lower} {field} {{}} {{}}", offset_of!(sys::{name}, {field}), size_of_val(&unsafe {{ zeroed::<sys::{name}>() }}.{field}));')
-    code = "#![allow(dead_code)]\nmod sys;\nuse std::mem::{offset_of, size_of, size_of_val, zeroed};\nfn main() {\n" + "\n".join(lines) + "\n}\n"
-    return fields_told(output_of({"sys.rs": text, "layout.rs": code}, ["rustc", "--edition", "2021"]))
-
-
-def of_rust(text, types, errors):
-    plain = without_comments(text)
-    calls = {}
-    for name, parameters, result in re.findall(r"pub fn (colock_\w+)\(([^)]*)\) -> (\w+);", plain):
-        calls[name] = [rust_parameter(piece.split(":", 1)[1].strip()) for piece in pieces(parameters)] + [result]
-    codes = {name: int(number) for name, number in re.findall(r"pub const (\w+): u32 = (\d+);", plain) if name != "VERSION"}
-    structs, fields = rust_structs(text)
+def of_rust(types, errors):
     return {
-        "calls": calls, "structs": structs, "fields": fields, "codes": codes,
         "kinds": {upper(name): n for name, n in numbered(without_comments(types), "Kind").items()},
         "refusals": by_number(re.findall(r"(\d+) => CheckRefusal::(\w+)", errors)),
-        "version": int(re.search(r"pub const VERSION: u32 = (\d+);", plain)[1]),
     }
 
 
-def python_parameter(kind, module):
-    """A parameter as it goes over. Python doesn't say what is const."""
-    names = {ctypes.c_uint8: "u8", ctypes.c_uint32: "u32", ctypes.c_uint64: "u64", ctypes.c_size_t: "usize", ctypes.c_char_p: "u8*"}
-    # c_size_t is c_uint64 here, so that a count is known by its place
-    if kind in names:
-        return names[kind]
-    return {getattr(module, name.capitalize()): name for name in STRUCTS}.get(kind._type_, names.get(kind._type_)) + "*"
-
-
-def of_python(text, types, errors):
-    """As the module says that has this text."""
-    module = type(sys)("library")
-    module.__dict__["__file__"] = PATHS["python"]
-    os.environ.setdefault("COLOCK_LIBRARY", os.path.join(BUILD, "libcolock.so"))
-    exec(compile(text, PATHS["python"], "exec"), module.__dict__)  # the text of this repository, or a planted fault
-    calls = {"colock_" + name: [python_parameter(kind, module) for kind in kinds] + ["u32"] for name, kinds in module.SIGNATURES.items()}
-    structs = {name: getattr(module, name.capitalize()) for name in STRUCTS}
+def of_python(types, errors):
     return {
-        "calls": calls,
-        "structs": {name: (ctypes.sizeof(s), [(getattr(s, f).offset, getattr(s, f).size) for f, _ in s._fields_]) for name, s in structs.items()},
-        "fields": {name: [field for field, _ in s._fields_] for name, s in structs.items()},
-        "raised": {upper(name): int(n) for n, name in re.findall(r"^    (\d+): (\w+),$", errors, re.M)},
+        "raised": {upper(name): int(n) for n, name in re.findall(r"^    (\d+): (\w+?)(?:Error)?,$", errors, re.M)},
         "faults": {upper(name): int(n) for name, n in re.findall(r"^    (\w+) = (\d+)$", errors, re.M)},
         "kinds": {name: int(n) for name, n in re.findall(r"^    ([A-Z]+) = (\d+)$", types, re.M)},
         "refusals": by_number(re.findall(r"(\d+): \(\"(\w+)\", \d\)", errors)),
-        "version": module.VERSION,
     }
 
 
@@ -278,14 +221,22 @@ def unequal(who, what, told, wanted):
         yield f"{who}, {what}: {told}, and the library {wanted}"
 
 
+def for_header(wanted):
+    """The library as the header declares it, which has two handles of one layout."""
+    told = dict(wanted)
+    for what in ("structs", "fields"):
+        handle = wanted[what]["handle"]
+        told[what] = {"type": handle, "store": handle, **{name: part for name, part in wanted[what].items() if name != "handle"}}
+    return told
+
+
 def for_python(wanted):
-    """The library as Python declares it."""
-    plain = {name: [kind.replace("const ", "").replace("usize", "u64") for kind in kinds] for name, kinds in wanted["calls"].items()}
-    raised = {name: n for name, n in wanted["codes"].items()}
+    """The library as Python raises its codes."""
+    raised = dict(wanted["codes"])
     for name in ("OK", "IN_USE", "BAD_TEXT", "REFUSED", "BAD_KIND", "NOT_FRESH", "NOT_LEGAL", "NO_ROOM"):
         raised.pop(name)  # what isn't raised by its code alone, or can't come
     raised["CLOSED"] = raised.pop("NOT_HELD")
-    return {**wanted, "calls": plain, "raised": raised}
+    return {**wanted, "raised": raised}
 
 
 def names_of(words):
@@ -294,16 +245,44 @@ def names_of(words):
 
 def differences(texts, wanted):
     """How the texts differ from the library."""
-    told = {"the header": of_header(texts["header"]), "Rust": of_rust(texts["rust"], texts["rust types"], texts["rust errors"])}
-    python = of_python(texts["python"], texts["types"], texts["errors"])
-    python["calls"] = {name: [kind.replace("usize", "u64") for kind in kinds] for name, kinds in python["calls"].items()}
-    for who, parts in told.items():
-        for what, part in parts.items():
-            yield from unequal(who, what, part, wanted[what])
-    for what, part in python.items():
-        yield from unequal("Python", what, part, for_python(wanted)[what])
+    compared = {
+        "the header": (of_header(texts["header"]), for_header(wanted)),
+        "Rust": (of_rust(texts["rust types"], texts["rust errors"]), wanted),
+        "Python": (of_python(texts["types"], texts["errors"]), for_python(wanted)),
+    }
+    for who, (told, library) in compared.items():
+        for what, part in told.items():
+            yield from unequal(who, what, part, library[what])
     abi = int(re.search(r"^ABI = (\d+)$", texts["make"], re.M)[1])
     yield from unequal("the Makefile", "ABI", abi, wanted["version"])
+    yield from word_differences(texts, wanted["codes"])
+    yield from null_differences(texts["header"], wanted["calls"])
+
+
+def null_differences(text, calls):
+    """Calls that have a count, and of which the header takes no NULL."""
+    guarded = re.findall(r"^COLOCK_BEFORE_\((\w+),", text, re.M)
+    yield from (f"the header, {name}: nothing takes a NULL with a count of 0" for name, kinds in calls.items() if "usize" in kinds and name not in guarded)
+
+
+def words_of_header(text):
+    """The words of each code by colock_strerror."""
+    return dict(re.findall(r'case COLOCK_(\w+): return "(.*?)";', text))
+
+
+def words_of_rust(text):
+    """The words of the errors of Rust that say nothing more, by the names of codes."""
+    body = text.partition("impl fmt::Display for Error {")[2].partition("\n}\n")[0]
+    return {upper(name): words for name, words in re.findall(r'Error::(\w+) => f\.write_str\("(.*?)"\)', body)}
+
+
+def word_differences(texts, codes):
+    """Codes without words, and those of which Rust has others."""
+    told, rust = words_of_header(texts["header"]), words_of_rust(texts["rust errors"])
+    yield from (f"the header, colock_strerror: no words of {name}" for name in codes if name not in told)
+    yield from (f"colock_strerror, {name}: {words}, and Rust {rust[name]}" for name, words in told.items() if rust.get(name, words) != words)
+    if not set(rust) & set(told):
+        yield "no words of errors are found in Rust"
 
 
 def binary_differences(wanted):
@@ -316,7 +295,7 @@ def binary_differences(wanted):
 
 PLANTS = [
     ("header", "uint64_t max_events", "uint32_t max_events"),
-    ("header", "uint32_t colock_renew(colock_handle *store);", ""),
+    ("header", "uint32_t colock_renew(colock_store *store);", ""),
     ("header", "COLOCK_NEEDS_ESCROW = 26", "COLOCK_NEEDS_ESCROW = 27"),
     ("header", "COLOCK_MISSING = 8", "COLOCK_MISSING = 18"),
     ("header", "COLOCK_ESCROW = 2", "COLOCK_ESCROW = 3"),
@@ -325,24 +304,19 @@ PLANTS = [
     ("header", "    uint32_t worker;\n", "    uint8_t worker;\n"),
     ("header", "    uint32_t reserved;\n", ""),
     ("header", "uint32_t object,\n                        uint64_t call", "uint32_t object,\n                        uint8_t call"),
-    ("header", "bool live_;", "uint64_t live_;"),
+    ("header", "bool live_;\n    void *at_;\n} colock_type;", "uint64_t live_;\n    void *at_;\n} colock_type;"),
+    ("header", "    void *at_;\n} colock_store;", "} colock_store;"),
     ("header", "COLOCK_VERSION 3", "COLOCK_VERSION 2"),
-    ("header", "colock_abort(colock_handle *store, uint8_t worker, uint64_t transaction)", "colock_abort(colock_handle *store, uint64_t transaction, uint8_t worker)"),
-    ("header", "const colock_event *events", "colock_event *events"),
-    ("rust", "pub fn colock_kept(slot: *mut Handle, object: u32, state: *mut u64)", "pub fn colock_kept(slot: *mut Handle, object: u32, state: *mut u16)"),
-    ("rust", "pub const STILL_OPEN: u32 = 17;", "pub const STILL_OPEN: u32 = 18;"),
-    ("rust", "    pub states: u64,\n    pub initial: u64,", "    pub initial: u64,\n    pub states: u64,"),
-    ("rust", "    pub third: u64,", "    pub third: u32,"),
-    ("rust", "    pub op: u64,", "    pub op: u32,"),
-    ("rust", "name_count: usize, call: *mut u64)", "name_count: usize, call: *mut u8)"),
+    ("header", "colock_abort(colock_store *store, uint8_t worker, uint64_t transaction)", "colock_abort(colock_store *store, uint64_t transaction, uint8_t worker)"),
+    ("header", "const colock_event *events, size_t events_count, uint64_t *made);", "colock_event *events, size_t events_count, uint64_t *made);"),
+    ("header", "COLOCK_BEFORE_(colock_would,", "COLOCK_BEFORE_(colock_would_op,"),
     ("rust types", "    Escrow = 2,", "    Escrow = 3,"),
+    ("header", 'return "a store of no object"', 'return "no object"'),
+    ("rust errors", '"these events were forgotten"', '"they were forgotten"'),
     ("rust errors", "5 => CheckRefusal::NotNumeric", "6 => CheckRefusal::NotNumeric"),
-    ("python", '"begin": (_H, _8, _P(_64)),', '"begin": (_H, _32, _P(_64)),'),
-    ("python", '("op", ctypes.c_uint64),\n        ("object", ctypes.c_uint32),', '("object", ctypes.c_uint32),\n        ("op", ctypes.c_uint64),'),
-    ("python", '"forget": (_H, _64),', '"forget": (_H, _32),'),
     ("types", "    ESCROW = 2", "    ESCROW = 3"),
     ("errors", '5: ("NotNumeric", 2)', '6: ("NotNumeric", 2)'),
-    ("errors", "    17: StillOpen,", "    17: NotMade,"),
+    ("errors", "    17: StillOpenError,", "    17: NotMadeError,"),
     ("errors", "    Missing = 8", "    Missing = 9"),
     ("make", "ABI = 3", "ABI = 2"),
 ]

@@ -3,7 +3,7 @@
 #include "want.h"
 
 static void only_so_many_are_open(void) {
-    colock_handle store = COLOCK_HANDLE;
+    colock_store store = COLOCK_EMPTY;
     uint64_t t = UNTOUCHED, count = UNTOUCHED;
     open_counters(&store, 1, 1000000);
     for (uint64_t i = 0; i < 1024; i++) WANT(begin(&store, (uint8_t)i) == i);
@@ -12,11 +12,12 @@ static void only_so_many_are_open(void) {
     WANT(colock_abort(&store, 0, 500) == COLOCK_OK && begin(&store, 0) == 1024);
     WANT(colock_begin(&store, 0, &t) == COLOCK_TOO_MANY_OPEN);
     WANT(colock_abort_all(&store) == COLOCK_OK && begin(&store, 0) == 1025);
-    WANT(colock_close(&store) == COLOCK_OK);
+    WANT(colock_store_close(&store) == COLOCK_OK);
 }
 
 static void only_so_many_objects_are_there(void) {
-    colock_handle store = COLOCK_HANDLE, type = COLOCK_HANDLE;
+    colock_store store = COLOCK_EMPTY;
+    colock_type type = COLOCK_EMPTY;
     colock_fault fault;
     colock_answer answer;
     WANT(colock_type_read(&type, COLOCK_INTENTIONS, TEXT(CTR2), &fault) == COLOCK_OK);
@@ -26,14 +27,14 @@ static void only_so_many_objects_are_there(void) {
         WANT(colock_store_open(&store, 9) == (objects == 256 ? COLOCK_OK : COLOCK_TOO_MANY_OBJECTS));
         if (objects == 256) WANT(begin(&store, 0) == 0 && colock_call_op(&store, 0, 0, 255, 0, &answer) == COLOCK_OK);
         if (objects == 256) WANT(colock_call_op(&store, 0, 0, 256, 0, &answer) == COLOCK_NO_OBJECT);
-        WANT(colock_close(&store) == COLOCK_OK);
+        WANT(colock_store_close(&store) == COLOCK_OK);
     }
-    WANT(colock_close(&type) == COLOCK_OK);
+    WANT(colock_type_close(&type) == COLOCK_OK);
 }
 
 /* There is always room for the end of each open transaction. */
 static void a_history_is_full(void) {
-    colock_handle store = COLOCK_HANDLE;
+    colock_store store = COLOCK_EMPTY;
     colock_answer answer = {UNTOUCHED, UNTOUCHED};
     uint64_t t = UNTOUCHED, count, forgotten;
     open_counters(&store, 1, 6);
@@ -51,12 +52,12 @@ static void a_history_is_full(void) {
     WANT(colock_forget(&store, 6) == COLOCK_OK && colock_begin(&store, 0, &t) == COLOCK_HISTORY_FULL);
     WANT(colock_event_count(&store, &count, &forgotten) == COLOCK_OK && count == 6 && forgotten == 6);
     WANT(colock_renew(&store) == COLOCK_OK && begin(&store, 0) == 0);
-    WANT(colock_close(&store) == COLOCK_OK);
+    WANT(colock_store_close(&store) == COLOCK_OK);
 }
 
 /* A hundred thousand transactions, of which a thousand are in memory. */
 static void much_is_forgotten(void) {
-    colock_handle store = COLOCK_HANDLE;
+    colock_store store = COLOCK_EMPTY;
     colock_answer answer;
     colock_event event;
     uint64_t count = UNTOUCHED, forgotten = UNTOUCHED;
@@ -69,14 +70,15 @@ static void much_is_forgotten(void) {
     WANT(colock_event_count(&store, &count, &forgotten) == COLOCK_OK && count == 300000 && forgotten == 300000);
     WANT(begin(&store, 9) == 100000);
     WANT(colock_events(&store, 300000, &event, 1, &count) == COLOCK_OK && count == 1 && event.worker == 9);
-    WANT(colock_close(&store) == COLOCK_OK);
+    WANT(colock_store_close(&store) == COLOCK_OK);
 }
 
 /* A type of 1,024 states and 64 operations, each legal everywhere, of which each two conflict. */
 static void the_largest_type_is_read(void) {
     size_t room = 4000000, at = 0;
     char *text = malloc(room), name[COLOCK_LONGEST_NAME];
-    colock_handle type = COLOCK_HANDLE, store = COLOCK_HANDLE;
+    colock_type type = COLOCK_EMPTY;
+    colock_store store = COLOCK_EMPTY;
     colock_fault fault;
     colock_answer answer;
     colock_shape shape;
@@ -103,20 +105,21 @@ static void the_largest_type_is_read(void) {
     WANT(colock_store_open(&store, 9) == COLOCK_OK && begin(&store, 0) == 0);
     WANT(colock_call(&store, 0, 0, 0, TEXT("add:63"), &answer) == COLOCK_OK && answer.number == 63);
     WANT(colock_kept(&store, 0, &state) == COLOCK_OK && state == 62);
-    WANT(colock_close(&store) == COLOCK_OK && colock_close(&type) == COLOCK_OK);
+    WANT(colock_store_close(&store) == COLOCK_OK && colock_type_close(&type) == COLOCK_OK);
     free(text);
 }
 
 /* A number of 0 to 1,023 at 0: as many as that count it up side by side, and one more waits for the first. */
 static void only_so_many_count_up(void) {
     static const uint64_t amounts[] = {1};
-    colock_handle store = COLOCK_HANDLE, type = COLOCK_HANDLE;
+    colock_store store = COLOCK_EMPTY;
+    colock_type type = COLOCK_EMPTY;
     colock_fault fault;
     colock_answer answer;
     uint64_t kept;
     WANT(colock_type_counter(&type, COLOCK_ESCROW, 1023, amounts, 1, &fault) == COLOCK_OK);
     WANT(colock_store_new(&store) == COLOCK_OK && colock_store_add(&store, &type) == COLOCK_OK);
-    WANT(colock_store_open(&store, 1000000) == COLOCK_OK && colock_close(&type) == COLOCK_OK);
+    WANT(colock_store_open(&store, 1000000) == COLOCK_OK && colock_type_close(&type) == COLOCK_OK);
     for (uint64_t t = 0; t < 1024; t++) {
         WANT(begin(&store, 0) == t && colock_call(&store, 0, t, 0, TEXT("inc:1"), &answer) == COLOCK_OK);
         WANT(t < 1023 ? answer.kind == COLOCK_REPLY : answer.kind == COLOCK_BUSY && answer.number == 0);
@@ -125,13 +128,14 @@ static void only_so_many_count_up(void) {
     WANT(colock_call(&store, 0, 1023, 0, TEXT("inc:1"), &answer) == COLOCK_OK && answer.kind == COLOCK_REPLY);
     for (uint64_t t = 0; t < 1024; t++) WANT(t == 500 || colock_commit(&store, 0, t) == COLOCK_OK);
     WANT(colock_kept(&store, 0, &kept) == COLOCK_OK && kept == 1023);
-    WANT(colock_close(&store) == COLOCK_OK);
+    WANT(colock_store_close(&store) == COLOCK_OK);
 }
 
 /* A number of 32 bits, which has no table, from its greatest value to 0 and up again by one. */
 static void a_number_has_32_bits(void) {
     static const char text[] = "number large\nmax 4294967295\ninitial 4294967295\ntake 4294967295\ngive 1\nend\n";
-    colock_handle store = COLOCK_HANDLE, type = COLOCK_HANDLE;
+    colock_store store = COLOCK_EMPTY;
+    colock_type type = COLOCK_EMPTY;
     colock_fault fault;
     colock_answer answer;
     colock_shape shape;
@@ -144,19 +148,19 @@ static void a_number_has_32_bits(void) {
     WANT(colock_type_step(&type, UINT32_MAX, 0, &to) == COLOCK_OK && to == 0);
     WANT(colock_type_step(&type, UINT32_MAX - 1, 2, &to) == COLOCK_OK && to == UINT32_MAX);
     WANT(colock_store_new(&store) == COLOCK_OK && colock_store_add(&store, &type) == COLOCK_OK);
-    WANT(colock_store_open(&store, 100) == COLOCK_OK && colock_close(&type) == COLOCK_OK);
+    WANT(colock_store_open(&store, 100) == COLOCK_OK && colock_type_close(&type) == COLOCK_OK);
     WANT(colock_kept(&store, 0, &kept) == COLOCK_OK && kept == UINT32_MAX);
     t = begin(&store, 0);
     WANT(colock_call(&store, 0, t, 0, TEXT("give:1"), &answer) == COLOCK_OK && answer.number == 3); /* full */
     WANT(colock_call(&store, 0, t, 0, TEXT("take:4294967295"), &answer) == COLOCK_OK && answer.number == 0);
     WANT(colock_call(&store, 0, t, 0, TEXT("give:1"), &answer) == COLOCK_OK && answer.number == 2);
     WANT(colock_commit(&store, 0, t) == COLOCK_OK && colock_kept(&store, 0, &kept) == COLOCK_OK && kept == 1);
-    WANT(colock_close(&store) == COLOCK_OK);
+    WANT(colock_store_close(&store) == COLOCK_OK);
 }
 
 /* Sixteen amounts, the greatest of which is as large as may be. */
 static void a_number_is_made_of_amounts(void) {
-    colock_handle type = COLOCK_HANDLE;
+    colock_type type = COLOCK_EMPTY;
     colock_fault fault;
     colock_shape shape;
     uint32_t amounts[16] = {[15] = UINT32_MAX};
@@ -170,7 +174,7 @@ static void a_number_is_made_of_amounts(void) {
     WANT(colock_type_step(&type, 0, 62, &to) == COLOCK_OK && to == UINT32_MAX);
     WANT(colock_type_step(&type, UINT32_MAX, 30, &to) == COLOCK_OK && to == 0);
     WANT(colock_type_step(&type, 5, 2, &to) == COLOCK_OK && to == 3);
-    WANT(colock_close(&type) == COLOCK_OK);
+    WANT(colock_type_close(&type) == COLOCK_OK);
 }
 
 int main(void) {

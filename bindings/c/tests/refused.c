@@ -14,7 +14,7 @@ enum { TYPES = 10 };
         WANT(code == COLOCK_OK); \
     } while (0)
 
-static void make_types(colock_handle types[TYPES]) {
+static void make_types(colock_type types[TYPES]) {
     static const uint64_t amounts[] = {1, 2};
     static const uint32_t small[] = {1, 2};
     colock_fault f;
@@ -30,14 +30,14 @@ static void make_types(colock_handle types[TYPES]) {
     DO(colock_type_semiqueue(&types[9], COLOCK_INTENTIONS, TEXT("a b"), 2, &f));
 }
 
-static void make_store(colock_handle *store, colock_handle types[TYPES]) {
+static void make_store(colock_store *store, colock_type types[TYPES]) {
     DO(colock_store_new(store));
     for (int i = 0; i < TYPES; i++) DO(colock_store_add(store, &types[i]));
     DO(colock_store_open(store, 100000));
 }
 
 /* Transactions that are all open before the first of them ends. */
-static void use(colock_handle *store, uint64_t transactions) {
+static void use(colock_store *store, uint64_t transactions) {
     static const char *const calls[TYPES] = {"inc:1", "dec:1", "deposit:2", "inc:2", "insert:a", "inc:1", "give:1", "give:17", "give:1", "enq:b"};
     colock_answer answer;
     uint64_t t;
@@ -58,7 +58,7 @@ static void use(colock_handle *store, uint64_t transactions) {
 
 /* The events of the one are those of the run in which nothing was refused, so a refusal has changed nothing.
  * They are made again at the other, in as many steps as memory allows. */
-static void follow(colock_handle *store, colock_handle *other) {
+static void follow(colock_store *store, colock_store *other) {
     static colock_event room[100000], first[100000];
     static uint64_t first_count = 0;
     uint64_t count, made, done = 0;
@@ -82,8 +82,8 @@ static void follow(colock_handle *store, colock_handle *other) {
 }
 
 static void go(uint64_t transactions) {
-    colock_handle types[TYPES] = {COLOCK_HANDLE};
-    colock_handle store = COLOCK_HANDLE, other = COLOCK_HANDLE;
+    colock_type types[TYPES] = {COLOCK_EMPTY};
+    colock_store store = COLOCK_EMPTY, other = COLOCK_EMPTY;
     make_types(types);
     make_store(&store, types);
     make_store(&other, types);
@@ -91,8 +91,8 @@ static void go(uint64_t transactions) {
     follow(&store, &other);
     DO(colock_renew(&store));
     use(&store, transactions);
-    for (int i = 0; i < TYPES; i++) WANT(colock_close(&types[i]) == COLOCK_OK);
-    WANT(colock_close(&store) == COLOCK_OK && colock_close(&other) == COLOCK_OK);
+    for (int i = 0; i < TYPES; i++) WANT(colock_type_close(&types[i]) == COLOCK_OK);
+    WANT(colock_store_close(&store) == COLOCK_OK && colock_store_close(&other) == COLOCK_OK);
     WANT(live == 0);
 }
 

@@ -8,8 +8,8 @@ enum { MOST = 256 };
 typedef struct script {
     uint64_t max_events;
     int objects;
-    colock_handle type_of[MOST];
-    colock_handle store;
+    colock_type type_of[MOST];
+    colock_store store;
     uint64_t told; /* how many events were written */
 } script;
 
@@ -68,13 +68,13 @@ static void add_object(script *s, const char *line, char **type_paths) {
     puts(line);
 }
 
-static void open_store(script *s, colock_handle *store) {
+static void open_store(script *s, colock_store *store) {
     WANT(colock_store_new(store) == COLOCK_OK);
     for (int x = 0; x < s->objects; x++) WANT(colock_store_add(store, &s->type_of[x]) == COLOCK_OK);
     WANT(colock_store_open(store, s->max_events) == COLOCK_OK);
 }
 
-static uint32_t call(colock_handle *store, uint64_t t, uint32_t x, const char *name) {
+static uint32_t call(colock_store *store, uint64_t t, uint32_t x, const char *name) {
     colock_answer foreseen = {UNTOUCHED, UNTOUCHED}, answer = {UNTOUCHED, UNTOUCHED};
     uint64_t number;
     uint32_t would = colock_would(store, t, x, TEXT(name), &foreseen), code;
@@ -106,7 +106,7 @@ static void do_command(script *s, const char *line) {
 }
 
 static void follow(script *s) {
-    colock_handle other = COLOCK_HANDLE;
+    colock_store other = COLOCK_EMPTY;
     uint64_t made, here, there;
     colock_event *room = malloc((s->told + 1) * sizeof *room);
     WANT(room != NULL && colock_events(&s->store, 0, room, s->told, &made) == COLOCK_OK && made == s->told);
@@ -117,7 +117,7 @@ static void follow(script *s) {
         WANT(colock_kept(&other, (uint32_t)x, &there) == COLOCK_OK && here == there);
         printf("# kept %d %" PRIu64 "\n", x, here);
     }
-    WANT(colock_close(&other) == COLOCK_OK);
+    WANT(colock_store_close(&other) == COLOCK_OK);
     free(room);
 }
 
@@ -142,8 +142,8 @@ int main(int argc, char **argv) {
     write_events(&s);
     puts("end");
     follow(&s);
-    WANT(colock_close(&s.store) == COLOCK_OK);
-    for (int x = 0; x < s.objects; x++) WANT(colock_close(&s.type_of[x]) == COLOCK_OK);
+    WANT(colock_store_close(&s.store) == COLOCK_OK);
+    for (int x = 0; x < s.objects; x++) WANT(colock_type_close(&s.type_of[x]) == COLOCK_OK);
     free(text);
     return 0;
 }

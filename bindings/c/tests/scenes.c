@@ -234,7 +234,7 @@ static size_t name_of(const char *call, const char **name) {
 }
 
 /* Makes a call of a transaction at an object, by its name or its number. */
-static uint32_t call_object(colock_handle *store, uint8_t w, const char *call, char *told) {
+static uint32_t call_object(colock_store *store, uint8_t w, const char *call, char *told) {
     colock_answer answer = {UNTOUCHED, UNTOUCHED};
     const char *name;
     uint64_t t, place, amount;
@@ -251,7 +251,7 @@ static uint32_t call_object(colock_handle *store, uint8_t w, const char *call, c
 }
 
 /* Does a call, and tells what comes of it where its code is that of success. */
-static uint32_t do_call(colock_handle *store, uint8_t w, const char *call, char *told) {
+static uint32_t do_call(colock_store *store, uint8_t w, const char *call, char *told) {
     const char *name;
     uint64_t t, n = UNTOUCHED;
     uint32_t x, code;
@@ -279,7 +279,7 @@ typedef struct glance {
     uint64_t events, forgotten, first, second;
 } glance;
 
-static glance look(colock_handle *store) {
+static glance look(colock_store *store) {
     glance seen = {UNTOUCHED, UNTOUCHED, UNTOUCHED, UNTOUCHED};
     WANT(colock_event_count(store, &seen.events, &seen.forgotten) == COLOCK_OK);
     WANT(colock_kept(store, 0, &seen.first) == COLOCK_OK);
@@ -298,7 +298,7 @@ static size_t put_event(char *told, const colock_event *e) {
 }
 
 /* That the history of a store is this one, and its objects are in these states. */
-static void is_left(const scene *s, colock_handle *store, int objects) {
+static void is_left(const scene *s, colock_store *store, int objects) {
     colock_event room[MOST_EVENTS];
     char told[MOST_EVENTS * 80] = "";
     size_t at = 0;
@@ -321,22 +321,22 @@ static long refusals = 0;
         WANT(code_ == COLOCK_OK); \
     } while (0)
 
-static int open_store(const scene *s, colock_handle *store) {
+static int open_store(const scene *s, colock_store *store) {
     int objects = 0;
     DO(colock_store_new(store));
     for (; objects < MOST_OBJECTS && s->sorts[objects].text; objects++) {
-        colock_handle type = COLOCK_HANDLE;
+        colock_type type = COLOCK_EMPTY;
         colock_fault fault;
         DO(colock_type_read(&type, s->sorts[objects].kind, TEXT(s->sorts[objects].text), &fault));
         DO(colock_store_add(store, &type));
-        WANT(colock_close(&type) == COLOCK_OK);
+        WANT(colock_type_close(&type) == COLOCK_OK);
     }
     DO(colock_store_open(store, s->max_events));
     return objects;
 }
 
 /* Does a row, "WORKER CALL > WHAT COMES OF IT". */
-static void do_row(colock_handle *store, char *row) {
+static void do_row(colock_store *store, char *row) {
     static const char *const refused[] = {"", "NotOpen", "NoObject", "NoCall", "TooManyOpen", "HistoryFull", "NoMemory", "BadRollback",
         [COLOCK_STILL_OPEN] = "StillOpen"};
     char told[80], *call = strchr(row, ' '), *wanted = strstr(row, " > ");
@@ -357,7 +357,7 @@ static void do_row(colock_handle *store, char *row) {
 }
 
 /* Makes the events of the one store, which hasn't begun anew, again at another, in as many steps as memory allows. */
-static void follow(colock_handle *store, colock_handle *other) {
+static void follow(colock_store *store, colock_store *other) {
     colock_event room[MOST_EVENTS];
     uint64_t count, made, done = 0;
     WANT(colock_events(store, 0, room, MOST_EVENTS, &count) == COLOCK_OK);
@@ -371,7 +371,7 @@ static void follow(colock_handle *store, colock_handle *other) {
 
 static void play(const scene *s) {
     static char calls[4000];
-    colock_handle store = COLOCK_HANDLE, other = COLOCK_HANDLE;
+    colock_store store = COLOCK_EMPTY, other = COLOCK_EMPTY;
     int objects = open_store(s, &store);
     WANT(strlen(s->calls) < sizeof calls);
     strcpy(calls, s->calls);
@@ -386,7 +386,7 @@ static void play(const scene *s) {
         follow(&store, &other);
         is_left(s, &other, objects);
     }
-    WANT(colock_close(&store) == COLOCK_OK && colock_close(&other) == COLOCK_OK && live == 0);
+    WANT(colock_store_close(&store) == COLOCK_OK && colock_store_close(&other) == COLOCK_OK && live == 0);
 }
 
 int main(void) {

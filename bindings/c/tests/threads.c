@@ -6,7 +6,7 @@
 enum { THREADS = 16, ROUNDS = 500, OBJECTS = 4 };
 
 static pthread_mutex_t lock = PTHREAD_MUTEX_INITIALIZER;
-static colock_handle store = COLOCK_HANDLE;
+static colock_store store = COLOCK_EMPTY;
 
 #define LOCKED(e) (pthread_mutex_lock(&lock), code = (e), pthread_mutex_unlock(&lock), code)
 
@@ -42,7 +42,7 @@ static void *work(void *arg) {
 
 static void on_one_store(uint32_t kind) {
     static const uint64_t amounts[] = {1};
-    colock_handle type = COLOCK_HANDLE;
+    colock_type type = COLOCK_EMPTY;
     colock_fault fault;
     pthread_t threads[THREADS];
     int told[THREADS];
@@ -63,13 +63,13 @@ static void on_one_store(uint32_t kind) {
     WANT(net == (int64_t)sum);
     WANT(colock_open_count(&store, &count) == COLOCK_OK && count == 0);
     WANT(colock_event_count(&store, &count, &forgotten) == COLOCK_OK);
-    WANT(colock_close(&store) == COLOCK_OK && colock_close(&type) == COLOCK_OK);
+    WANT(colock_store_close(&store) == COLOCK_OK && colock_type_close(&type) == COLOCK_OK);
     printf("16 threads, kind %" PRIu32 ": %d transactions committed, %" PRIu64 " events, what is kept is their sum\n", kind, THREADS * ROUNDS, count);
 }
 
 /* Uses a store and closes it. It has its type with the stores of other threads. */
 static void *use(void *arg) {
-    colock_handle *own = arg;
+    colock_store *own = arg;
     colock_answer answer;
     uint64_t kept;
     for (uint64_t t = 0; t < ROUNDS; t++) {
@@ -78,12 +78,13 @@ static void *use(void *arg) {
         WANT(answer.kind == COLOCK_REPLY && colock_commit(own, 0, t) == COLOCK_OK);
     }
     WANT(colock_kept(own, 0, &kept) == COLOCK_OK && kept == 0);
-    WANT(colock_renew(own) == COLOCK_OK && begin(own, 0) == 0 && colock_close(own) == COLOCK_OK);
+    WANT(colock_renew(own) == COLOCK_OK && begin(own, 0) == 0 && colock_store_close(own) == COLOCK_OK);
     return NULL;
 }
 
 static void on_a_store_each(void) {
-    colock_handle type = COLOCK_HANDLE, own[THREADS];
+    colock_type type = COLOCK_EMPTY;
+    colock_store own[THREADS];
     colock_fault fault;
     pthread_t threads[THREADS];
     WANT(colock_type_read(&type, COLOCK_INTENTIONS, TEXT(CTR2), &fault) == COLOCK_OK);
@@ -94,7 +95,7 @@ static void on_a_store_each(void) {
         WANT(colock_store_open(&own[i], 10000) == COLOCK_OK);
     }
     for (int i = 0; i < THREADS; i++) WANT(!pthread_create(&threads[i], NULL, use, &own[i]));
-    WANT(colock_close(&type) == COLOCK_OK); /* beside them */
+    WANT(colock_type_close(&type) == COLOCK_OK); /* beside them */
     for (int i = 0; i < THREADS; i++) WANT(!pthread_join(threads[i], NULL));
 }
 

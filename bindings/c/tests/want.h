@@ -45,17 +45,17 @@ static const char PURSE[] = "number purse\nmax 10000\ninitial 500\ntake 100\ntak
 enum { TAKE_100 = 0, TAKE_ANY = 2, TAKE_SHORT = 3, GIVE_ANY = 4, GIVE_FULL = 5, VALUE = 6 };
 
 /* A store of this many objects of the type of CTR2, updated in place. */
-static inline void open_counters(colock_handle *store, int objects, uint64_t max_events) {
-    colock_handle type = COLOCK_HANDLE;
+static inline void open_counters(colock_store *store, int objects, uint64_t max_events) {
+    colock_type type = COLOCK_EMPTY;
     colock_fault fault;
     WANT(colock_type_read(&type, COLOCK_UNDO, TEXT(CTR2), &fault) == COLOCK_OK);
     WANT(colock_store_new(store) == COLOCK_OK);
     for (int x = 0; x < objects; x++) WANT(colock_store_add(store, &type) == COLOCK_OK);
     WANT(colock_store_open(store, max_events) == COLOCK_OK);
-    WANT(colock_close(&type) == COLOCK_OK);
+    WANT(colock_type_close(&type) == COLOCK_OK);
 }
 
-static inline uint64_t begin(colock_handle *store, uint8_t worker) {
+static inline uint64_t begin(colock_store *store, uint8_t worker) {
     uint64_t t = UNTOUCHED;
     WANT(colock_begin(store, worker, &t) == COLOCK_OK);
     return t;
