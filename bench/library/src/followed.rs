@@ -2,7 +2,7 @@
 //! and the plain program differ.
 
 use crate::{Told, number, type_at};
-use colock::{Error, Event, Operation, Store, Type};
+use colock::{Error, Event, OperationId, Store, Type};
 use std::error::Error as AnyError;
 
 /// The most events of a history, as for the plain program.
@@ -30,7 +30,7 @@ fn event_of([w, kind, t, x, c, u]: [u32; 6]) -> Event {
             worker,
             transaction,
             object: x,
-            operation: Operation::listed(call),
+            operation: OperationId::listed(call),
         },
         2 => Event::Busy {
             worker,

@@ -77,7 +77,7 @@ impl<'a> Work<'a> {
                         break;
                     }
                     Reply::Busy { .. } => outcome.busy += 1,
-                    Reply::None => outcome.none += 1,
+                    Reply::Illegal => outcome.none += 1,
                 }
             }
         }

@@ -9,57 +9,39 @@
 //! one thread packs at a time. With locks for operations all who take may pack side by side, and so may all who
 //! give; who gives waits for those who take, as a piece that is taken may come back by an abort.
 
-use colock::{Error, Kind, Operation, Reply, Store, Transaction, TransactionId, Type};
-use std::sync::atomic::{AtomicU64, Ordering};
-use std::sync::{Mutex, MutexGuard};
+use colock::{Error, Kind, OperationId, SharedStore, Type};
+use std::sync::Mutex;
 use std::thread;
 use std::time::{Duration, Instant};
 
 const THREADS: u8 = 16;
 const PIECES: u64 = 100;
 const PACKING: Duration = Duration::from_millis(1);
+/// How long a transaction waits at most for those that are in its way.
+const PATIENCE: Duration = Duration::from_secs(10);
 
-/// A stock in a store, with a lock round each call.
+/// A stock in a store that the threads share.
 struct Shop {
-    store: Mutex<Store>,
-    take: Operation,
-    give: Operation,
-    busy: AtomicU64,
+    store: SharedStore,
+    take: OperationId,
+    give: OperationId,
 }
 
 impl Shop {
     fn new() -> Result<Shop, Error> {
         let counter = Type::counter(2 * PIECES, &[1, PIECES], Kind::Undo)?;
-        let store = Store::new([&counter], u32::MAX.into())?;
-        let mut filling = store.begin()?;
-        assert_eq!(filling.call(0, &format!("inc:{PIECES}"))?, Reply::Operation(2.into()));
-        filling.commit()?;
+        let store = SharedStore::new([&counter], u32::MAX.into())?;
+        store.transact(|turn| turn.expect(0, &format!("inc:{PIECES}"), "ok"))?;
         let (take, give) = (store.call_number(0, "dec:1")?, store.call_number(0, "inc:1")?);
-        Ok(Shop { store: Mutex::new(store), take, give, busy: AtomicU64::new(0) })
+        Ok(Shop { store, take, give })
     }
 
-    fn lock(&self) -> MutexGuard<'_, Store> {
-        self.store.lock().expect("no thread panics with the lock")
-    }
-
-    /// One transaction of one operation, which is asked until nobody blocks it.
-    fn transact(&self, worker: u8, call: Operation) -> Result<(), Error> {
-        let id = self.lock().begin_as(worker)?.leave();
-        while !self.try_call(id, call)? {
-            self.busy.fetch_add(1, Ordering::Relaxed);
-            thread::sleep(PACKING / 8);
-        }
+    /// One transaction of one operation, which waits until nobody is in its way.
+    fn transact(&self, worker: u8, call: OperationId) -> Result<(), Error> {
+        let mut transaction = self.store.begin_as(worker)?;
+        transaction.call_op_within(0, call, PATIENCE)?.expected("ok")?;
         thread::sleep(PACKING);
-        self.lock().resume(id)?.commit()
-    }
-
-    /// Whether the call was executed. `would` asks without an event, so that waiting leaves no trace.
-    fn try_call(&self, id: TransactionId, call: Operation) -> Result<bool, Error> {
-        let store = self.lock();
-        let mut transaction = store.resume(id)?;
-        let done = matches!(transaction.would_op(0, call)?, Reply::Operation(_)) && matches!(transaction.call_op(0, call)?, Reply::Operation(_));
-        Transaction::leave(transaction);
-        Ok(done)
+        transaction.commit()
     }
 }
 
@@ -98,17 +80,13 @@ fn main() -> Result<(), Box<dyn std::error::Error>> {
     tell("a mutex round the object", rounds, alone);
 
     let shop = Shop::new()?;
-    let transact = |worker, call| shop.transact(worker, call).expect("room for each event");
+    let transact = |worker, call| shop.transact(worker, call).expect("nobody waits so long");
     let beside = timed(rounds, |worker| transact(worker, shop.take), |worker| transact(worker, shop.give));
     tell("locks for operations", rounds, beside);
-    println!(
-        "asked in vain {} times; {:.1} times as many transactions a second",
-        shop.busy.load(Ordering::Relaxed),
-        alone.as_secs_f64() / beside.as_secs_f64()
-    );
+    println!("{} waits; {:.1} times as many transactions a second", shop.store.stats().waits, alone.as_secs_f64() / beside.as_secs_f64());
 
-    let store = shop.lock();
-    assert_eq!((store.kept(0)?, store.open_count()), (PIECES, 0));
-    println!("{} pieces are there again, {} events", store.kept(0)?, store.event_count());
+    let store = &shop.store;
+    assert_eq!((store.kept(0)?, store.open_count()?), (PIECES, 0));
+    println!("{} pieces are there again, {} events", store.kept(0)?, store.event_count()?);
     Ok(())
 }

@@ -1,10 +1,12 @@
-//! `clients_bench PART SECONDS [DATABASE]`: what waiting and turns cost, beside a plain mutex. It prints lines `NAME VALUE`,
-//! each value a number of commits a second.
+//! `clients_bench PART SECONDS [DATABASE]`, `clients_bench herd [DATABASE]`: what waiting and turns cost, beside a plain
+//! mutex. It prints lines `NAME VALUE`, each value a number of commits a second.
 //!
 //! - `think`: sixteen threads count one counter up, and each transaction thinks for a millisecond.
 //! - `mixed`: the same, where each thread counts down and up by turns, by calls that wait.
 //! - `turns`: nobody thinks; one thread, and four, count a counter up and down by turns.
 //! - `child`: sixteen threads count a wheel on at a store in a file, which is made where nothing is there.
+//! - `herd`: 10 threads, 100, 400 and 800 wait for one object, and each commits as soon as it has it; in memory, or at a
+//!   store in a file.
 //!
 //! The plain counter is held for the whole of a transaction; of its log each transaction has three entries.
 
@@ -17,7 +19,16 @@ use std::time::{Duration, Instant};
 
 const THREADS: u64 = 16;
 const THINKING: Duration = Duration::from_millis(1);
-const LONG: Duration = Duration::from_secs(60);
+const LONG: Duration = Duration::from_secs(600);
+
+/// How many threads wait in `herd`.
+const HERDS: [u64; 4] = [10, 100, 400, 800];
+/// How many hand-overs there are with each of these numbers.
+const HAND_OVERS: u64 = 800;
+/// The stack of one of many threads.
+const SMALL: usize = 128 * 1024;
+/// A type of one call, which each other one keeps out.
+const TOKEN: &str = "type token\nstates 1\ninitial 0\nop pass ok\nstep 0 0 0\nconflict undo 0 0\nend\n";
 
 /// A counter with a log, for a mutex round it. An entry of the log is an event as a store has them.
 struct Plain {
@@ -92,7 +103,7 @@ fn think(limit: Duration) -> Result<(), Error> {
     let tick = store.call_number(0, "tick")?;
     let shared = per_second(THREADS, limit, |_, _| {
         let mut t = store.begin().unwrap();
-        t.call_op(0, tick).unwrap().executed().unwrap();
+        t.call_op(0, tick).unwrap().expected("ok").unwrap();
         thread::sleep(THINKING);
         t.commit().unwrap();
     });
@@ -106,7 +117,7 @@ fn think(limit: Duration) -> Result<(), Error> {
 fn half_full() -> Result<SharedStore, Error> {
     let counter = Type::counter(1000, &[1, 500], Kind::Undo)?;
     let store = SharedStore::new([&counter], u32::MAX.into())?;
-    store.transact(|turn| turn.call(0, "inc:500")?.executed())?;
+    store.transact(|turn| turn.expect(0, "inc:500", "ok"))?;
     Ok(store)
 }
 
@@ -115,7 +126,7 @@ fn mixed(limit: Duration) -> Result<(), Error> {
     let calls = [store.call_number(0, "dec:1")?, store.call_number(0, "inc:1")?];
     let shared = per_second(THREADS, limit, |_, done| {
         let mut t = store.begin().unwrap();
-        t.call_op_within(0, calls[(done % 2) as usize], LONG).unwrap().executed().unwrap();
+        t.call_op_within(0, calls[(done % 2) as usize], LONG).unwrap().expected("ok").unwrap();
         thread::sleep(THINKING);
         t.commit().unwrap();
     });
@@ -130,7 +141,7 @@ fn turns(limit: Duration) -> Result<(), Error> {
         let store = half_full()?;
         let calls = [store.call_number(0, "dec:1")?, store.call_number(0, "inc:1")?];
         let shared = per_second(threads, limit, |_, done| {
-            let done = store.transact(|turn| turn.call_op(0, calls[(done % 2) as usize])?.executed());
+            let done = store.transact(|turn| turn.expect_op(0, calls[(done % 2) as usize], "ok"));
             assert!(done.is_ok());
         });
         drop(store);
@@ -154,13 +165,54 @@ fn child(limit: Duration, path: &str) -> Result<(), Error> {
         let tick = store.call_number(0, "tick")?;
         let shared = per_second(THREADS, limit, |_, _| {
             let mut t = store.begin().unwrap();
-            t.call_op(0, tick).unwrap().executed().unwrap();
+            t.call_op(0, tick).unwrap().expected("ok").unwrap();
             t.commit().unwrap();
         });
         println!("{name} {shared:.0}");
         store.close()?;
     }
     Ok(())
+}
+
+/// How long it takes until all that wait for an object have had it, one after another.
+fn handed_over(store: &SharedStore, waiting: u64) -> Result<Duration, Error> {
+    let (pass, slept) = (store.call_number(0, "pass")?, store.stats().waits);
+    let mut holder = store.begin()?;
+    holder.call_op(0, pass)?.expected("ok")?;
+    thread::scope(|scope| {
+        let waits = || {
+            let mut t = store.begin().unwrap();
+            t.call_op_within(0, pass, LONG).unwrap().expected("ok").unwrap();
+            t.commit().unwrap();
+            Instant::now()
+        };
+        let threads: Vec<_> = (0..waiting).map(|_| thread::Builder::new().stack_size(SMALL).spawn_scoped(scope, waits).unwrap()).collect();
+        while store.stats().waits < slept + waiting {
+            thread::sleep(THINKING);
+        }
+        let start = Instant::now();
+        holder.commit()?;
+        let ends = threads.into_iter().map(|thread| thread.join().unwrap());
+        Ok(ends.max().unwrap_or(start) - start)
+    })
+}
+
+fn herd(store: &SharedStore, name: &str) -> Result<(), Error> {
+    for waiting in HERDS {
+        let took = (0..HAND_OVERS / waiting).map(|_| handed_over(store, waiting)).sum::<Result<Duration, Error>>()?;
+        println!("{name}_{waiting} {:.0}", HAND_OVERS as f64 / took.as_secs_f64());
+    }
+    Ok(())
+}
+
+fn herd_in_memory() -> Result<(), Error> {
+    herd(&SharedStore::new([&Type::read(TOKEN, Kind::Undo)?], u32::MAX.into())?, "herd_store")
+}
+
+fn herd_over_child(path: &str) -> Result<(), Error> {
+    let store = OpenOptions::new().objects(&[&Type::read(TOKEN, Kind::Undo)?]).create(true).open(path)?;
+    herd(&store, "herd_child_store")?;
+    store.close()
 }
 
 fn main() -> Result<(), Box<dyn AnyError>> {
@@ -171,7 +223,9 @@ fn main() -> Result<(), Box<dyn AnyError>> {
         [part, seconds] if part == "mixed" => mixed(limit(seconds)?)?,
         [part, seconds] if part == "turns" => turns(limit(seconds)?)?,
         [part, seconds, path] if part == "child" => child(limit(seconds)?, path)?,
-        _ => return Err("clients_bench think|mixed|turns SECONDS, or child SECONDS DATABASE".into()),
+        [part] if part == "herd" => herd_in_memory()?,
+        [part, path] if part == "herd" => herd_over_child(path)?,
+        _ => return Err("clients_bench think|mixed|turns SECONDS, child SECONDS DATABASE, or herd [DATABASE]".into()),
     }
     Ok(())
 }

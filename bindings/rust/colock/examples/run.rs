@@ -1,6 +1,6 @@
 //! `run SCRIPT TYPE..`: runs a script, and writes what `colock run` writes of it up to the kept states.
 
-use colock::{Error, Kind, Store, Transaction, TransactionId, Type};
+use colock::{Error, Kind, LeftOpen, Store, Transaction, Type};
 use std::error::Error as AnyError;
 use std::io::{self, Write};
 
@@ -15,12 +15,12 @@ const REFUSALS: [(Error, &str); 7] = [
 ];
 
 /// The transaction of a number. One that never began is as one that ended.
-fn resumed<'s>(store: &'s Store, begun: &[TransactionId], number: &str) -> Result<Transaction<'s>, Error> {
+fn resumed<'s>(store: &'s Store, begun: &[LeftOpen], number: &str) -> Result<Transaction<'s>, Error> {
     let id = number.parse::<usize>().ok().and_then(|number| begun.get(number)).ok_or(Error::NotOpen)?;
     store.resume(*id)
 }
 
-fn command(store: &Store, begun: &mut Vec<TransactionId>, words: &[&str]) -> Result<(), Error> {
+fn command(store: &Store, begun: &mut Vec<LeftOpen>, words: &[&str]) -> Result<(), Error> {
     match *words {
         ["begin"] => {
             begun.push(store.begin()?.leave());

@@ -1,3 +1,5 @@
+use crate::failure::Failure;
+use crate::transaction_id::TransactionId;
 use colock_sys::{code, Fault};
 use std::fmt;
 
@@ -53,14 +55,22 @@ pub enum Error {
     /// A call was busy, where [`Reply::executed`](crate::Reply::executed) asked for its operation.
     Busy {
         /// Who was in its way.
-        blocker: u64,
+        blocker: TransactionId,
     },
     /// No operation of a call was legal, where [`Reply::executed`](crate::Reply::executed) asked for it.
     Illegal,
+    /// A call was answered otherwise than its caller expected. The operation was executed, and is in the transaction as
+    /// long as that isn't rolled back or aborted.
+    Unexpected {
+        /// The name of the call.
+        call: String,
+        /// What it was answered.
+        reply: String,
+    },
     /// The transaction waited in a circle and was the youngest in it. It has been aborted.
     Deadlock {
         /// For whom it waited.
-        waited_for: u64,
+        waited_for: TransactionId,
     },
     /// The limit of a wait is over. Nothing was executed, and the transaction is open.
     TimedOut,
@@ -70,13 +80,18 @@ pub enum Error {
     ConnectionLost(String),
     /// The child was lost while a commit was in flight: it may be durable or not. This is the transaction's id,
     /// by which [`SharedStore::committed`](crate::SharedStore::committed) says what became of it, with the file open again.
-    OutcomeUnknown(String),
-    /// A file wasn't opened or made, in words: those of the program, or why it wasn't started.
-    CannotOpen(String),
+    OutcomeUnknown(TransactionId),
+    /// The store was closed, by [`SharedStore::close`](crate::SharedStore::close).
+    Closed,
+    /// A file wasn't opened or made, by the words of the program, or by why it wasn't started.
+    CannotOpen(Failure),
     /// The objects of the file aren't those that were given.
     OtherObjects,
     /// Only a store in memory does this.
     InMemoryOnly,
+    /// The thread is in a turn of this store, by [`SharedStore::transact`](crate::SharedStore::transact), for whose end
+    /// this would wait.
+    InTurn,
     /// A type of more than 1,024 states. This operation made the most new ones.
     TooManyStates {
         /// Its call.
@@ -167,6 +182,19 @@ pub struct NotFollowed {
 }
 
 impl Error {
+    /// Whether the same may go well in another transaction, since others were in the way: of [`Error::Busy`],
+    /// [`Error::Deadlock`], [`Error::TimedOut`] and [`Error::EpochEnded`]. By these [`SharedStore::retry`](crate::SharedStore::retry)
+    /// tries again.
+    ///
+    /// ```
+    /// use colock::Error;
+    ///
+    /// assert!(Error::TimedOut.is_retryable() && !Error::Illegal.is_retryable());
+    /// ```
+    pub fn is_retryable(&self) -> bool {
+        matches!(self, Error::Busy { .. } | Error::Deadlock { .. } | Error::TimedOut | Error::EpochEnded)
+    }
+
     pub(crate) fn of_code(code: u32) -> Error {
         match code {
             code::NOT_OPEN => Error::NotOpen,
@@ -275,12 +303,15 @@ impl Error {
             Error::Busy { blocker } => write!(f, "transaction {blocker} is in the way"),
             Error::Illegal => f.write_str("no operation of the call is legal"),
             Error::Deadlock { waited_for } => write!(f, "a deadlock: the transaction waited for {waited_for}, and was aborted"),
+            Error::Unexpected { call, reply } => write!(f, "{call} was answered {reply}"),
             Error::TimedOut => f.write_str("the limit of the wait is over"),
             Error::EpochEnded => f.write_str("a new epoch began, which aborted the transaction"),
             Error::ConnectionLost(words) => write!(f, "the store is lost: {words}"),
             Error::OutcomeUnknown(id) => write!(f, "the store was lost while transaction {id} was committed"),
+            Error::Closed => f.write_str("the store is closed"),
             Error::CannotOpen(words) => write!(f, "the store can't be opened: {words}"),
             Error::OtherObjects => f.write_str("the store has other objects"),
+            Error::InTurn => f.write_str("the thread is in a turn of the store, for whose end this would wait"),
             Error::InMemoryOnly => f.write_str("only a store in memory does this"),
             Error::TooManyStates { call, reply } => write!(f, "the type has too many states, most of them by {call} {reply}"),
             other => fmt::Debug::fmt(other, f),
@@ -312,7 +343,15 @@ impl fmt::Display for NotFollowed {
     }
 }
 
-impl std::error::Error for Error {}
+/// Its source is an error of the system, whose words are among its own.
+impl std::error::Error for Error {
+    fn source(&self) -> Option<&(dyn std::error::Error + 'static)> {
+        match self {
+            Error::CannotOpen(failure) => Some(failure.io_error()?),
+            _ => None,
+        }
+    }
+}
 
 impl std::error::Error for NotFollowed {
     fn source(&self) -> Option<&(dyn std::error::Error + 'static)> {

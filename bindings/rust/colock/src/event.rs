@@ -1,4 +1,4 @@
-use crate::operation::Operation;
+use crate::operation_id::OperationId;
 use colock_sys as sys;
 use std::fmt;
 
@@ -22,7 +22,7 @@ pub enum Event {
         /// The object.
         object: u32,
         /// The operation.
-        operation: Operation,
+        operation: OperationId,
     },
     /// What another transaction did was in the way of a call.
     Busy {
@@ -78,7 +78,7 @@ impl Event {
     pub(crate) fn of(words: &sys::Event) -> Result<Event, u64> {
         let sys::Event { transaction, other, op, object, kind, worker, .. } = *words;
         let worker = u8::try_from(worker).map_err(|_| u64::from(worker))?;
-        let operation = || Operation::try_from(op).map_err(|_| op);
+        let operation = || OperationId::try_from(op).map_err(|_| op);
         let call = || u8::try_from(op).map_err(|_| op);
         Ok(match kind {
             0 => Event::Begin { worker, transaction },

@@ -3,8 +3,9 @@
 //!
 //! A [`Type`] is read of a text or made of a family, and checked for a [`Kind`] of recovery. A [`Store`] has
 //! objects of such types. A [`Transaction`] calls operations of the objects, and commits, or aborts where it
-//! is dropped. A call has a [`Reply`]: the operation that was executed, or the blocker, which is a
-//! transaction that did what is in its way.
+//! is dropped. A call has a [`Reply`]: the operation that was executed, in words, or the blocker, which is a transaction
+//! that did what is in its way. What was executed may be a refusal, as `withdraw:1 short`: `expect` makes an error of each
+//! reply but the one that is wanted.
 //!
 //! ```
 //! use colock::{Kind, Reply, Store, Type};
@@ -13,11 +14,11 @@
 //! let store = Store::new([&counter], 1_000_000)?;
 //! let mut first = store.begin()?;
 //! let mut second = store.begin()?;
-//! assert_eq!(first.call(0, "inc:1")?, Reply::Operation(0.into()));
-//! assert_eq!(second.call(0, "inc:1")?, Reply::Operation(0.into())); // beside the first
-//! assert_eq!(second.call(0, "dec:1")?, Reply::Busy { blocker: 0 });
+//! assert_eq!(first.call(0, "inc:1")?.to_string(), "inc:1 ok");
+//! assert_eq!(second.call(0, "inc:1")?.to_string(), "inc:1 ok"); // beside the first
+//! assert_eq!(second.call(0, "dec:1")?.to_string(), "busy 0.0");
 //! drop(first); // aborts it, which takes its up out of the middle
-//! assert_eq!(second.call(0, "dec:1")?, Reply::Operation(1.into()));
+//! assert_eq!(second.call(0, "dec:1")?.to_string(), "dec:1 ok");
 //! second.commit()?;
 //! assert_eq!(store.kept(0)?, 0);
 //! # Ok::<(), colock::Error>(())
@@ -40,26 +41,26 @@
 //! })?;
 //! let store = Store::new([&stock], 1_000_000)?;
 //! let (mut first, mut second, mut third) = (store.begin()?, store.begin()?, store.begin()?);
-//! assert_eq!((first.call(0, "take")?, first.call(0, "take")?), (Reply::Operation(0.into()), Reply::Operation(0.into())));
-//! assert_eq!(second.call(0, "give")?, Reply::Operation(1.into())); // beside the first
-//! assert_eq!(third.call(0, "take")?, Reply::Busy { blocker: 0 }); // the second may yet be aborted
+//! assert!(first.call(0, "take")?.is("ok") && first.call(0, "take")?.is("ok"));
+//! assert!(second.call(0, "give")?.is("ok")); // beside the first
+//! assert_eq!(third.call(0, "take")?.to_string(), "busy 0.0"); // the second may yet be aborted
 //! second.commit()?;
-//! assert_eq!((third.call(0, "take")?, store.kept(0)?), (Reply::Operation(0.into()), 3));
+//! assert!(third.call(0, "take")?.is("ok") && store.kept(0)? == 3);
 //! # Ok::<(), colock::Error>(())
 //! ```
 //!
-//! A number that has no table may take and give any amount, and answer what it is. Its [`Operation`]s have a place and an
+//! A number that has no table may take and give any amount, and answer what it is. Its [`Operation`]s have an
 //! amount. Its value is read where no other open transaction may move it, and then nobody may until the reader has ended.
 //!
 //! ```
-//! use colock::{Kind, Operation, Reply, Store, Type};
+//! use colock::{Kind, OperationId, Reply, Store, Type};
 //!
 //! let purse = Type::read("number purse\nmax 10000\ninitial 500\ntake any\ngive any\nvalue\nend\n", Kind::Escrow)?;
 //! let store = Store::new([&purse], 1_000_000)?;
 //! let (mut first, mut second) = (store.begin()?, store.begin()?);
-//! assert_eq!(first.call(0, "take:17")?, Reply::Operation(Operation::with(0, 17)));
-//! assert_eq!(second.call(0, "give:3")?, Reply::Operation(Operation::with(2, 3))); // beside the first
-//! assert_eq!(first.call(0, "value")?, Reply::Busy { blocker: 1 }); // the give may yet be aborted
+//! assert_eq!(first.call(0, "take:17")?.to_string(), "take:17 ok");
+//! assert_eq!(second.call(0, "give:3")?.to_string(), "give:3 ok"); // beside the first
+//! assert_eq!(first.call(0, "value")?.to_string(), "busy 0.1"); // the give may yet be aborted
 //! second.commit()?;
 //! assert_eq!(first.call(0, "value")?.executed()?.amount, Some(486));
 //! assert_eq!(store.events(2)?[0].to_string(), "op 0 0 0 0 17");
@@ -82,9 +83,9 @@
 //!     for worker in 0..16 {
 //!         let store = &store;
 //!         scope.spawn(move || -> Result<(), colock::Error> {
-//!             let id = store.lock().unwrap().begin_as(worker)?.leave();
+//!             let left = store.lock().unwrap().begin_as(worker)?.leave();
 //!             let guard = store.lock().unwrap();
-//!             let mut transaction = guard.resume(id)?;
+//!             let mut transaction = guard.resume(left)?;
 //!             let _reply = transaction.call(0, "inc:1")?;
 //!             transaction.commit()
 //!         });
@@ -104,7 +105,8 @@
 //! - **Deadlock.** Where transactions wait in a circle, the youngest of them is aborted at once, and its call fails
 //!   with [`Error::Deadlock`].
 //! - **Again.** [`SharedStore::retry`] runs a function as a transaction, and again where it was in the way of others;
-//!   it keeps the age of its first try, so that it isn't the youngest for ever.
+//!   it keeps the age of its first try, so that it isn't the youngest for ever. An error that comes from another one counts
+//!   as that one, by [`cause_in`].
 //! - **At once.** [`SharedStore::transact`] does a whole transaction in one turn of the lock, which is the fastest where
 //!   nobody thinks between two calls.
 //!
@@ -116,7 +118,7 @@
 //! let stock = Type::counter(16, &[1, 8], Kind::Undo)?;
 //! let store = SharedStore::new([&stock, &stock], 1_000_000)?;
 //! for object in 0..2 {
-//!     store.transact(|turn| turn.call(object, "inc:8")?.executed())?;
+//!     store.transact(|turn| turn.expect(object, "inc:8", "ok"))?;
 //! }
 //! std::thread::scope(|scope| {
 //!     for worker in 0..8 {
@@ -124,8 +126,8 @@
 //!         scope.spawn(move || {
 //!             let moved = store.retry(&Retry { tries: 100, ..Retry::default() }, |transaction| {
 //!                 let wait = Duration::from_secs(10);
-//!                 transaction.call_within(worker % 2, "dec:1", wait)?.executed()?;
-//!                 transaction.call_within(1 - worker % 2, "inc:1", wait)?.executed()
+//!                 transaction.expect_within(worker % 2, "dec:1", "ok", wait)?;
+//!                 transaction.expect_within(1 - worker % 2, "inc:1", "ok", wait)
 //!             });
 //!             assert!(moved.is_ok());
 //!         });
@@ -150,10 +152,10 @@
 //! let options = OpenOptions::new().objects(&[&seats]).create(true);
 //! let store = options.clone().open(&path)?;
 //! let mut transaction = store.begin()?;
-//! transaction.call(0, "insert:a1")?.executed()?;
+//! transaction.expect(0, "insert:a1", "ok")?;
 //! if let Err(Error::OutcomeUnknown(id)) = transaction.commit() {
 //!     drop(store);
-//!     println!("{:?}", options.open(&path)?.committed(&id)?);
+//!     println!("{:?}", options.open(&path)?.committed(id)?);
 //! }
 //! # Ok::<(), Error>(())
 //! ```
@@ -163,49 +165,35 @@
 //! What each call of the library does is proved, and so is what the program `colock serve` answers. This crate is
 //! tested only: its layer of `unsafe` calls, and all of the waiting and of the child.
 
-mod beginning;
-mod bounds;
-mod calling;
-mod calls;
-mod child;
-mod creating;
 mod error;
 mod event;
-mod flight;
+mod failure;
 mod fork;
-mod gather;
-mod handle;
-mod identity;
 mod locks;
-mod opening;
-mod operation;
-mod past;
-mod program;
-mod request;
-mod retry;
+mod memory;
+mod operation_id;
+mod reply;
 mod shared;
-mod shared_transaction;
-mod slot;
-mod source;
 mod stats;
-mod steps;
-mod store;
-mod store_state;
-mod touched;
-mod transaction;
-mod turn;
+mod transaction_id;
 mod types;
-mod waiting;
+mod wait;
+mod wire;
+mod word;
 
 pub use error::{CheckRefusal, Error, FaultKind, NotFollowed};
 pub use event::Event;
-pub use opening::OpenOptions;
-pub use operation::Operation;
-pub use retry::{Cause, Retry};
+pub use failure::Failure;
+pub use memory::store::Store;
+pub use memory::transaction::{LeftOpen, Transaction};
+pub use operation_id::OperationId;
+pub use reply::{Operation, Reply};
+pub use shared::transaction::{OwnedTransaction, SharedTransaction};
+pub use shared::turn::Turn;
 pub use shared::SharedStore;
-pub use shared_transaction::SharedTransaction;
 pub use stats::Stats;
-pub use store::Store;
-pub use transaction::{Reply, Transaction, TransactionId};
-pub use turn::Turn;
+pub use transaction_id::TransactionId;
 pub use types::{Kind, Type};
+pub use wait::retry::{cause_in, Cause, Retry};
+pub use wire::opening::OpenOptions;
+pub use word::Word;

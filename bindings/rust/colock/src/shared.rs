@@ -1,62 +1,65 @@
-use crate::calls::Calls;
-use crate::child::{listed, ok, Link};
-use crate::error::{Error, NotFollowed};
-use crate::event::Event;
-use crate::locks::locked;
-use crate::operation::Operation;
-use crate::past::Past;
-use crate::request::{self, Id, Request};
-use crate::shared_transaction::SharedTransaction;
-use crate::slot::Slot;
-use crate::stats::Stats;
-use crate::store::Store;
-use crate::store_state::{Held, Served, State, Ticket};
-use crate::touched::Underway;
-use crate::types::Type;
-use crate::waiting::Verdict;
-use std::fmt;
-use std::mem;
-use std::sync::atomic::{AtomicU64, Ordering};
-use std::sync::{Arc, Mutex, MutexGuard};
+pub(crate) mod calling;
+pub(crate) mod commits;
+mod dropping;
+mod ends;
+mod in_memory;
+pub(crate) mod in_turn;
+mod reading;
+pub(crate) mod state;
+pub(crate) mod transaction;
+pub(crate) mod turn;
 
-/// The most events that a child answers at once.
-const MOST_EVENTS: u32 = 65_536;
+use crate::error::Error;
+use crate::fork::Origin;
+use crate::locks::locked;
+use crate::memory::store::{calls_at, Store};
+use crate::reply::{Outcome, Reply};
+use crate::shared::in_turn::InTurn;
+use crate::shared::state::{Held, State, Ticket};
+use crate::shared::transaction::{OwnedTransaction, SharedTransaction};
+use crate::transaction_id::TransactionId;
+use crate::types::calls::Calls;
+use crate::types::Type;
+use crate::wire::child::Link;
+use crate::wire::ending::FileId;
+use crate::wire::past::Past;
+use crate::wire::remote::Remote;
+use std::fmt;
+use std::sync::atomic::{AtomicBool, Ordering};
+use std::sync::{Arc, Mutex, MutexGuard};
 
 /// A store of objects that threads share, in memory or in a file, whose calls may wait.
 ///
-/// [`SharedStore::new`] makes one in memory, and [`OpenOptions`](crate::OpenOptions) opens one in a file. Where it
-/// is dropped, it is closed.
+/// [`SharedStore::new`] makes one in memory, and [`OpenOptions`](crate::OpenOptions) opens one in a file. In an `Arc` it may be
+/// used as long as a transaction keeps it, by [`SharedStore::begin_owned`]. In a fork of the process that opened it each call
+/// fails, [`Error::ConnectionLost`].
+///
+/// Where it is dropped, what is open aborts. A child is told to end, and is waited for by a thread of its own, at most as long
+/// as an answer may take: [`SharedStore::close`] waits, and says how it ended. As long as it ends,
+/// [`OpenOptions::open`](crate::OpenOptions::open) waits for it; another process can't open the file yet.
 pub struct SharedStore {
     state: Arc<Mutex<State>>,
     /// Of each object.
-    calls: Vec<Arc<Calls>>,
-    behind: Option<Behind>,
-    is_closed: bool,
-}
-
-/// A store behind a child: what isn't under its lock.
-pub(crate) struct Behind {
-    pub(crate) link: Arc<Link>,
-    pub(crate) past: Past,
-    pub(crate) commits: AtomicU64,
-    /// The commits that may come after what is asked later.
-    pub(crate) underway: Underway,
-}
-
-impl Behind {
-    /// Since when what others let go may be missing in an answer about an object that is asked for now: from this moment
-    /// on, or from the first one where a commit is underway there.
-    pub(crate) fn since(&self, served: &Served, object: u32) -> u64 {
-        if self.underway.is_at(object) {
-            0
-        } else {
-            served.let_go.moment()
-        }
-    }
+    types: Vec<Type>,
+    remote: Option<Remote>,
+    /// The process that opened it.
+    origin: Origin,
+    pub(crate) in_turn: InTurn,
+    /// Written with the lock.
+    is_closed: AtomicBool,
 }
 
 /// The one lock of a store.
 pub(crate) type Guard<'s> = MutexGuard<'s, State>;
+
+/// What came of something that needs the lock, and the lock, which is given up meanwhile or kept.
+pub(crate) type Guarded<'s, T> = (Guard<'s>, Result<T, Error>);
+
+/// A transaction that has begun, and the lock.
+pub(crate) struct Begun<'s> {
+    pub(crate) guard: Guard<'s>,
+    pub(crate) id: TransactionId,
+}
 
 /// What becomes of the lock while an answer of a child is awaited.
 #[derive(Clone, Copy, Debug, PartialEq, Eq)]
@@ -77,7 +80,7 @@ impl SharedStore {
     ///     for _ in 0..4 {
     ///         scope.spawn(|| -> Result<(), colock::Error> {
     ///             let mut transaction = store.begin()?;
-    ///             transaction.call(0, "inc:1")?.executed()?;
+    ///             transaction.expect(0, "inc:1", "ok")?;
     ///             transaction.commit()
     ///         });
     ///     }
@@ -90,26 +93,60 @@ impl SharedStore {
     ///
     /// As of [`Store::new`](crate::Store::new).
     pub fn new<'t>(types: impl IntoIterator<Item = &'t Type>, max_events: u64) -> Result<SharedStore, Error> {
-        let types: Vec<&Type> = types.into_iter().collect();
-        let store = Store::new(types.iter().copied(), max_events)?;
-        let state = State::new(Held::Memory(store), types.len(), 0);
-        Ok(SharedStore { state: Arc::new(Mutex::new(state)), calls: Calls::of_objects(&types)?, behind: None, is_closed: false })
+        let types: Vec<Type> = types.into_iter().cloned().collect();
+        let store = Store::new(&types, max_events)?;
+        let state = State::new(Held::Memory(store), &types, 0);
+        Ok(SharedStore::of(state, types, None))
     }
 
     /// A store behind a child that was greeted.
-    pub(crate) fn behind(state: State, calls: Vec<Arc<Calls>>, link: Arc<Link>, past: Past) -> SharedStore {
-        let state = Arc::new(Mutex::new(state));
-        link.belongs_to(&state);
-        SharedStore { state, calls, behind: Some(Behind { link, past, commits: AtomicU64::new(0), underway: Underway::new() }), is_closed: false }
+    pub(crate) fn of_remote(state: State, types: Vec<Type>, link: Arc<Link>, past: Past, file: Option<FileId>) -> SharedStore {
+        let store = SharedStore::of(state, types, Some(Remote::new(link, past, file)));
+        if let Some(remote) = &store.remote {
+            remote.link.belongs_to(&store.state);
+        }
+        store
     }
 
-    /// The lock, where this process isn't a fork: there whoever had it may be gone.
+    fn of(state: State, types: Vec<Type>, remote: Option<Remote>) -> SharedStore {
+        let state = Arc::new(Mutex::new(state));
+        SharedStore { state, types, remote, origin: Origin::here(), in_turn: InTurn::default(), is_closed: AtomicBool::new(false) }
+    }
+
+    /// The lock, where it may be waited for, and the store isn't closed.
     #[inline]
     pub(crate) fn enter(&self) -> Result<Guard<'_>, Error> {
-        if let Some(behind) = &self.behind {
-            behind.link.is_here()?;
+        self.may_enter()?;
+        let guard = self.lock();
+        if self.is_closed() {
+            return Err(Error::Closed);
         }
-        Ok(self.lock())
+        Ok(guard)
+    }
+
+    #[inline]
+    pub(crate) fn is_closed(&self) -> bool {
+        self.is_closed.load(Ordering::Relaxed)
+    }
+
+    /// That the lock may be waited for. In a fork whoever has it may be missing, and in its own turn a thread has it.
+    #[inline]
+    pub(crate) fn may_enter(&self) -> Result<(), Error> {
+        if self.origin.is_this() && !self.in_turn.is_here() {
+            return Ok(());
+        }
+        Err(self.not_entered())
+    }
+
+    #[cold]
+    fn not_entered(&self) -> Error {
+        self.is_here().err().unwrap_or(Error::InTurn)
+    }
+
+    /// That this process isn't a fork of the one that opened it.
+    #[inline]
+    pub(crate) fn is_here(&self) -> Result<(), Error> {
+        self.origin.is_here()
     }
 
     #[inline]
@@ -117,74 +154,34 @@ impl SharedStore {
         locked(&self.state)
     }
 
+    pub(crate) fn mutex(&self) -> &Mutex<State> {
+        &self.state
+    }
+
     /// Gives the lock back, and writes what was asked with it and isn't awaited.
     pub(crate) fn leave(&self, guard: Guard<'_>) {
         drop(guard);
-        if let Some(behind) = &self.behind {
-            behind.link.write();
+        if let Some(remote) = &self.remote {
+            remote.link.write();
         }
     }
 
     /// What is beside the lock, where the store is behind a child.
     #[inline]
-    pub(crate) fn child(&self) -> Option<&Behind> {
-        self.behind.as_ref()
+    pub(crate) fn remote(&self) -> Option<&Remote> {
+        self.remote.as_ref()
     }
 
     /// The calls of an object.
+    #[inline]
     pub(crate) fn calls_at(&self, object: u32) -> Result<&Calls, Error> {
-        let place = usize::try_from(object).unwrap_or(usize::MAX);
-        self.calls.get(place).map(|calls| &**calls).ok_or(Error::NoObject)
+        calls_at(&self.types, object)
     }
 
-    // ---- what a child is asked
-
-    /// Asks a child, and has the lock again after the answer.
-    pub(crate) fn ask<'s>(&'s self, mut guard: Guard<'s>, request: Request<'_>, lock: Lock) -> (Guard<'s>, Result<String, Error>) {
-        match guard.send(request) {
-            Ok(slot) => self.awaited(guard, &slot, lock),
-            Err(error) => (guard, Err(error)),
-        }
-    }
-
-    /// Waits for an answer of a child, and has the lock again after it.
-    pub(crate) fn awaited<'s>(&'s self, guard: Guard<'s>, slot: &Slot, lock: Lock) -> (Guard<'s>, Result<String, Error>) {
-        let Some(behind) = &self.behind else {
-            return (guard, Err(Error::NotOpen));
-        };
-        if lock == Lock::Kept {
-            let told = behind.link.answered(slot);
-            return (guard, told);
-        }
-        drop(guard);
-        let told = behind.link.answered(slot);
-        let mut guard = self.lock();
-        if told.is_err() {
-            guard.waiting.release_all(Verdict::Lost);
-        }
-        (guard, told)
-    }
-
-    /// The answer to a question that isn't one of a transaction.
-    fn asked(&self, behind: &Behind, request: Request<'_>) -> Result<String, Error> {
-        let (guard, told) = self.ask(self.enter()?, request, Lock::GivenUp);
-        drop(guard);
-        let text = told?;
-        if request.is_list() {
-            return listed(&behind.link, &text).map(str::to_string);
-        }
-        ok(&behind.link, &text).map(str::to_string)
-    }
-
-    /// The counts of a child: events, begun and open transactions.
-    fn counts(&self, behind: &Behind) -> Result<[u64; 3], Error> {
-        let text = self.asked(behind, Request::Stats)?;
-        let words: Vec<&str> = text.split(' ').collect();
-        let number = |word: &str| word.parse::<u64>().map_err(|_| behind.link.broken(&text));
-        match words[..] {
-            ["events", events, "begun", begun, "open", open] => Ok([number(events)?, number(begun)?, number(open)?]),
-            _ => Err(behind.link.broken(&text)),
-        }
+    /// What was answered to a transaction of this life, with its words.
+    #[inline]
+    pub(crate) fn in_words(&self, object: u32, outcome: Outcome, life: u64) -> Result<Reply, Error> {
+        Reply::of(outcome, self.calls_at(object)?, life)
     }
 
     // ---- transactions
@@ -211,6 +208,30 @@ impl SharedStore {
         self.begin_aged(0, None)
     }
 
+    /// Begins a transaction that keeps the store, and isn't bound to where that is borrowed.
+    ///
+    /// ```
+    /// use colock::{Kind, SharedStore, Type};
+    /// use std::sync::Arc;
+    ///
+    /// let store = Arc::new(SharedStore::new([&Type::counter(5, &[1], Kind::Undo)?], 100)?);
+    /// let mut transaction = store.begin_owned()?;
+    /// let counting = std::thread::spawn(move || {
+    ///     transaction.expect(0, "inc:1", "ok")?;
+    ///     transaction.commit()
+    /// });
+    /// counting.join().unwrap()?;
+    /// assert_eq!(store.kept(0)?, 1);
+    /// # Ok::<(), colock::Error>(())
+    /// ```
+    ///
+    /// # Errors
+    ///
+    /// As of [`SharedStore::begin`].
+    pub fn begin_owned(self: &Arc<Self>) -> Result<OwnedTransaction, Error> {
+        Ok(self.begin()?.kept_by(Arc::clone(self)))
+    }
+
     /// Begins a transaction as a worker, which is a number that its events have.
     ///
     /// ```
@@ -230,328 +251,39 @@ impl SharedStore {
 
     /// Begins a transaction of this age, or of a new one.
     pub(crate) fn begin_aged(&self, worker: u8, age: Option<u64>) -> Result<SharedTransaction<'_>, Error> {
-        let (mut guard, id) = match &self.behind {
+        let Begun { mut guard, id } = match &self.remote {
             Some(_) if worker != 0 => return Err(Error::InMemoryOnly),
-            Some(behind) => return self.begin_over_child(behind, age),
+            Some(remote) => return self.begin_over_child(remote, age),
             None => self.begin_in_memory(worker)?,
         };
-        let age = age.unwrap_or_else(|| guard.waiting.next_age());
+        let age = age.unwrap_or_else(|| guard.waiters.next_age());
         Ok(SharedTransaction::of(self, Ticket::new(id, age, worker)))
     }
 
     /// Begins a transaction in memory.
     #[inline]
-    pub(crate) fn begin_in_memory(&self, worker: u8) -> Result<(Guard<'_>, Id), Error> {
-        let mut guard = self.lock();
-        let number = guard.memory()?.begin_as(worker)?.leave().number();
-        let id = Id { life: guard.life, number };
-        Ok((guard, id))
-    }
-
-    // ---- what is read
-
-    /// The call of this name at an object, for [`SharedTransaction::call_op`]: the first operation that has it, of `value`
-    /// that of the value 0.
-    ///
-    /// ```
-    /// # use colock::{Error, Kind, SharedStore, Type};
-    /// # let store = SharedStore::new([&Type::counter(5, &[1], Kind::Undo)?], 100)?;
-    /// assert_eq!(store.call_number(0, "dec:1"), Ok(1.into()));
-    /// assert_eq!(store.call_number(0, "dec:2"), Err(Error::NoCall));
-    /// # Ok::<(), Error>(())
-    /// ```
-    ///
-    /// # Errors
-    ///
-    /// [`Error::NoObject`] or [`Error::NoCall`].
-    pub fn call_number(&self, object: u32, name: &str) -> Result<Operation, Error> {
-        self.calls_at(object)?.number(name).ok_or(Error::NoCall)
-    }
-
-    /// The state that is kept of an object: of [`Kind::Undo`](crate::Kind::Undo) with what open transactions did, else
-    /// without it.
-    ///
-    /// ```
-    /// # use colock::{Error, Kind, SharedStore, Type};
-    /// # let store = SharedStore::new([&Type::counter(5, &[1], Kind::Undo)?], 100)?;
-    /// assert_eq!((store.kept(0), store.kept(1)), (Ok(0), Err(Error::NoObject)));
-    /// # Ok::<(), Error>(())
-    /// ```
-    ///
-    /// # Errors
-    ///
-    /// [`Error::NoObject`], and over a child [`Error::ConnectionLost`].
-    pub fn kept(&self, object: u32) -> Result<u64, Error> {
-        match &self.behind {
-            None => self.lock().memory()?.kept(object),
-            Some(behind) => {
-                let text = self.asked(behind, Request::Kept(object))?;
-                text.parse().map_err(|_| behind.link.broken(&text))
-            }
-        }
-    }
-
-    /// How many transactions are open.
-    ///
-    /// ```
-    /// # use colock::{Kind, SharedStore, Type};
-    /// # let store = SharedStore::new([&Type::counter(5, &[1], Kind::Undo)?], 100)?;
-    /// let transaction = store.begin()?;
-    /// assert_eq!(store.open_count(), Ok(1));
-    /// # drop(transaction);
-    /// # Ok::<(), colock::Error>(())
-    /// ```
-    ///
-    /// # Errors
-    ///
-    /// Over a child [`Error::ConnectionLost`].
-    pub fn open_count(&self) -> Result<u64, Error> {
-        match &self.behind {
-            None => Ok(self.lock().memory()?.open_count()),
-            Some(behind) => Ok(self.counts(behind)?[2]),
-        }
-    }
-
-    /// How many events there were: over a child in the present epoch, in memory with those that were forgotten.
-    ///
-    /// ```
-    /// # use colock::{Kind, SharedStore, Type};
-    /// # let store = SharedStore::new([&Type::counter(5, &[1], Kind::Undo)?], 100)?;
-    /// store.begin()?.commit()?;
-    /// assert_eq!(store.event_count(), Ok(2));
-    /// # Ok::<(), colock::Error>(())
-    /// ```
-    ///
-    /// # Errors
-    ///
-    /// Over a child [`Error::ConnectionLost`].
-    pub fn event_count(&self) -> Result<u64, Error> {
-        match &self.behind {
-            None => Ok(self.lock().memory()?.event_count()),
-            Some(behind) => Ok(self.counts(behind)?[0]),
-        }
-    }
-
-    /// The events from a place on, oldest first, which count from 0. Over a child they are those of the present
-    /// epoch, and all that happened becomes durable before.
-    ///
-    /// ```
-    /// # use colock::{Event, Kind, SharedStore, Type};
-    /// # let store = SharedStore::new([&Type::counter(5, &[1], Kind::Undo)?], 100)?;
-    /// store.begin()?.commit()?;
-    /// assert_eq!(store.events(1)?, [Event::Commit { worker: 0, transaction: 0 }]);
-    /// # Ok::<(), colock::Error>(())
-    /// ```
-    ///
-    /// # Errors
-    ///
-    /// [`Error::Forgotten`] in memory, where `start` is below [`SharedStore::forgotten_count`];
-    /// [`Error::ConnectionLost`] over a child.
-    pub fn events(&self, start: u64) -> Result<Vec<Event>, Error> {
-        let Some(behind) = &self.behind else {
-            return self.lock().memory()?.events(start);
-        };
-        let mut events = Vec::new();
-        loop {
-            let Ok(from) = u32::try_from(start.saturating_add(events.len() as u64)) else {
-                return Ok(events);
-            };
-            let text = self.asked(behind, Request::Events(from, MOST_EVENTS))?;
-            let count = events.len();
-            for line in text.lines() {
-                events.push(request::event(line).ok_or_else(|| behind.link.broken(line))?);
-            }
-            if events.len() - count < MOST_EVENTS as usize {
-                return Ok(events);
-            }
-        }
-    }
-
-    /// What this client counted since the store was opened.
-    ///
-    /// ```
-    /// # use colock::{Kind, SharedStore, Type};
-    /// # let store = SharedStore::new([&Type::counter(5, &[1], Kind::Undo)?], 100)?;
-    /// store.begin()?.commit()?;
-    /// assert_eq!(store.stats().commits, 1);
-    /// # Ok::<(), colock::Error>(())
-    /// ```
-    pub fn stats(&self) -> Stats {
-        let Ok(guard) = self.enter() else {
-            return Stats::default(); // in a fork nothing is counted
-        };
-        let mut stats = guard.stats.clone();
-        if let Some(behind) = &self.behind {
-            stats.commits += behind.commits.load(Ordering::Relaxed);
-        }
-        stats
-    }
-
-    // ---- in memory only
-
-    /// How many of the first events were forgotten.
-    ///
-    /// ```
-    /// # use colock::{Kind, SharedStore, Type};
-    /// # let store = SharedStore::new([&Type::counter(5, &[1], Kind::Undo)?], 100)?;
-    /// store.begin()?.commit()?;
-    /// store.forget(1)?;
-    /// assert_eq!(store.forgotten_count(), Ok(1));
-    /// # Ok::<(), colock::Error>(())
-    /// ```
-    ///
-    /// # Errors
-    ///
-    /// [`Error::InMemoryOnly`] over a child, as of all below but [`SharedStore::close`].
-    pub fn forgotten_count(&self) -> Result<u64, Error> {
-        Ok(self.lock().memory()?.forgotten_count())
-    }
-
-    /// Forgets the first events, this many of those that are in memory, or all of them.
-    ///
-    /// ```
-    /// # use colock::{Kind, SharedStore, Type};
-    /// # let store = SharedStore::new([&Type::counter(5, &[1], Kind::Undo)?], 100)?;
-    /// store.begin()?.commit()?;
-    /// store.forget(u64::MAX)?;
-    /// assert_eq!((store.event_count(), store.forgotten_count()), (Ok(2), Ok(2)));
-    /// # Ok::<(), colock::Error>(())
-    /// ```
-    ///
-    /// # Errors
-    ///
-    /// [`Error::InMemoryOnly`].
-    pub fn forget(&self, events: u64) -> Result<(), Error> {
-        self.lock().memory()?.forget(events);
-        Ok(())
-    }
-
-    /// Makes events again, one after another, each as its worker.
-    ///
-    /// ```
-    /// # use colock::{Kind, SharedStore, Type};
-    /// # let counter = Type::counter(5, &[1], Kind::Undo)?;
-    /// # let store = SharedStore::new([&counter], 100)?;
-    /// store.transact(|turn| turn.call(0, "inc:1")?.executed())?;
-    /// let other = SharedStore::new([&counter], 100)?;
-    /// assert!(other.follow(&store.events(0)?).is_ok());
-    /// assert_eq!(other.kept(0), Ok(1));
-    /// # Ok::<(), colock::Error>(())
-    /// ```
-    ///
-    /// # Errors
-    ///
-    /// As of [`Store::follow`](crate::Store::follow), and [`Error::InMemoryOnly`].
-    pub fn follow(&self, events: &[Event]) -> Result<(), NotFollowed> {
-        let mut guard = self.lock();
-        let store = guard.memory().map_err(|error| NotFollowed { made: 0, error })?;
-        let followed = store.follow(events);
-        guard.waiting.wake_all();
-        followed
-    }
-
-    /// Begins anew, with no event, at the states that are kept. Transactions count from 0 again.
-    ///
-    /// ```
-    /// # use colock::{Kind, SharedStore, Type};
-    /// # let store = SharedStore::new([&Type::counter(5, &[1], Kind::Undo)?], 100)?;
-    /// store.begin()?.commit()?;
-    /// store.renew()?;
-    /// assert_eq!(store.begin()?.id(), "1.0");
-    /// # Ok::<(), colock::Error>(())
-    /// ```
-    ///
-    /// # Errors
-    ///
-    /// [`Error::StillOpen`], [`Error::NoMemory`] or [`Error::InMemoryOnly`].
-    pub fn renew(&self) -> Result<(), Error> {
-        let mut guard = self.lock();
-        guard.memory()?.renew()?;
-        guard.life += 1;
-        guard.waiting.release_all(Verdict::EpochEnded);
-        Ok(())
-    }
-
-    /// Aborts each transaction that is open, in ascending order, as the worker that began it. Their owners' next calls fail with
-    /// [`Error::NotOpen`].
-    ///
-    /// ```
-    /// # use colock::{Error, Kind, SharedStore, Type};
-    /// # let store = SharedStore::new([&Type::counter(5, &[1], Kind::Undo)?], 100)?;
-    /// let transaction = store.begin()?;
-    /// store.abort_all()?;
-    /// assert_eq!(transaction.commit(), Err(Error::NotOpen));
-    /// # Ok::<(), Error>(())
-    /// ```
-    ///
-    /// # Errors
-    ///
-    /// [`Error::InMemoryOnly`].
-    pub fn abort_all(&self) -> Result<(), Error> {
-        let mut guard = self.lock();
-        let store = guard.memory()?;
-        let count = store.open_count();
-        store.abort_all();
-        guard.stats.aborts += count;
-        guard.waiting.wake_all();
-        Ok(())
+    pub(crate) fn begin_in_memory(&self, worker: u8) -> Result<Begun<'_>, Error> {
+        let mut guard = self.enter()?;
+        let id = guard.memory()?.begin_as(worker)?.leave().id();
+        Ok(Begun { guard, id })
     }
 
     /// Takes the gate out, so that a test can see what it is for.
     #[doc(hidden)]
-    pub fn without_gate(self) -> SharedStore {
-        self.lock().waiting.take_gate_out();
-        self
+    pub fn take_gate_out(&self) {
+        self.lock().waiters.take_gate_out();
     }
 
     /// The child process, so that a test can kill it.
     #[doc(hidden)]
     pub fn child_process(&self) -> Option<u32> {
-        self.behind.as_ref().map(|behind| behind.link.process())
-    }
-
-    // ---- the end
-
-    /// Closes it. Over a child the end is asked for: what is open is aborted, the epoch ends, all of it durable, and
-    /// the child is reaped. A drop does the same and reports no error.
-    ///
-    /// ```
-    /// # use colock::{Kind, SharedStore, Type};
-    /// # let store = SharedStore::new([&Type::counter(5, &[1], Kind::Undo)?], 100)?;
-    /// store.close()?;
-    /// # Ok::<(), colock::Error>(())
-    /// ```
-    ///
-    /// # Errors
-    ///
-    /// [`Error::ConnectionLost`] over a child that is lost, or doesn't end as it was asked.
-    pub fn close(mut self) -> Result<(), Error> {
-        self.end()
-    }
-
-    fn end(&mut self) -> Result<(), Error> {
-        if mem::replace(&mut self.is_closed, true) {
-            return Ok(());
-        }
-        let Some(behind) = &self.behind else {
-            return Ok(());
-        };
-        self.asked(behind, Request::End)?;
-        behind.link.reap();
-        Ok(())
-    }
-}
-
-impl Drop for SharedStore {
-    fn drop(&mut self) {
-        // where the child is lost, it is reaped already
-        let _ = self.end();
+        self.remote.as_ref().map(|remote| remote.link.process())
     }
 }
 
 impl fmt::Debug for SharedStore {
     fn fmt(&self, f: &mut fmt::Formatter<'_>) -> fmt::Result {
-        let is_in_memory = self.behind.is_none();
-        f.debug_struct("SharedStore").field("objects", &self.calls.len()).field("is_in_memory", &is_in_memory).finish_non_exhaustive()
+        let is_in_memory = self.remote.is_none();
+        f.debug_struct("SharedStore").field("objects", &self.types.len()).field("is_in_memory", &is_in_memory).finish_non_exhaustive()
     }
 }

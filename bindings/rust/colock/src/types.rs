@@ -1,12 +1,22 @@
+pub(crate) mod bounds;
+pub(crate) mod calls;
+pub(crate) mod source;
+mod steps;
+
 use crate::error::Error;
-use crate::handle::{done, Handle};
-use crate::operation::Operation;
-use crate::source::Source;
+use crate::locks::locked;
+use crate::memory::handle::{done, Handle};
+use crate::operation_id::OperationId;
+use crate::reply::Operation;
+use crate::types::calls::Calls;
+use crate::types::source::Source;
 use colock_sys as sys;
 use std::fmt;
+use std::sync::{Arc, Mutex, MutexGuard, OnceLock};
 
 /// How an object recovers from aborts.
 #[derive(Clone, Copy, Debug, PartialEq, Eq, Hash)]
+#[non_exhaustive]
 pub enum Kind {
     /// It is updated in place, and operations are taken back.
     Undo = 0,
@@ -44,11 +54,20 @@ impl fmt::Display for Kind {
 
 /// The type of an object: states, operations, and which operations conflict, checked for a [`Kind`].
 ///
-/// Many objects of many stores may have one type, and outlive it. It is displayed as the grid of its conflicts, and one
-/// of [`Kind::Escrow`] by a line that says that it has no conflict table.
-pub struct Type {
-    handle: Handle,
+/// Many objects of many stores may have one type, and outlive it. A clone is the same type, and threads may share it. It is
+/// displayed as the grid of its conflicts, and one of [`Kind::Escrow`] by a line that says that it has no conflict table.
+#[derive(Clone)]
+pub struct Type(Arc<Made>);
+
+/// What clones of a type share.
+struct Made {
+    /// Each call of the library has it to itself.
+    handle: Mutex<Handle>,
     source: Source,
+    shape: sys::Shape,
+    name: String,
+    /// They are read as soon as all else is there.
+    calls: OnceLock<Calls>,
 }
 
 impl Type {
@@ -254,24 +273,46 @@ impl Type {
     fn made(source: Source, make: impl FnOnce(*mut sys::Handle, *mut sys::Fault) -> u32) -> Result<Type, Error> {
         let mut fault = sys::Fault::default();
         match Handle::made(|handle| make(handle, &mut fault)) {
-            Ok(handle) => Ok(Type { handle, source }),
+            Ok(handle) => Type::of(handle, source),
             Err((code, _)) => Err(Error::of_type(code, &fault)),
         }
     }
 
-    pub(crate) fn handle(&self) -> &Handle {
-        &self.handle
+    /// The type of a handle. What is asked often is read here, once.
+    fn of(handle: Handle, source: Source) -> Result<Type, Error> {
+        let mut shape = sys::Shape::default();
+        // SAFETY: a handle as `Handle::at` says, as in all below.
+        done(unsafe { sys::colock_type_shape(handle.at(), &mut shape) })?;
+        // SAFETY: `told` gives a room of its own.
+        let name = told(|room, count| unsafe { sys::colock_type_name(handle.at(), room.as_mut_ptr(), room.len(), count) })?;
+        let made = Type(Arc::new(Made { handle: Mutex::new(handle), source, shape, name, calls: OnceLock::new() }));
+        let calls = Calls::of(&made)?;
+        made.0.calls.get_or_init(|| calls);
+        Ok(made)
+    }
+
+    /// The handle, for one call of the library.
+    pub(crate) fn handle(&self) -> MutexGuard<'_, Handle> {
+        locked(&self.0.handle)
     }
 
     pub(crate) fn source(&self) -> &Source {
-        &self.source
+        &self.0.source
     }
 
-    fn shape(&self) -> sys::Shape {
-        let mut shape = sys::Shape::default();
-        // SAFETY: a handle as `Handle::at` says. It holds a type, of which this is always known.
-        unsafe { sys::colock_type_shape(self.handle.at(), &mut shape) };
-        shape
+    /// Its calls and replies.
+    #[inline]
+    pub(crate) fn calls(&self) -> &Calls {
+        self.0.calls.get().expect("they are read where a type is made")
+    }
+
+    /// Whether the two are clones of one type.
+    pub(crate) fn is(&self, other: &Type) -> bool {
+        Arc::ptr_eq(&self.0, &other.0)
+    }
+
+    fn shape(&self) -> &sys::Shape {
+        &self.0.shape
     }
 
     /// How many states there are: they are the numbers below.
@@ -331,28 +372,27 @@ impl Type {
     /// # Ok::<(), colock::Error>(())
     /// ```
     pub fn name(&self) -> String {
-        // SAFETY: `told` gives a room of its own; the handle is as `Handle::at` says, as in all below.
-        told(|room, count| unsafe { sys::colock_type_name(self.handle.at(), room.as_mut_ptr(), room.len(), count) })
-            .expect("the handle holds a type, and the room has place for the longest name")
+        self.0.name.clone()
     }
 
     /// The call of an operation. At a place that has operations with amounts alone it is that of its line.
     ///
     /// ```
-    /// use colock::{Kind, Operation, Type};
+    /// use colock::{Kind, OperationId, Type};
     ///
     /// let purse = Type::read("number purse\nmax 10000\ninitial 0\ntake any\nend\n", Kind::Escrow)?;
-    /// assert_eq!((purse.call_name(1)?, purse.call_name(Operation::with(1, 17))?), ("take:any".into(), "take:17".into()));
+    /// assert_eq!((purse.call_name(1)?, purse.call_name(OperationId::with(1, 17))?), ("take:any".into(), "take:17".into()));
     /// # Ok::<(), colock::Error>(())
     /// ```
     ///
     /// # Errors
     ///
     /// [`Error::NoOperation`].
-    pub fn call_name(&self, operation: impl Into<Operation>) -> Result<String, Error> {
+    pub fn call_name(&self, operation: impl Into<OperationId>) -> Result<String, Error> {
         let operation = u64::from(operation.into());
-        // SAFETY: as in `name`.
-        told(|room, count| unsafe { sys::colock_type_call(self.handle.at(), operation, room.as_mut_ptr(), room.len(), count) })
+        let handle = self.handle();
+        // SAFETY: as in `of`.
+        told(|room, count| unsafe { sys::colock_type_call(handle.at(), operation, room.as_mut_ptr(), room.len(), count) })
     }
 
     /// The reply of an operation.
@@ -366,10 +406,11 @@ impl Type {
     /// # Errors
     ///
     /// [`Error::NoOperation`].
-    pub fn reply_name(&self, operation: impl Into<Operation>) -> Result<String, Error> {
+    pub fn reply_name(&self, operation: impl Into<OperationId>) -> Result<String, Error> {
         let operation = u64::from(operation.into());
-        // SAFETY: as in `name`.
-        told(|room, count| unsafe { sys::colock_type_reply(self.handle.at(), operation, room.as_mut_ptr(), room.len(), count) })
+        let handle = self.handle();
+        // SAFETY: as in `of`.
+        told(|room, count| unsafe { sys::colock_type_reply(handle.at(), operation, room.as_mut_ptr(), room.len(), count) })
     }
 
     /// The state to which an operation leads from a state; `None` where it isn't legal there.
@@ -384,10 +425,10 @@ impl Type {
     /// # Errors
     ///
     /// [`Error::NoState`] or [`Error::NoOperation`].
-    pub fn step(&self, state: u64, operation: impl Into<Operation>) -> Result<Option<u64>, Error> {
+    pub fn step(&self, state: u64, operation: impl Into<OperationId>) -> Result<Option<u64>, Error> {
         let (operation, mut to) = (u64::from(operation.into()), 0);
-        // SAFETY: as in `name`.
-        match unsafe { sys::colock_type_step(self.handle.at(), state, operation, &mut to) } {
+        // SAFETY: as in `of`.
+        match unsafe { sys::colock_type_step(self.handle().at(), state, operation, &mut to) } {
             sys::code::NOT_LEGAL => Ok(None),
             code => done(code).map(|()| Some(to)),
         }
@@ -406,11 +447,11 @@ impl Type {
     /// # Errors
     ///
     /// [`Error::NoOperation`], also of one with an amount.
-    pub fn conflicts(&self, requested: impl Into<Operation>, held: impl Into<Operation>) -> Result<bool, Error> {
+    pub fn conflicts(&self, requested: impl Into<OperationId>, held: impl Into<OperationId>) -> Result<bool, Error> {
         let (requested, held) = (u64::from(requested.into()), u64::from(held.into()));
         let mut told = 0;
-        // SAFETY: as in `name`.
-        done(unsafe { sys::colock_type_conflict(self.handle.at(), requested, held, &mut told) })?;
+        // SAFETY: as in `of`.
+        done(unsafe { sys::colock_type_conflict(self.handle().at(), requested, held, &mut told) })?;
         Ok(told == 1)
     }
 
@@ -427,19 +468,41 @@ impl Type {
     /// # Errors
     ///
     /// [`Error::NoOperation`].
-    pub fn operation(&self, call: &str, reply: &str) -> Result<Operation, Error> {
-        let has_names = |k: &Operation| self.call_name(*k).as_deref() == Ok(call) && self.reply_name(*k).as_deref() == Ok(reply);
-        let mut listed = (0..self.operations()).map(Operation::listed);
+    pub fn operation(&self, call: &str, reply: &str) -> Result<OperationId, Error> {
+        let has_names = |k: &OperationId| self.call_name(*k).as_deref() == Ok(call) && self.reply_name(*k).as_deref() == Ok(reply);
+        let mut listed = (0..self.operations()).map(OperationId::listed);
         if let Some(found) = listed.find(|k| has_names(k) && self.is_operation(*k)) {
             return Ok(found);
         }
         // an amount is in the name of its call, and a value is a reply
         let amount = call.rsplit(':').next().and_then(|word| word.parse().ok()).or_else(|| reply.parse().ok()).ok_or(Error::NoOperation)?;
-        (0..self.operations()).map(|place| Operation::with(place, amount)).find(has_names).ok_or(Error::NoOperation)
+        (0..self.operations()).map(|place| OperationId::with(place, amount)).find(has_names).ok_or(Error::NoOperation)
+    }
+
+    /// The operation of this number, in words: so that an event can be told in words.
+    ///
+    /// ```
+    /// # use colock::{Error, Event, Kind, Store, Type};
+    /// # let store = Store::new([&Type::counter(5, &[1], Kind::Undo)?], 100)?;
+    /// store.begin()?.expect(0, "inc:1", "ok")?;
+    /// if let Event::Operation { object, operation, .. } = store.events(1)?[0] {
+    ///     assert_eq!(store.types()[object as usize].in_words(operation)?.to_string(), "inc:1 ok");
+    /// }
+    /// assert_eq!(store.types()[0].in_words(2), Err(Error::NoOperation));
+    /// # Ok::<(), Error>(())
+    /// ```
+    ///
+    /// # Errors
+    ///
+    /// [`Error::NoOperation`].
+    pub fn in_words(&self, operation: impl Into<OperationId>) -> Result<Operation, Error> {
+        let operation = operation.into();
+        let told = self.calls().in_words(operation).filter(|_| self.is_operation(operation));
+        told.ok_or(Error::NoOperation)
     }
 
     /// Whether there is such an operation. At a place that has those with amounts alone the place is none.
-    pub(crate) fn is_operation(&self, operation: Operation) -> bool {
+    pub(crate) fn is_operation(&self, operation: OperationId) -> bool {
         self.step(0, operation) != Err(Error::NoOperation)
     }
 

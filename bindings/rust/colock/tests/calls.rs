@@ -1,6 +1,9 @@
 //! Each error that a caller can meet, what a drop does, and what may go to another thread.
 
-use colock::{CheckRefusal, Error, Event, FaultKind, Kind, Operation, Reply, Store, Type};
+mod common;
+
+use colock::{CheckRefusal, Error, Event, FaultKind, Kind, OperationId, Store, TransactionId, Type};
+use common::{Telling, Told};
 
 const CTR2: &str = "type counter\nstates 3\ninitial 0\nop inc:1 ok\nop dec:1 ok\nstep 0 0 1\nstep 1 0 2\nstep 1 1 0\nstep 2 1 1\n\
     conflict undo 0 1\nconflict undo 1 0\nconflict intentions 0 0\nconflict intentions 1 1\nend\n";
@@ -119,11 +122,11 @@ fn a_number_in_escrow_is_used() {
     let five = Type::read(FIVE, Kind::Escrow).unwrap();
     let mut store = Store::new([&five], 100).unwrap();
     let (mut t, mut u, mut v) = (store.begin().unwrap(), store.begin().unwrap(), store.begin().unwrap());
-    assert_eq!((t.call(0, "take:2"), u.call(0, "give:1"), store.kept(0)), (Ok(Reply::Operation(1.into())), Ok(Reply::Operation(0.into())), Ok(3)));
+    assert_eq!((t.call(0, "take:2").told(), u.call(0, "give:1").told(), store.kept(0)), (Ok(Told::Operation(1.into())), Ok(Told::Operation(0.into())), Ok(3)));
     // there may be one left for a second take
-    assert_eq!((v.would(0, "take:2"), v.call(0, "take:2")), (Ok(Reply::Busy { blocker: 0 }), Ok(Reply::Busy { blocker: 0 })));
+    assert_eq!((v.would(0, "take:2").told(), v.call(0, "take:2").told()), (Ok(Told::Busy { blocker: 0 }), Ok(Told::Busy { blocker: 0 })));
     t.abort().unwrap();
-    assert_eq!(v.call(0, "take:2"), Ok(Reply::Operation(1.into())));
+    assert_eq!(v.call(0, "take:2").told(), Ok(Told::Operation(1.into())));
     u.commit().unwrap();
     assert_eq!(store.kept(0), Ok(4));
     v.commit().unwrap();
@@ -132,7 +135,7 @@ fn a_number_in_escrow_is_used() {
     assert_eq!((store.kept(0), other.kept(0)), (Ok(2), Ok(2)));
     store.renew().unwrap();
     let mut t = store.begin().unwrap();
-    assert_eq!((t.call(0, "take:2"), t.call(0, "take:2"), store.kept(0)), (Ok(Reply::Operation(1.into())), Ok(Reply::Operation(2.into())), Ok(2)));
+    assert_eq!((t.call(0, "take:2").told(), t.call(0, "take:2").told(), store.kept(0)), (Ok(Told::Operation(1.into())), Ok(Told::Operation(2.into())), Ok(2)));
 }
 
 #[test]
@@ -183,7 +186,7 @@ fn a_type_is_read() {
     assert_eq!((account.name().as_str(), account.states(), account.initial(), account.operations()), ("account", 6, 0, 14));
     assert_eq!(account.kind(), Kind::Intentions);
     assert_eq!((account.call_name(3).unwrap().as_str(), account.reply_name(3).unwrap().as_str()), ("withdraw:1", "short"));
-    assert_eq!((account.call_name(14), account.reply_name(Operation::with(0, 1))), (Err(Error::NoOperation), Err(Error::NoOperation)));
+    assert_eq!((account.call_name(14), account.reply_name(OperationId::with(0, 1))), (Err(Error::NoOperation), Err(Error::NoOperation)));
     assert_eq!((account.step(1, 4), account.step(0, 2)), (Ok(Some(3)), Ok(None)));
     assert_eq!((account.step(6, 0), account.step(0, 14)), (Err(Error::NoState), Err(Error::NoOperation)));
     assert_eq!((account.conflicts(2, 2), account.conflicts(3, 3)), (Ok(true), Ok(false)));
@@ -208,10 +211,10 @@ fn calls_are_answered() {
     let store = counters(2, 100);
     let mut t = store.begin_as(3).unwrap();
     let mut u = store.begin_as(4).unwrap();
-    assert_eq!(t.would(0, "inc:1"), Ok(Reply::Operation(0.into())));
-    assert_eq!(t.call(0, "inc:1"), Ok(Reply::Operation(0.into())));
-    assert_eq!((u.would_op(0, 1), u.call(0, "dec:1")), (Ok(Reply::Busy { blocker: 0 }), Ok(Reply::Busy { blocker: 0 })));
-    assert_eq!(u.call_op(1, 1), Ok(Reply::None));
+    assert_eq!(t.would(0, "inc:1").told(), Ok(Told::Operation(0.into())));
+    assert_eq!(t.call(0, "inc:1").told(), Ok(Told::Operation(0.into())));
+    assert_eq!((u.would_op(0, 1).told(), u.call(0, "dec:1").told()), (Ok(Told::Busy { blocker: 0 }), Ok(Told::Busy { blocker: 0 })));
+    assert_eq!(u.call_op(1, 1).told(), Ok(Told::Illegal));
     assert_eq!((t.call(2, "inc:1"), t.would(2, "inc:1")), (Err(Error::NoObject), Err(Error::NoObject)));
     assert_eq!(
         (t.call(0, "inc"), t.would(0, ""), t.call_op(0, 2), t.would_op(0, 255)),
@@ -262,7 +265,7 @@ fn a_drop_aborts_also_where_a_panic_unwinds() {
     let panicked = std::panic::catch_unwind(|| {
         let store = store.lock().unwrap();
         let mut t = store.begin().unwrap();
-        assert_eq!(t.call(0, "inc:1"), Ok(Reply::Operation(0.into())));
+        assert_eq!(t.call(0, "inc:1").told(), Ok(Told::Operation(0.into())));
         panic!("in the middle of a transaction");
     });
     assert!(panicked.is_err());
@@ -279,8 +282,8 @@ fn limits() {
     assert_eq!((store.open_count(), store.event_count()), (0, 2048));
     let full = counters(1, 4);
     let mut t = full.begin().unwrap();
-    assert_eq!(t.call(0, "inc:1"), Ok(Reply::Operation(0.into())));
-    assert_eq!(t.call(0, "inc:1"), Ok(Reply::Operation(0.into())));
+    assert_eq!(t.call(0, "inc:1").told(), Ok(Told::Operation(0.into())));
+    assert_eq!(t.call(0, "inc:1").told(), Ok(Told::Operation(0.into())));
     assert_eq!((t.call(0, "dec:1"), t.rollback(1)), (Err(Error::HistoryFull), Err(Error::HistoryFull)));
     assert_eq!(full.begin().err(), Some(Error::HistoryFull));
     t.commit().unwrap();
@@ -302,7 +305,7 @@ fn events_are_forgotten_and_followed() {
     let stopped = other.follow(&wrong).unwrap_err();
     assert_eq!((stopped.made, stopped.error), (3, Error::NotMade));
     assert_eq!(other.open_count(), 1);
-    for operation in [Operation::listed(255), Operation::with(0, 0), Operation::with(255, u32::MAX)] {
+    for operation in [OperationId::listed(255), OperationId::with(0, 0), OperationId::with(255, u32::MAX)] {
         let beyond = [Event::Operation { worker: 0, transaction: 1, object: 0, operation }];
         assert_eq!(other.follow(&beyond).unwrap_err().error, Error::NotMade);
     }
@@ -323,6 +326,46 @@ fn moved_and_sent() {
     }
 }
 
+/// One handle of the library is behind it, and who reads the type waits for it.
+#[test]
+fn a_type_is_shared() {
+    fn is_shared<T: Send + Sync + Clone>() {}
+    is_shared::<Type>();
+    let counter = Type::counter(50, &[1, 2], Kind::Undo).unwrap();
+    let copy = counter.clone();
+    std::thread::scope(|scope| {
+        for _ in 0..4 {
+            scope.spawn(|| {
+                for state in 0..50 {
+                    assert_eq!((counter.step(state, 0), copy.call_name(1)), (Ok(Some(state + 1)), Ok("dec:1".into())));
+                    assert!(Store::new([&counter, &copy], 9).is_ok());
+                }
+            });
+        }
+    });
+    let store = Store::new([&counter, &copy], 9).unwrap();
+    drop((counter, copy));
+    assert_eq!(store.types().iter().map(Type::name).collect::<Vec<_>>(), ["counter", "counter"]);
+}
+
+/// What was executed has words, and another reply than the one that is wanted is an error. It stays in the transaction.
+#[test]
+fn refusals_are_seen() {
+    let account = Type::account(5, &[1, 2], Kind::Undo).unwrap();
+    let store = Store::new([&account], 100).unwrap();
+    let mut t = store.begin().unwrap();
+    let reply = t.call(0, "withdraw:1").unwrap();
+    assert_eq!((reply.is("short"), reply.is("ok"), reply.to_string()), (true, false, "withdraw:1 short".into()));
+    let done = reply.executed().unwrap();
+    assert_eq!((done.id, done.amount, done), (3.into(), None, account.in_words(3).unwrap()));
+    assert_eq!((reply.expected("short"), t.expect(0, "deposit:1", "ok")), (Ok(3.into()), Ok(0.into())));
+    let refused = t.expect(0, "withdraw:2", "ok").unwrap_err();
+    assert!(matches!(refused, Error::Unexpected { call, reply } if call == "withdraw:2" && reply == "short"));
+    assert_eq!(store.begin().unwrap().expect(0, "deposit:1", "ok"), Err(Error::Busy { blocker: TransactionId::new(0, 0) }));
+    t.rollback(3).unwrap();
+    assert_eq!(t.rollback(1), Err(Error::BadRollback));
+}
+
 #[test]
 fn errors_are_errors() {
     let error: Box<dyn std::error::Error + Send + Sync> = Box::new(Error::NotOpen);
@@ -331,7 +374,7 @@ fn errors_are_errors() {
     assert_eq!(std::error::Error::source(&wrong).unwrap().to_string(), "no command makes this event now");
 }
 
-/// Neither is shared between threads.
+/// It isn't shared between threads.
 ///
 /// The trait has two methods of one name for what is `Sync`, and one for what isn't.
 #[test]
@@ -343,5 +386,4 @@ fn not_shared() {
     struct Shared;
     impl<T: ?Sized + Sync> Ambiguous<Shared> for T {}
     <Store as Ambiguous<_>>::ask();
-    <Type as Ambiguous<_>>::ask();
 }

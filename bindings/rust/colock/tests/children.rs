@@ -2,9 +2,11 @@
 
 mod common;
 
-use colock::{Error, Kind, OpenOptions, Reply, SharedStore, Type};
-use common::{counter, lines, program, until_asleep, Drawn, Folder, LONG};
+use colock::{Error, Kind, OpenOptions, Reply, SharedStore, TransactionId, Type};
+use common::{counter, id, lines, number, program, until_asleep, Drawn, Folder, Telling, Told, LONG};
+use std::error::Error as _;
 use std::fs;
+use std::io;
 use std::path::Path;
 use std::process::Command;
 use std::sync::Mutex;
@@ -68,7 +70,7 @@ fn is_gone(process: u32) -> bool {
 fn a_file_is_made_and_opened_again() {
     let (folder, options) = (Folder::new(), options(&[kept(counter()), kept(wheel())]));
     let store = options.clone().open(folder.file("a.db")).unwrap();
-    store.transact(|turn| turn.call(0, "inc:500")?.executed()).unwrap();
+    store.transact(|turn| turn.expect(0, "inc:500", "ok")).unwrap();
     let process = store.child_process().unwrap();
     assert!(!is_gone(process));
     store.close().unwrap();
@@ -76,11 +78,11 @@ fn a_file_is_made_and_opened_again() {
     let again = options.clone().create(false).open(folder.file("a.db")).unwrap();
     assert_eq!((again.kept(0), again.kept(1), again.event_count()), (Ok(500), Ok(0), Ok(0)));
     // an end is a life, and an opening too
-    assert_eq!(again.begin().unwrap().id(), "3.0");
+    assert_eq!(again.begin().unwrap().begun(), Ok(id("3.0")));
     drop(again);
     // by the program that COLOCK names
     let any = OpenOptions::new().fast(true).drain(1).open(folder.file("a.db")).unwrap();
-    assert_eq!((any.kept(0), any.begin().unwrap().id().as_str()), (Ok(500), "5.0"));
+    assert_eq!((any.kept(0), any.begin().unwrap().begun()), (Ok(500), Ok(id("5.0"))));
 }
 
 #[test]
@@ -108,7 +110,7 @@ fn types_of_each_source_are_made() {
     for (object, call) in calls.into_iter().enumerate() {
         assert!(matches!(t.call(object as u32, call), Ok(Reply::Operation(_))), "{call}");
     }
-    assert_eq!(t.call(3, "member:-a"), Ok(Reply::Operation(types[3].operation("member:-a", "true").unwrap())));
+    assert_eq!(t.call(3, "member:-a").told(), Ok(Told::Operation(types[3].operation("member:-a", "true").unwrap())));
     t.commit().unwrap();
     assert_eq!([6, 7, 8, 9, 10].map(|object| store.kept(object)), [1, 1, 3, 250, 483].map(Ok));
     store.close().unwrap();
@@ -127,7 +129,7 @@ fn a_number_in_escrow_is_opened_again() {
     let (folder, five) = (Folder::new(), kept(Type::counter(5, &[1, 2], Kind::Escrow).unwrap()));
     let store = options(&[five]).open(folder.file("a.db")).unwrap();
     let (mut t, mut u) = (store.begin().unwrap(), store.begin().unwrap());
-    assert_eq!((t.call(0, "inc:2"), u.call(0, "inc:1")), (Ok(Reply::Operation(2.into())), Ok(Reply::Operation(0.into()))));
+    assert_eq!((t.call(0, "inc:2").told(), u.call(0, "inc:1").told()), (Ok(Told::Operation(2.into())), Ok(Told::Operation(0.into()))));
     assert_eq!(store.kept(0), Ok(0));
     t.commit().unwrap();
     assert_eq!(store.kept(0), Ok(2));
@@ -135,7 +137,7 @@ fn a_number_in_escrow_is_opened_again() {
     drop(u);
     drop(store);
     let again = options(&[five]).open(folder.file("a.db")).unwrap();
-    assert_eq!((again.kept(0), again.begin().unwrap().call(0, "dec:2")), (Ok(2), Ok(Reply::Operation(3.into()))));
+    assert_eq!((again.kept(0), again.begin().unwrap().call(0, "dec:2").told()), (Ok(2), Ok(Told::Operation(3.into()))));
 }
 
 #[test]
@@ -155,7 +157,7 @@ fn other_objects_are_refused() {
 /// The words with which a file isn't opened.
 fn refused(options: OpenOptions<'_>, path: impl AsRef<std::path::Path>) -> String {
     match options.open(path) {
-        Err(Error::CannotOpen(words)) => words,
+        Err(Error::CannotOpen(failure)) => failure.to_string(),
         other => panic!("{other:?}"),
     }
 }
@@ -170,6 +172,8 @@ fn what_cant_be_opened_is_told() {
     assert_eq!(OpenOptions::new().program(program()).create(true).open(&path).err(), Some(Error::NoObjects));
     let nowhere = folder.file("no-program");
     assert!(refused(missing.clone().program(&nowhere), &path).contains("no-program"));
+    let source = missing.clone().program(&nowhere).open(&path).unwrap_err().source().and_then(|source| source.downcast_ref::<io::Error>().map(io::Error::kind));
+    assert_eq!(source, Some(io::ErrorKind::NotFound));
     assert!(refused(missing.clone().create(true).program(&nowhere), &path).contains("no-program"));
     assert!(refused(missing.clone().create(true), folder.file("none/a.db")).contains("none/a.db"));
     fs::write(folder.file("text"), "no store").unwrap();
@@ -182,10 +186,10 @@ fn what_cant_be_opened_is_told() {
 fn a_child_that_is_killed_is_lost() {
     let folder = Folder::new();
     let store = options(&[kept(counter())]).open(folder.file("a.db")).unwrap();
-    store.transact(|turn| turn.call(0, "inc:1")?.executed()).unwrap();
+    store.transact(|turn| turn.expect(0, "inc:1", "ok")).unwrap();
     let process = store.child_process().unwrap();
     let (mut holder, mut waiter) = (store.begin().unwrap(), store.begin().unwrap());
-    holder.call(0, "inc:1").unwrap().executed().unwrap();
+    holder.call(0, "inc:1").unwrap().expected("ok").unwrap();
     thread::scope(|scope| {
         let asleep = scope.spawn(move || waiter.call_within(0, "dec:1", LONG));
         until_asleep(&store, 1);
@@ -199,16 +203,30 @@ fn a_child_that_is_killed_is_lost() {
     assert!(matches!(holder.commit(), Err(Error::ConnectionLost(_))));
     assert!(matches!(store.begin(), Err(Error::ConnectionLost(_))));
     assert!(matches!(store.kept(0), Err(Error::ConnectionLost(_))));
-    assert!(matches!(store.transact(|turn| turn.call(0, "inc:1")?.executed()), Err(Error::ConnectionLost(_))));
+    assert!(matches!(store.transact(|turn| turn.expect(0, "inc:1", "ok")), Err(Error::ConnectionLost(_))));
     assert_eq!(store.call_number(0, "dec:1"), Ok(1.into())); // which the client knows
     assert!(matches!(store.close(), Err(Error::ConnectionLost(_))));
+}
+
+#[test]
+fn a_lost_store_isnt_closed_in_silence() {
+    for is_noticed in [false, true] {
+        let folder = Folder::new();
+        let store = options(&[kept(counter())]).open(folder.file("a.db")).unwrap();
+        store.transact(|turn| turn.expect(0, "inc:1", "ok")).unwrap();
+        kill(&store);
+        if is_noticed {
+            common::until(|| store.begin().is_err());
+        }
+        assert!(matches!(store.close(), Err(Error::ConnectionLost(_))), "{is_noticed}");
+    }
 }
 
 /// What clients know of the commits of one opening.
 #[derive(Default)]
 struct Known {
-    answered: Vec<String>,
-    unknown: Vec<String>,
+    answered: Vec<TransactionId>,
+    unknown: Vec<TransactionId>,
 }
 
 /// Commits until the child is lost.
@@ -216,7 +234,7 @@ fn commit_on(store: &SharedStore, known: &Mutex<Known>) {
     loop {
         let Ok(mut t) = store.begin() else { return };
         let Ok(Reply::Operation(_)) = t.call(0, "tick") else { return };
-        let id = t.id(); // known with the answer to the call
+        let id = t.id().unwrap(); // known with the answer to the call
         match t.commit() {
             Ok(()) => known.lock().unwrap().answered.push(id),
             Err(Error::OutcomeUnknown(of)) => {
@@ -244,7 +262,7 @@ fn killed(store: SharedStore, after: Duration) -> Known {
 
 /// How many of the commits that were known of the opening before are there, by what is said of each.
 fn told(store: &SharedStore, known: &Known) -> u64 {
-    let of_each = |ids: &[String]| ids.iter().map(|id| store.committed(id).unwrap().unwrap()).collect::<Vec<bool>>();
+    let of_each = |ids: &[TransactionId]| ids.iter().map(|id| store.committed(*id).unwrap().unwrap()).collect::<Vec<bool>>();
     assert!(of_each(&known.answered[known.answered.len().saturating_sub(5)..]).iter().all(|is_committed| *is_committed));
     let unknown = of_each(&known.unknown);
     (known.answered.len() + unknown.iter().filter(|is_committed| **is_committed).count()) as u64
@@ -278,17 +296,17 @@ fn of_a_lost_begin_nothing_is_told_by_a_later_one() {
     let (folder, options) = (Folder::new(), options(&[kept(wheel())]));
     let store = options.clone().open(folder.file("a.db")).unwrap();
     let lost = store.begin().unwrap();
-    let id = lost.id();
+    let name = lost.begun().unwrap();
     kill(&store);
     assert!(lost.commit().is_err());
     drop(store);
     let store = options.open(folder.file("a.db")).unwrap();
     // its begin was never durable, so another transaction has its number
     let mut other = store.begin().unwrap();
-    assert_eq!((id.as_str(), other.id().as_str()), ("1.0", "2.0"));
-    other.call(0, "tick").unwrap().executed().unwrap();
+    assert_eq!((name, other.begun()), (id("1.0"), Ok(id("2.0"))));
+    other.call(0, "tick").unwrap().expected("ok").unwrap();
     other.commit().unwrap();
-    assert_eq!((store.committed("1.0"), store.committed("2.0")), (Ok(Some(false)), Ok(Some(true))));
+    assert_eq!((store.committed(id("1.0")), store.committed(id("2.0"))), (Ok(Some(false)), Ok(Some(true))));
 }
 
 #[test]
@@ -298,26 +316,26 @@ fn an_archive_tells_of_epochs_that_ended() {
     fs::create_dir(&archive).unwrap();
     let options = options(&[kept(wheel())]).archive(&archive);
     let store = options.clone().open(folder.file("a.db")).unwrap();
-    store.transact(|turn| turn.call(0, "tick")?.executed()).unwrap();
+    store.transact(|turn| turn.expect(0, "tick", "ok")).unwrap();
     store.begin().unwrap().abort().unwrap();
     store.close().unwrap();
     assert_eq!(lives(&archive), ["1"]);
     let store = options.clone().open(folder.file("a.db")).unwrap();
     let mut t = store.begin().unwrap();
-    assert_eq!((t.call(0, "tick"), t.id().as_str()), (Ok(Reply::Operation(0.into())), "3.0"));
+    assert_eq!((t.call(0, "tick").told(), t.id()), (Ok(Told::Operation(0.into())), Some(id("3.0"))));
     t.commit().unwrap();
-    assert_eq!((store.committed("1.0"), store.committed("1.1"), store.committed("1.2")), (Ok(Some(true)), Ok(Some(false)), Ok(None)));
-    assert_eq!((store.committed("3.0"), store.committed("2.0"), store.committed("4.0")), (Ok(Some(true)), Ok(Some(false)), Ok(None)));
+    assert_eq!((store.committed(id("1.0")), store.committed(id("1.1")), store.committed(id("1.2"))), (Ok(Some(true)), Ok(Some(false)), Ok(None)));
+    assert_eq!((store.committed(id("3.0")), store.committed(id("2.0")), store.committed(id("4.0"))), (Ok(Some(true)), Ok(Some(false)), Ok(None)));
     kill(&store);
     drop(store);
     // the epoch goes on after the crash, and ends in life 4
     let store = options.clone().open(folder.file("a.db")).unwrap();
-    assert_eq!(store.committed("3.0"), Ok(Some(true)));
+    assert_eq!(store.committed(id("3.0")), Ok(Some(true)));
     store.close().unwrap();
     let store = options.open(folder.file("a.db")).unwrap();
     assert_eq!(lives(&archive), ["1", "4"]);
     // by the archive alone 3.0 may be another transaction of the epoch, and 3.1 one of an epoch that isn't archived
-    assert_eq!((store.committed("3.0"), store.committed("3.1"), store.committed("1.0")), (Ok(None), Ok(None), Ok(Some(true))));
+    assert_eq!((store.committed(id("3.0")), store.committed(id("3.1")), store.committed(id("1.0"))), (Ok(None), Ok(None), Ok(Some(true))));
 }
 
 #[test]
@@ -328,25 +346,25 @@ fn of_earlier_lives_of_an_archived_epoch_nothing_is_told() {
     let options = options(&[kept(wheel())]).archive(&archive);
     let up = |store: &SharedStore| {
         let mut t = store.begin().unwrap();
-        t.call(0, "tick").unwrap().executed().unwrap();
-        let id = t.id();
-        t.commit().map(|()| id).unwrap()
+        t.call(0, "tick").unwrap().expected("ok").unwrap();
+        let name = t.id().unwrap();
+        t.commit().map(|()| name).unwrap()
     };
     let store = options.clone().open(folder.file("a.db")).unwrap();
-    let mut early = vec![up(&store), store.begin().unwrap().id()];
+    let mut early = vec![up(&store), store.begin().unwrap().begun().unwrap()];
     early.push(up(&store));
     kill(&store);
     drop(store);
     let store = options.clone().open(folder.file("a.db")).unwrap();
     let late = up(&store);
-    assert_eq!(early.iter().map(|id| store.committed(id)).collect::<Vec<_>>(), [Ok(Some(true)), Ok(Some(false)), Ok(Some(true))]);
+    assert_eq!(early.iter().map(|id| store.committed(*id)).collect::<Vec<_>>(), [Ok(Some(true)), Ok(Some(false)), Ok(Some(true))]);
     store.close().unwrap();
     // the epoch had two lives, and its history has the name of the second
     assert_eq!(lives(&archive), ["2"]);
     let store = options.open(folder.file("a.db")).unwrap();
-    assert_eq!((late.as_str(), store.committed(&late), store.committed("2.9")), ("2.3", Ok(Some(true)), Ok(None)));
-    for id in early.iter().map(String::as_str).chain(["1.9"]) {
-        assert_eq!(store.committed(id), Ok(None), "{id}");
+    assert_eq!((late, store.committed(late), store.committed(id("2.9"))), (id("2.3"), Ok(Some(true)), Ok(None)));
+    for name in early.into_iter().chain([id("1.9")]) {
+        assert_eq!(store.committed(name), Ok(None), "{name}");
     }
 }
 
@@ -359,7 +377,7 @@ fn of_other_stores_an_archive_tells_nothing() {
     let end = |file: &str, commits: bool, options: OpenOptions<'static>| {
         let store = options.open(folder.file(file)).unwrap();
         let t = store.begin().unwrap();
-        assert_eq!(t.id(), "1.0");
+        assert_eq!(t.begun(), Ok(id("1.0")));
         if commits { t.commit() } else { t.abort() }.unwrap();
         store.close().unwrap();
     };
@@ -369,7 +387,7 @@ fn of_other_stores_an_archive_tells_nothing() {
     end("c.db", true, options.clone());
     assert_eq!(lives(&archive), ["1", "1"]);
     fs::copy(fs::read_dir(&archive).unwrap().next().unwrap().unwrap().path(), archive.join("1.history")).unwrap();
-    let told = ["a.db", "b.db", "c.db"].map(|file| options.clone().archive(&archive).open(folder.file(file)).unwrap().committed("1.0"));
+    let told = ["a.db", "b.db", "c.db"].map(|file| options.clone().archive(&archive).open(folder.file(file)).unwrap().committed(id("1.0")));
     assert_eq!(told, [Ok(Some(true)), Ok(Some(false)), Ok(None)]);
 }
 
@@ -383,10 +401,10 @@ fn many_begin_and_one_too_many_is_told_so() {
     }
     assert_eq!((all.len(), store.begin().err(), store.open_count()), (1024, Some(Error::TooManyOpen), Ok(1024)));
     for (number, t) in all.iter_mut().enumerate() {
-        assert_eq!((t.call(0, "tick"), t.number()), (Ok(Reply::Operation(0.into())), number as u64));
+        assert_eq!((t.call(0, "tick").told(), t.id().unwrap().number), (Ok(Told::Operation(0.into())), number as u64));
     }
     drop(all.pop());
-    assert_eq!(store.begin().unwrap().number(), 1024);
+    assert_eq!(number(&store.begin().unwrap()), 1024);
     all.into_iter().for_each(|t| t.commit().unwrap());
     assert_eq!((store.kept(0), store.open_count(), store.stats().aborts), (Ok(1023 % SIZE), Ok(0), 2));
 }
@@ -419,7 +437,7 @@ fn a_long_history_is_read_in_pieces() {
                 for _ in 0..9 {
                     let mut t = store.begin().unwrap();
                     for _ in 0..2_000 {
-                        t.call_op(0, 0).unwrap().executed().unwrap();
+                        t.call_op(0, 0).unwrap().expected("ok").unwrap();
                     }
                     t.commit().unwrap();
                 }

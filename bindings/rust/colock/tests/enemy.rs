@@ -146,8 +146,8 @@ impl<'a> Arena<'a> {
             }
             let reply = t.call(object, name)?;
             self.pause(drawn);
-            if reply != Reply::None {
-                reply.executed()?;
+            if reply != Reply::Illegal {
+                let _whatever = reply.executed()?;
             }
         }
         Ok(())
@@ -173,14 +173,14 @@ impl<'a> Arena<'a> {
                 0 => t.call(object, name)?,
                 1 => t.call_within(object, name, LONG)?,
                 2 => match t.call_within(object, name, Duration::from_micros(drawn.below(500))) {
-                    Err(Error::TimedOut) => Reply::None,
+                    Err(Error::TimedOut) => Reply::Illegal,
                     other => other?,
                 },
                 _ => {
                     let taken = drawn.below(executed + 1);
                     assert_eq!(t.rollback(taken), if taken == 0 { Err(Error::BadRollback) } else { Ok(()) });
                     executed -= taken;
-                    Reply::None
+                    Reply::Illegal
                 }
             };
             executed += u64::from(matches!(reply, Reply::Operation(_)));

@@ -2,16 +2,16 @@
 
 mod common;
 
-use colock::{Error, Event, OpenOptions, Operation, Reply, SharedStore, SharedTransaction};
-use common::{until_asleep, write_program, Folder, COUNTER_ARMS, LONG};
+use colock::{Error, Event, OpenOptions, OperationId, SharedStore, SharedTransaction};
+use common::{until_asleep, write_program, Folder, Telling, Told, COUNTER_ARMS, LONG};
 use std::fs;
 use std::os::unix::fs::PermissionsExt;
 use std::sync::{Mutex, MutexGuard, PoisonError};
 use std::thread;
 use std::time::{Duration, Instant};
 
-/// How long an answer may take in these tests.
-const LIMIT: Duration = Duration::from_millis(500);
+/// How long an answer may take where a child is silent.
+const LIMIT: Duration = Duration::from_secs(1);
 
 /// More than the limit, and less than what a test waits for a hang.
 const SOON: Duration = Duration::from_secs(5);
@@ -21,7 +21,7 @@ fn served(arms: &str) -> String {
     format!("#!/bin/sh\necho \"colock 3 1\"\nwhile read -r tag verb rest; do\n    case \"$verb\" in\n{COUNTER_ARMS}\n    {arms}\n    esac\ndone\n")
 }
 
-/// A folder with a program. One test at a time, since they have half a second for an answer.
+/// A folder with a program. One test at a time, since some have a second for an answer.
 struct Fake {
     folder: Folder,
     _turn: MutexGuard<'static, ()>,
@@ -50,17 +50,22 @@ impl Fake {
         Fake { folder, _turn }
     }
 
+    /// A store of a child that answers, however slow the machine is.
     fn open(&self) -> Result<SharedStore, Error> {
-        OpenOptions::new().program(self.folder.file("fake")).limit(LIMIT).open(self.folder.file("a.db"))
+        self.open_within(LONG)
+    }
+
+    fn open_within(&self, limit: Duration) -> Result<SharedStore, Error> {
+        OpenOptions::new().program(self.folder.file("fake")).limit(limit).open(self.folder.file("a.db"))
     }
 
     /// The words with which it isn't opened, which come soon.
     fn refused(&self) -> String {
         let start = Instant::now();
-        let opened = self.open();
+        let opened = self.open_within(LIMIT);
         assert!(start.elapsed() < SOON, "{:?}", start.elapsed());
         match opened {
-            Err(Error::CannotOpen(words)) => words,
+            Err(Error::CannotOpen(failure)) => failure.to_string(),
             other => panic!("{other:?}"),
         }
     }
@@ -120,14 +125,17 @@ fn amounts_are_asked_and_told() {
     );
     let store = fake.open().unwrap();
     let mut t = store.begin().unwrap();
-    let done = |place, amount| Ok(Reply::Operation(Operation::with(place, amount)));
-    assert_eq!((t.call(0, "take:17"), t.call_op(0, Operation::with(0, 501)), t.call(0, "value")), (done(0, 17), done(1, 501), done(4, 483)));
-    assert_eq!(t.would(0, "give:3"), Ok(Reply::Busy { blocker: 7 }));
+    let done = |place, amount| Ok(Told::Operation(OperationId::with(place, amount)));
+    assert_eq!(
+        (t.call(0, "take:17").told(), t.call_op(0, OperationId::with(0, 501)).told(), t.call(0, "value").told()),
+        (done(0, 17), done(1, 501), done(4, 483))
+    );
+    assert_eq!(t.would(0, "give:3").told(), Ok(Told::Busy { blocker: 7 }));
     // these aren't asked at all, nor is what is refused there
     assert_eq!((t.call(0, "take:0"), t.call(0, "take:007"), t.call(0, "take:10001")), (Err(Error::NoCall), Err(Error::NoCall), Err(Error::NoCall)));
     assert_eq!(t.call(0, "take:18"), Err(Error::NoCall));
     let events = store.events(0).unwrap();
-    let told = |place, amount| Event::Operation { worker: 0, transaction: 0, object: 0, operation: Operation::with(place, amount) };
+    let told = |place, amount| Event::Operation { worker: 0, transaction: 0, object: 0, operation: OperationId::with(place, amount) };
     assert_eq!(events, [told(0, 17), told(4, 483), Event::Busy { worker: 0, transaction: 1, object: 0, call: 4, blocker: 0 }]);
 }
 
@@ -173,6 +181,8 @@ fn broken_lines_are_no_answers() {
         assert!(told.contains(words), "{arm}: {told}");
         lost(|| store.begin().map(drop));
         lost(|| store.kept(0));
+        let told = lost(|| store.close());
+        assert!(told.contains(words), "{arm}: {told}");
     }
 }
 
@@ -199,10 +209,10 @@ fn lists_are_looked_at() {
 #[test]
 fn an_answer_that_is_late_is_a_loss() {
     // the sleep has the pipe, and outlives the script
-    let fake = Fake::serving("stats) sleep 2; echo \"$tag ok events 0 begun 0 open 0\" ;;");
-    let store = fake.open().unwrap();
+    let fake = Fake::serving("stats) sleep 3; echo \"$tag ok events 0 begun 0 open 0\" ;;");
+    let store = fake.open_within(LIMIT).unwrap();
     let start = Instant::now();
-    assert!(lost(|| store.event_count()).contains("no answer within 500ms"));
+    assert!(lost(|| store.event_count()).contains("no answer within 1s"));
     assert!((LIMIT..LIMIT + Duration::from_secs(1)).contains(&start.elapsed()), "{:?}", start.elapsed());
     lost(|| store.begin().map(drop));
     drop(store);
@@ -217,9 +227,9 @@ const SILENT: &str = "begin) echo \"$tag ok 1.$((n + 0))\"; n=$((n + 1)) ;;
 #[test]
 fn a_silent_child_is_lost_to_all() {
     let fake = Fake::serving(SILENT);
-    let store = fake.open().unwrap();
+    let store = fake.open_within(LIMIT).unwrap();
     let (mut first, mut second) = (store.begin().unwrap(), store.begin().unwrap());
-    assert_eq!(first.call(0, "inc:1"), Ok(Reply::Operation(0.into())));
+    assert_eq!(first.call(0, "inc:1").told(), Ok(Told::Operation(0.into())));
     thread::scope(|scope| {
         let asleep = scope.spawn(move || second.call_within(0, "dec:1", LONG));
         until_asleep(&store, 1);
@@ -229,7 +239,7 @@ fn a_silent_child_is_lost_to_all() {
         let committing = scope.spawn(move || first.commit());
         lost(|| asleep.join().unwrap());
         lost(|| asking.join().unwrap());
-        assert_eq!(committing.join().unwrap(), Err(Error::OutcomeUnknown("1.0".to_string())));
+        assert_eq!(committing.join().unwrap(), Err(Error::OutcomeUnknown(common::id("1.0"))));
     });
     lost(|| store.begin().map(drop));
 }
@@ -244,13 +254,13 @@ fn a_commit_wakes_before_it_is_answered() {
     let fake = Fake::serving(body);
     let store = fake.open().unwrap();
     let (mut first, mut second) = (store.begin().unwrap(), store.begin().unwrap());
-    assert_eq!(first.call(0, "inc:1"), Ok(Reply::Operation(0.into())));
+    assert_eq!(first.call(0, "inc:1").told(), Ok(Told::Operation(0.into())));
     thread::scope(|scope| {
         let waiter = scope.spawn(move || second.call_within(0, "dec:1", LONG).and_then(|reply| second.commit().map(|()| reply)));
         until_asleep(&store, 1);
         // answered late, when the second one has asked, which it does since this one was asked for
         assert_eq!(first.commit(), Ok(()));
-        assert_eq!(waiter.join().unwrap(), Ok(Reply::Operation(1.into())));
+        assert_eq!(waiter.join().unwrap().told(), Ok(Told::Operation(1.into())));
     });
     assert_eq!(store.stats().commits, 2);
 }
@@ -279,12 +289,12 @@ fn a_blocker_that_let_go_meanwhile_isnt_waited_for() {
         let fake = Fake::serving(BELATED);
         let store = fake.open().unwrap();
         let (mut first, mut second) = (store.begin().unwrap(), store.begin().unwrap());
-        assert_eq!(first.call(0, "inc:1"), Ok(Reply::Operation(0.into())));
+        assert_eq!(first.call(0, "inc:1").told(), Ok(Told::Operation(0.into())));
         thread::scope(|scope| {
             let waiter = scope.spawn(move || second.call_within(0, "dec:1", SOON));
             common::until(|| fake.folder.file("fake.called").exists());
             let_go(first);
-            assert_eq!(waiter.join().unwrap(), Ok(Reply::Operation(1.into())));
+            assert_eq!(waiter.join().unwrap().told(), Ok(Told::Operation(1.into())));
         });
         assert_eq!(store.stats().waits, 0);
         assert_eq!(store.close(), Ok(()));
@@ -302,12 +312,12 @@ fn transactions_of_an_epoch_that_ended_are_told_so() {
     let fake = Fake::serving(RENEWED);
     let store = fake.open().unwrap();
     let (mut first, mut second) = (store.begin().unwrap(), store.begin().unwrap());
-    assert_eq!(first.call(0, "inc:1"), Ok(Reply::Operation(0.into())));
+    assert_eq!(first.call(0, "inc:1").told(), Ok(Told::Operation(0.into())));
     thread::scope(|scope| {
         let asleep = scope.spawn(move || (second.call_within(0, "dec:1", LONG), second.commit()));
         until_asleep(&store, 1);
         let third = store.begin().unwrap();
-        assert_eq!(third.id(), "2.0");
+        assert_eq!(third.begun(), Ok(common::id("2.0")));
         assert_eq!(asleep.join().unwrap(), (Err(Error::EpochEnded), Err(Error::EpochEnded)));
         assert_eq!((first.call(0, "inc:1"), first.rollback(1)), (Err(Error::EpochEnded), Err(Error::EpochEnded)));
         assert_eq!(first.commit(), Err(Error::EpochEnded));
@@ -327,25 +337,93 @@ fn a_full_epoch_is_asked_again() {
     let later = "begin) n=\"$n.\"; if [ \"$n\" = .... ]; then echo \"$tag ok 2.0\"; else echo \"$tag busy drain\"; fi ;; abort) echo \"$tag ok\" ;;";
     let fake = Fake::serving(later);
     let store = fake.open().unwrap();
-    assert_eq!(store.begin().unwrap().id(), "2.0");
+    assert_eq!(store.begin().unwrap().begun(), Ok(common::id("2.0")));
     drop(store);
     let fake = fake.serving_again("begin) echo \"$tag busy drain\" ;;");
-    let store = fake.open().unwrap();
+    let store = fake.open_within(LIMIT).unwrap();
     let start = Instant::now();
     assert_eq!(store.begin().err(), Some(Error::TimedOut));
     assert!((LIMIT..SOON).contains(&start.elapsed()), "{:?}", start.elapsed());
-    let turn = store.transact(|turn| turn.call(0, "inc:1")?.executed());
+    let turn = store.transact(|turn| turn.expect(0, "inc:1", "ok"));
     assert_eq!(turn, Err(Error::TimedOut));
 }
 
+/// A program that begins one transaction, does its calls, and answers nothing else.
+const DEAF: &str = r#"begin) if [ -z "$n" ]; then n=1; echo "$tag ok 1.0"; fi ;; call) echo "$tag reply ok" ;; abort | end) ;;"#;
+
 #[test]
-fn a_child_that_doesnt_end_is_killed() {
-    for arm in ["end) ;;", "end) echo \"$tag ok\"; exec sleep 60 ;;"] {
+fn a_drop_waits_for_no_answer() {
+    let fake = Fake::serving(DEAF);
+    let store = fake.open_within(LIMIT).unwrap();
+    let process = store.child_process().unwrap();
+    let mut called = store.begin().unwrap();
+    called.expect(0, "inc:1", "ok").unwrap();
+    // a begin is put off until the thread asks for something else, as for another one
+    let (written, put_off) = (store.begin().unwrap(), store.begin().unwrap());
+    let start = Instant::now();
+    drop(written);
+    drop(put_off);
+    drop(called);
+    drop(store);
+    assert!(start.elapsed() < LIMIT, "{:?}", start.elapsed());
+    // which isn't left to itself for ever
+    common::until(|| !std::path::Path::new(&format!("/proc/{process}")).exists());
+    assert!((LIMIT..SOON).contains(&start.elapsed()), "{:?}", start.elapsed());
+}
+
+/// A program whose second transaction gets its answers late. Files beside it say that it has a call, and an abort.
+const SLOW: &str = r#"begin) echo "$tag ok 1.$((n + 0))"; n=$((n + 1)) ;;
+    call) case "$rest" in 1.1*) : > "$0.called"; sleep 2 ;; esac; echo "$tag reply ok" ;;
+    abort) : > "$0.aborted"; echo "$tag ok" ;;
+    commit) if [ -e "$0.aborted" ]; then echo "$tag ok"; else echo "$tag refused NotOpen"; fi ;;
+    end) echo "$tag ok"; exit 0 ;;"#;
+
+/// Who drops a transaction while a turn of another thread waits for the child leaves it to that turn.
+#[test]
+fn a_drop_waits_for_no_turn() {
+    let fake = Fake::serving(SLOW);
+    let store = fake.open().unwrap();
+    let mut dropped = store.begin().unwrap();
+    dropped.expect(0, "inc:1", "ok").unwrap();
+    thread::scope(|scope| {
+        let turn = scope.spawn(|| store.transact(|turn| turn.expect(0, "inc:1", "ok")));
+        common::until(|| fake.folder.file("fake.called").exists());
+        let start = Instant::now();
+        drop(dropped);
+        assert!(start.elapsed() < LIMIT, "{:?}", start.elapsed());
+        assert_eq!(turn.join().unwrap().map(drop), Ok(())); // the abort went before its commit
+    });
+    assert_eq!((store.stats().aborts, store.stats().commits, store.close()), (1, 1, Ok(())));
+}
+
+#[test]
+fn a_file_is_opened_when_its_last_child_has_ended() {
+    let fake = Fake::serving("end) sleep 2; echo \"$tag ok\"; exit 0 ;;");
+    let store = fake.open().unwrap();
+    let (process, start) = (store.child_process().unwrap(), Instant::now());
+    drop(store);
+    assert!(start.elapsed() < LIMIT, "{:?}", start.elapsed());
+    let again = fake.open().unwrap();
+    assert!(!std::path::Path::new(&format!("/proc/{process}")).exists());
+    assert_eq!(again.close(), Ok(()));
+    fake.open().unwrap().close().unwrap(); // and is free again
+}
+
+#[test]
+fn a_child_that_doesnt_end_as_it_was_asked_is_told() {
+    let rows = [
+        ("end) ;;", "no answer within 1s"),
+        ("end) echo \"$tag ok\"; exec sleep 60 ;;", "the program didn't end within 1s"),
+        ("end) echo \"$tag ok\"; echo 'colock: a.db: cannot write' >&2; exit 3 ;;", "the program ended with exit status: 3: colock: a.db: cannot write"),
+        ("end) echo \"$tag ok\"; kill -9 $$ ;;", "the program ended with signal: 9"),
+        ("end) exit 0 ;;", "the program ended"),
+    ];
+    for (arm, words) in rows {
         let fake = Fake::serving(arm);
-        let store = fake.open().unwrap();
-        let (process, start) = (store.child_process().unwrap(), Instant::now());
-        let _told = store.close();
-        assert!(start.elapsed() < SOON, "{:?}", start.elapsed());
+        let store = fake.open_within(LIMIT).unwrap();
+        let process = store.child_process().unwrap();
+        let told = lost(|| store.close());
+        assert!(told.contains(words), "{arm}: {told}");
         assert!(!std::path::Path::new(&format!("/proc/{process}")).exists());
     }
 }

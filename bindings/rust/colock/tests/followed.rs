@@ -1,6 +1,6 @@
 //! Stores in memory that follow events which were made before, and stores that forget events.
 
-use colock::{Error, Event, Kind, Operation, Store, Type};
+use colock::{Error, Event, Kind, OperationId, Store, Type};
 
 const COUNTER: &str = "type counter\nstates 3\ninitial 0\nop inc:1 ok\nop dec:1 ok\nstep 0 0 1\nstep 1 0 2\nstep 1 1 0\nstep 2 1 1\n\
     conflict undo 0 1\nconflict undo 1 0\nend\n";
@@ -21,8 +21,8 @@ fn event(line: &str) -> Event {
     let place = |number: u32| u8::try_from(number).unwrap();
     match (word, &numbers[2..]) {
         ("begin", []) => Event::Begin { worker, transaction },
-        ("op", &[object, k]) => Event::Operation { worker, transaction, object, operation: Operation::listed(place(k)) },
-        ("op", &[object, k, amount]) => Event::Operation { worker, transaction, object, operation: Operation::with(place(k), amount) },
+        ("op", &[object, k]) => Event::Operation { worker, transaction, object, operation: OperationId::listed(place(k)) },
+        ("op", &[object, k, amount]) => Event::Operation { worker, transaction, object, operation: OperationId::with(place(k), amount) },
         ("busy", &[object, call, blocker]) => Event::Busy { worker, transaction, object, call: place(call), blocker: blocker.into() },
         ("none", &[object, call]) => Event::None { worker, transaction, object, call: place(call) },
         ("commit", []) => Event::Commit { worker, transaction },

@@ -1,4 +1,4 @@
-//! A process that forks: the fork hasn't the pipes, and its calls fail; its parent goes on. The tests are alone in their process.
+//! A process that forks: the fork hasn't the pipes nor the store, and its calls fail; its parent goes on. The tests are alone in their process.
 
 mod common;
 
@@ -8,7 +8,7 @@ use std::fs;
 use std::io::{Read, Write};
 use std::os::unix::net::UnixStream;
 use std::path::PathBuf;
-use std::sync::Mutex;
+use std::sync::{Barrier, Mutex};
 use std::thread;
 use std::time::{Duration, Instant};
 
@@ -16,17 +16,24 @@ extern "C" {
     fn fork() -> i32;
     fn waitpid(process: i32, status: *mut i32, options: i32) -> i32;
     fn _exit(status: i32) -> !;
+    fn alarm(seconds: u32) -> u32;
 }
+
+/// After how many seconds a fork that hangs is killed.
+const HANGS: u32 = 60;
 
 /// A fork of this process.
 struct Fork(i32);
 
 impl Fork {
-    /// It does this, and ends: whether it was as it should be, or after how many seconds it is killed.
+    /// It does this, and ends with whether it was as it should be.
     fn doing(act: impl FnOnce() -> bool) -> Fork {
         // SAFETY: the fork doesn't come back from here.
         match unsafe { fork() } {
-            0 => unsafe { _exit(if act() { 7 } else { 1 }) },
+            0 => unsafe {
+                alarm(HANGS);
+                _exit(if act() { 7 } else { 1 })
+            },
             process => Fork(process),
         }
     }
@@ -68,12 +75,12 @@ fn a_fork_is_told_that_it_is_one() {
     let _turn = TURN.lock();
     let folder = Folder::new();
     let store = open(&folder);
-    store.transact(|turn| turn.call(0, "inc:1")?.executed()).unwrap();
+    store.transact(|turn| turn.expect(0, "inc:1", "ok")).unwrap();
     let (mut t, put_off) = (store.begin().unwrap(), store.begin().unwrap());
-    t.call(0, "inc:1").unwrap().executed().unwrap();
+    t.call(0, "inc:1").unwrap().expected("ok").unwrap();
     let fork = Fork::doing(|| {
-        let mut are_told = [is_told(store.begin()), is_told(store.kept(0)), is_told(store.events(0)), is_told(store.committed("1.0"))].to_vec();
-        are_told.push(is_told(store.transact(|turn| turn.call(0, "inc:1")?.executed())));
+        let mut are_told = [is_told(store.begin()), is_told(store.kept(0)), is_told(store.events(0)), is_told(store.committed(common::id("1.0")))].to_vec();
+        are_told.push(is_told(store.transact(|turn| turn.expect(0, "inc:1", "ok"))));
         // SAFETY: a fork has copies of its own, and doesn't come back to those that the test drops
         let (copy, mut of_t, of_put_off) = unsafe { (std::ptr::read(&store), std::ptr::read(&t), std::ptr::read(&put_off)) };
         are_told.push(is_told(of_t.call(0, "inc:1")));
@@ -83,7 +90,7 @@ fn a_fork_is_told_that_it_is_one() {
         // a store of its own
         let folder = Folder::new();
         let own = open(&folder);
-        are_told.push(own.transact(|turn| turn.call(0, "inc:1")?.executed()).is_ok() && own.close().is_ok());
+        are_told.push(own.transact(|turn| turn.expect(0, "inc:1", "ok")).is_ok() && own.close().is_ok());
         are_told.iter().all(|is_told| *is_told)
     });
     assert!(fork.ended_well());
@@ -94,17 +101,83 @@ fn a_fork_is_told_that_it_is_one() {
     store.close().unwrap();
 }
 
+/// Whether each call of a store that needs its lock says that this is a fork.
+fn are_told(store: &SharedStore) -> bool {
+    let read = [
+        is_told(store.kept(0)),
+        is_told(store.events(0)),
+        is_told(store.event_count()),
+        is_told(store.open_count()),
+        is_told(store.committed(common::id("0.0"))),
+    ];
+    let done = [is_told(store.begin()), is_told(store.begin_as(1)), is_told(store.transact(|turn| turn.expect(0, "inc:1", "ok")))];
+    let in_memory = [is_told(store.forgotten_count()), is_told(store.forget(1)), is_told(store.renew()), is_told(store.abort_all())];
+    let followed = store.follow(&[]).map_err(|followed| followed.error);
+    [&read[..], &done, &in_memory, &[is_told(followed), store.stats().commits == 0]].concat().iter().all(|is_told| *is_told)
+}
+
+#[test]
+fn a_fork_has_no_copy_of_a_store_in_memory() {
+    let _turn = TURN.lock();
+    let store = SharedStore::new([&counter()], 100).unwrap();
+    let mut t = store.begin().unwrap();
+    t.expect(0, "inc:1", "ok").unwrap();
+    let fork = Fork::doing(|| {
+        let all = are_told(&store);
+        // SAFETY: a fork has copies of its own, and doesn't come back to those that the test drops
+        let (copy, mut of_t) = unsafe { (std::ptr::read(&store), std::ptr::read(&t)) };
+        let of_transaction = [is_told(of_t.call(0, "inc:1")), is_told(of_t.call_within(0, "inc:1", LONG)), is_told(of_t.commit()), is_told(copy.close())];
+        let own = SharedStore::new([&counter()], 100).unwrap();
+        all && of_transaction == [true; 4] && own.transact(|turn| turn.expect(0, "inc:1", "ok")).is_ok()
+    });
+    assert!(fork.ended_well());
+    t.commit().unwrap();
+    assert_eq!((store.kept(0), store.event_count()), (Ok(1), Ok(3)));
+}
+
+#[test]
+fn a_fork_doesnt_wait_for_a_thread_that_it_hasnt() {
+    let _turn = TURN.lock();
+    let store = SharedStore::new([&counter()], 100).unwrap();
+    let (is_held, is_over) = (Barrier::new(2), Barrier::new(2));
+    let held = || {
+        is_held.wait();
+        is_over.wait();
+        Ok::<(), Error>(())
+    };
+    thread::scope(|scope| {
+        scope.spawn(|| store.transact(|_| held()).unwrap());
+        is_held.wait();
+        let fork = Fork::doing(|| are_told(&store));
+        is_over.wait();
+        assert!(fork.ended_well());
+    });
+}
+
+/// A fork in a turn of a store, which ends the turn there.
+fn fork_in_a_turn(store: &SharedStore) {
+    let forked = || {
+        store.transact(|turn| {
+            turn.expect(0, "inc:1", "ok")?;
+            let fork = Fork::doing(|| {
+                let is_told = is_told(turn.call(0, "inc:1")) && is_told(turn.call_op(0, 0)) && is_told(turn.would(0, "inc:1")) && is_told(turn.rollback(1));
+                // SAFETY: as above
+                drop(unsafe { std::ptr::read(turn) });
+                is_told
+            });
+            assert!(fork.ended_well());
+            Ok::<(), Error>(())
+        })
+    };
+    assert_eq!((forked(), store.kept(0), store.event_count()), (Ok(()), Ok(1), Ok(3)));
+}
+
 #[test]
 fn a_fork_in_a_turn_is_told_too() {
     let _turn = TURN.lock();
     let folder = Folder::new();
-    let store = open(&folder);
-    let done = store.transact(|turn| {
-        turn.call(0, "inc:1")?.executed()?;
-        assert!(Fork::doing(|| is_told(turn.call(0, "inc:1"))).ended_well());
-        Ok::<(), Error>(())
-    });
-    assert_eq!((done, store.kept(0), store.event_count()), (Ok(()), Ok(1), Ok(3)));
+    fork_in_a_turn(&open(&folder));
+    fork_in_a_turn(&SharedStore::new([&counter()], 100).unwrap());
 }
 
 #[test]

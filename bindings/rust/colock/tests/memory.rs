@@ -1,6 +1,9 @@
 //! What is dropped gives its memory back. The test is alone in its process.
 
-use colock::{Kind, Reply, Store, Type};
+mod common;
+
+use colock::{Kind, Store, Type};
+use common::{Telling, Told};
 
 /// How much memory the process has.
 fn resident() -> i64 {
@@ -14,7 +17,7 @@ fn memory_comes_back() {
         for _ in 0..200 {
             let account = Type::account(20, &[1, 2, 3, 4, 5], Kind::Undo).unwrap();
             let store = Store::new([&account; 50], 1_000_000).unwrap();
-            assert_eq!(store.begin().unwrap().call(0, "deposit:1"), Ok(Reply::Operation(0.into())));
+            assert_eq!(store.begin().unwrap().call(0, "deposit:1").told(), Ok(Told::Operation(0.into())));
         }
     };
     use_some();

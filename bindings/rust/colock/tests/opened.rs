@@ -1,18 +1,21 @@
 //! Which transactions of a store in memory are open, who began them, and what they may take back.
 
-use colock::{Error, Event, Kind, Operation, Reply, Store, Transaction, TransactionId, Type};
+mod common;
+
+use colock::{Error, Event, Kind, LeftOpen, OperationId, Store, Transaction, Type};
+use common::{Telling, Told};
 
 /// What a transaction does, which goes on after it.
-fn with<T>(store: &Store, id: TransactionId, act: impl FnOnce(&mut Transaction<'_>) -> T) -> T {
-    let mut transaction = store.resume(id).unwrap();
+fn with<T>(store: &Store, left: LeftOpen, act: impl FnOnce(&mut Transaction<'_>) -> T) -> T {
+    let mut transaction = store.resume(left).unwrap();
     let told = act(&mut transaction);
     transaction.leave();
     told
 }
 
 /// Counts this object up by one.
-fn up(store: &Store, id: TransactionId, object: u32) {
-    assert_eq!(with(store, id, |t| t.call(object, "inc:1")), Ok(Reply::Operation(Operation::listed(0))));
+fn up(store: &Store, left: LeftOpen, object: u32) {
+    assert_eq!(with(store, left, |t| t.call(object, "inc:1").told()), Ok(Told::Operation(OperationId::listed(0))));
 }
 
 /// What the objects 2, 3 and 7 keep.
@@ -36,7 +39,7 @@ fn the_open_are_told() {
     store.resume(second).unwrap().abort().unwrap();
     assert_eq!((store.open_count(), store.resume(second).unwrap().commit()), (2, Err(Error::NotOpen)));
     let fourth = store.begin_as(9).unwrap().leave();
-    assert_eq!((third.number(), fourth.number(), store.open_count()), (2, 3, 3));
+    assert_eq!((third.id().number, fourth.id().number, store.open_count()), (2, 3, 3));
     for _ in 0..50 {
         up(&store, fourth, 3);
     }
@@ -54,13 +57,13 @@ fn are_left(ended: u64) {
     let counter = Type::counter(1, &[1], Kind::Undo).unwrap();
     let mut store = Store::new([&counter], 3000).unwrap();
     let worker = |t: u64| (t % 256) as u8;
-    let ids: Vec<TransactionId> = (0..1024).map(|t| store.begin_as(worker(t)).unwrap().leave()).collect();
-    assert!(ids.iter().map(|id| id.number()).eq(0..1024));
+    let all: Vec<LeftOpen> = (0..1024).map(|t| store.begin_as(worker(t)).unwrap().leave()).collect();
+    assert!(all.iter().map(|left| left.id().number).eq(0..1024));
     assert_eq!((store.open_count(), store.begin().err()), (1024, Some(Error::TooManyOpen)));
     for place in 0..ended {
-        let id = ids[(place ^ 341) as usize];
-        store.resume(id).unwrap().commit().unwrap();
-        assert_eq!(store.resume(id).unwrap().abort(), Err(Error::NotOpen));
+        let left = all[(place ^ 341) as usize];
+        store.resume(left).unwrap().commit().unwrap();
+        assert_eq!(store.resume(left).unwrap().abort(), Err(Error::NotOpen));
     }
     assert_eq!(store.open_count(), 1024 - ended);
     let count = store.event_count();

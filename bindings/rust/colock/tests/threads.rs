@@ -14,7 +14,7 @@ fn try_once(store: &Mutex<Store>, worker: u8, drawn: u64) -> bool {
         let name = if (drawn >> call) & 1 == 0 { "inc:1" } else { "dec:1" };
         match t.call((drawn >> (4 + call)) as u32 % 4, name).unwrap() {
             Reply::Operation(_) => t.leave(),
-            Reply::Busy { .. } | Reply::None => return false, // and the drop aborts it
+            Reply::Busy { .. } | Reply::Illegal => return false, // and the drop aborts it
         };
     }
     store.lock().unwrap().resume(id).unwrap().commit().unwrap();

@@ -4,7 +4,7 @@
 mod common;
 
 use colock::{Error, Kind, Reply, Retry, SharedStore, SharedTransaction, Type};
-use common::{filled, lines, until_asleep, Fixture, Make, LONG};
+use common::{filled, id, lines, number, until_asleep, Fixture, Make, Telling, Told, LONG};
 use std::sync::atomic::{AtomicBool, AtomicU64, Ordering};
 use std::sync::Barrier;
 use std::thread;
@@ -52,7 +52,7 @@ over_both![
 /// A transaction that counts an object up, by 1.
 fn holder(store: &SharedStore, object: u32) -> SharedTransaction<'_> {
     let mut holder = store.begin().unwrap();
-    assert_eq!(holder.call(object, "inc:1"), Ok(Reply::Operation(0.into())));
+    assert_eq!(holder.call(object, "inc:1").told(), Ok(Told::Operation(0.into())));
     holder
 }
 
@@ -71,7 +71,7 @@ fn waits_until(make: Make, end: impl FnOnce(&mut Option<SharedTransaction<'_>>))
         thread::sleep(SHORT);
         assert!(!waiter.is_finished());
         end(&mut blocker);
-        assert_eq!(waiter.join().unwrap(), Ok(Reply::Operation(1.into())));
+        assert_eq!(waiter.join().unwrap().told(), Ok(Told::Operation(1.into())));
     });
     drop(blocker);
     let told = lines(&store, start);
@@ -101,9 +101,9 @@ fn a_call_that_is_free_doesnt_wait(make: Make) {
     let store = filled(make, 1);
     let _holder = holder(&store, 0);
     let mut t = store.begin().unwrap();
-    assert_eq!(t.call_within(0, "inc:1", LONG), Ok(Reply::Operation(0.into())));
-    assert_eq!(t.call_op_within(0, 0, Duration::ZERO), Ok(Reply::Operation(0.into())));
-    assert_eq!(t.call_within(0, "inc:500", LONG), Ok(Reply::None)); // 503 and 500 are too many
+    assert_eq!(t.call_within(0, "inc:1", LONG).told(), Ok(Told::Operation(0.into())));
+    assert_eq!(t.call_op_within(0, 0, Duration::ZERO).told(), Ok(Told::Operation(0.into())));
+    assert_eq!(t.call_within(0, "inc:500", LONG).told(), Ok(Told::Illegal)); // 503 and 500 are too many
     assert_eq!(store.stats().waits, 0);
 }
 
@@ -114,9 +114,10 @@ fn a_call_waits_for_one_after_another(make: Make) {
         let waiter = scope.spawn(|| store.begin().unwrap().call_within(0, "dec:1", LONG));
         until_asleep(&store, 1);
         first.commit().unwrap();
-        until_asleep(&store, 2); // after the second now
+        thread::sleep(SHORT);
+        assert!(!waiter.is_finished()); // it waits for the second now
         second.commit().unwrap();
-        assert_eq!(waiter.join().unwrap(), Ok(Reply::Operation(1.into())));
+        assert_eq!(waiter.join().unwrap().told(), Ok(Told::Operation(1.into())));
     });
     // what is asked again leaves no event
     assert_eq!(lines(&store, 0).iter().filter(|line| line.starts_with("busy ")).count(), 1);
@@ -132,7 +133,7 @@ fn a_limit_ends_a_wait(make: Make) {
     // nothing was executed, and it is open
     assert_eq!((store.kept(0), store.open_count(), store.stats().timeouts), (Ok(501), Ok(2), 1));
     blocker.commit().unwrap();
-    assert_eq!(t.call_within(0, "dec:1", SHORT), Ok(Reply::Operation(1.into())));
+    assert_eq!(t.call_within(0, "dec:1", SHORT).told(), Ok(Told::Operation(1.into())));
     t.commit().unwrap();
 }
 
@@ -160,12 +161,12 @@ fn waiting(mut t: SharedTransaction<'_>, object: u32) -> (Result<Reply, Error>, 
 fn the_younger_of_two_is_the_victim(make: Make) {
     let store = filled(make, 2);
     let (older, younger) = (holder(&store, 0), holder(&store, 1));
-    let blocker = older.number();
+    let blocker = older.begun().unwrap();
     thread::scope(|scope| {
         let victim = scope.spawn(|| waiting(younger, 0));
         until_asleep(&store, 1);
         let start = Instant::now();
-        assert_eq!(waiting(older, 1).0, Ok(Reply::Operation(1.into())));
+        assert_eq!(waiting(older, 1).0.told(), Ok(Told::Operation(1.into())));
         assert!(start.elapsed() < AT_ONCE, "{:?}", start.elapsed());
         assert_eq!(victim.join().unwrap().0, Err(Error::Deadlock { waited_for: blocker }));
     });
@@ -176,14 +177,14 @@ fn the_younger_of_two_is_the_victim(make: Make) {
 fn who_closes_the_circle_is_the_victim(make: Make) {
     let store = filled(make, 2);
     let (older, younger) = (holder(&store, 0), holder(&store, 1));
-    let blocker = older.number();
+    let blocker = older.begun().unwrap();
     thread::scope(|scope| {
         let survivor = scope.spawn(|| waiting(older, 1));
         until_asleep(&store, 1);
         let (reply, took) = waiting(younger, 0);
         assert_eq!(reply, Err(Error::Deadlock { waited_for: blocker }));
         assert!(took < AT_ONCE, "{took:?}");
-        assert_eq!(survivor.join().unwrap().0, Ok(Reply::Operation(1.into())));
+        assert_eq!(survivor.join().unwrap().0.told(), Ok(Told::Operation(1.into())));
     });
     assert_eq!((store.kept(0), store.kept(1), store.stats().deadlocks), (Ok(501), Ok(499), 1));
 }
@@ -191,17 +192,17 @@ fn who_closes_the_circle_is_the_victim(make: Make) {
 fn the_youngest_of_three_is_the_victim(make: Make) {
     let store = filled(make, 3);
     let (first, second, third) = (holder(&store, 0), holder(&store, 1), holder(&store, 2));
-    let blocker = first.number();
+    let blocker = first.begun().unwrap();
     thread::scope(|scope| {
         let victim = scope.spawn(|| waiting(third, 0)); // for the first
         until_asleep(&store, 1);
         let middle = scope.spawn(|| waiting(second, 2)); // for the third
         until_asleep(&store, 2);
         let start = Instant::now();
-        assert_eq!(waiting(first, 1).0, Ok(Reply::Operation(1.into()))); // for the second, which goes on as the third is gone
+        assert_eq!(waiting(first, 1).0.told(), Ok(Told::Operation(1.into()))); // for the second, which goes on as the third is gone
         assert!(start.elapsed() < AT_ONCE, "{:?}", start.elapsed());
         assert_eq!(victim.join().unwrap().0, Err(Error::Deadlock { waited_for: blocker }));
-        assert_eq!(middle.join().unwrap().0, Ok(Reply::Operation(1.into())));
+        assert_eq!(middle.join().unwrap().0.told(), Ok(Told::Operation(1.into())));
     });
     // up by the first; up by the second and down by the first; down by the second
     assert_eq!((store.kept(0), store.kept(1), store.kept(2)), (Ok(501), Ok(500), Ok(499)));
@@ -212,23 +213,23 @@ fn the_gate_lets_the_older_go_first(make: Make) {
     let store = filled(make, 2);
     let first = holder(&store, 0);
     let older = store.begin().unwrap();
-    let name = older.number();
+    let name = number(&older);
     let mut younger = store.begin().unwrap();
     thread::scope(|scope| {
         let waiter = scope.spawn(|| waiting(older, 0));
         until_asleep(&store, 1);
         let start = store.event_count().unwrap();
         // beside the first, but before who waits for it
-        assert_eq!(younger.call(0, "inc:1"), Ok(Reply::Busy { blocker: name }));
-        assert_eq!(younger.would(0, "inc:1"), Ok(Reply::Busy { blocker: name }));
+        assert_eq!(younger.call(0, "inc:1").told(), Ok(Told::Busy { blocker: name }));
+        assert_eq!(younger.would(0, "inc:1").told(), Ok(Told::Busy { blocker: name }));
         assert_eq!(younger.call_within(0, "inc:1", Duration::ZERO), Err(Error::TimedOut));
         assert_eq!(store.event_count().unwrap(), start); // the gate answers without an event
-        assert_eq!(younger.call(0, "dec:1"), Ok(Reply::Busy { blocker: first.number() })); // which doesn't block a down
-        assert_eq!(younger.call(1, "inc:1"), Ok(Reply::Operation(0.into()))); // at another object
+        assert_eq!(younger.call(0, "dec:1").told(), Ok(Told::Busy { blocker: number(&first) })); // which doesn't block a down
+        assert_eq!(younger.call(1, "inc:1").told(), Ok(Told::Operation(0.into()))); // at another object
         first.commit().unwrap();
-        assert_eq!(waiter.join().unwrap().0, Ok(Reply::Operation(1.into())));
+        assert_eq!(waiter.join().unwrap().0.told(), Ok(Told::Operation(1.into())));
     });
-    assert_eq!(younger.call(0, "inc:1"), Ok(Reply::Operation(0.into())));
+    assert_eq!(younger.call(0, "inc:1").told(), Ok(Told::Operation(0.into())));
     younger.commit().unwrap();
     assert_eq!(store.kept(0), Ok(501));
 }
@@ -247,8 +248,8 @@ fn the_gate_is_waited_at(make: Make) {
         });
         until_asleep(&store, 2);
         first.commit().unwrap();
-        assert_eq!(waiter.join().unwrap().0, Ok(Reply::Operation(1.into())));
-        assert_eq!(behind.join().unwrap(), Ok(Reply::Operation(0.into())));
+        assert_eq!(waiter.join().unwrap().0.told(), Ok(Told::Operation(1.into())));
+        assert_eq!(behind.join().unwrap().told(), Ok(Told::Operation(0.into())));
         let told = lines(&store, start);
         let at = |end: &str| told.iter().position(|line| line.starts_with("op ") && line.ends_with(end)).unwrap();
         assert!(at(" 0 1") < at(" 0 0"), "the down comes before the up: {told:?}");
@@ -265,7 +266,7 @@ fn who_leaves_the_gate_lets_others_go(make: Make) {
         until_asleep(&store, 1);
         let start = Instant::now();
         // beside the first, which is still open
-        assert_eq!(younger.call_within(0, "inc:1", LONG), Ok(Reply::Operation(0.into())));
+        assert_eq!(younger.call_within(0, "inc:1", LONG).told(), Ok(Told::Operation(0.into())));
         assert!(start.elapsed() < AT_ONCE, "{:?}", start.elapsed());
         assert_eq!(waiter.join().unwrap(), Err(Error::TimedOut));
     });
@@ -280,11 +281,11 @@ fn who_is_waited_for_passes_the_gate(make: Make) {
     thread::scope(|scope| {
         let waiter = scope.spawn(|| waiting(older, 0));
         until_asleep(&store, 1);
-        assert_eq!(younger.would(0, "inc:1"), Ok(Reply::Operation(0.into())));
-        assert_eq!(younger.call(0, "inc:1"), Ok(Reply::Operation(0.into())));
-        assert_eq!(younger.call_within(0, "inc:1", LONG), Ok(Reply::Operation(0.into())));
+        assert_eq!(younger.would(0, "inc:1").told(), Ok(Told::Operation(0.into())));
+        assert_eq!(younger.call(0, "inc:1").told(), Ok(Told::Operation(0.into())));
+        assert_eq!(younger.call_within(0, "inc:1", LONG).told(), Ok(Told::Operation(0.into())));
         younger.commit().unwrap();
-        assert_eq!(waiter.join().unwrap().0, Ok(Reply::Operation(1.into())));
+        assert_eq!(waiter.join().unwrap().0.told(), Ok(Told::Operation(1.into())));
     });
     assert_eq!((store.kept(0), store.stats().deadlocks), (Ok(502), 0));
 }
@@ -305,10 +306,10 @@ fn a_circle_by_the_gate_has_no_victim(make: Make) {
         });
         until_asleep(&store, 2);
         let start = Instant::now();
-        assert_eq!(waiting(first, 1).0, Ok(Reply::Operation(1.into())));
+        assert_eq!(waiting(first, 1).0.told(), Ok(Told::Operation(1.into())));
         assert!(start.elapsed() < AT_ONCE, "{:?}", start.elapsed());
-        assert_eq!(passing.join().unwrap(), Ok(Reply::Operation(0.into())));
-        assert_eq!(waiter.join().unwrap().0, Ok(Reply::Operation(1.into())));
+        assert_eq!(passing.join().unwrap().told(), Ok(Told::Operation(0.into())));
+        assert_eq!(waiter.join().unwrap().0.told(), Ok(Told::Operation(1.into())));
     });
     // two ups and a down; an up and a down
     assert_eq!((store.kept(0), store.kept(1), store.stats().deadlocks), (Ok(501), Ok(500), 0));
@@ -321,7 +322,7 @@ const GRACE: Duration = Duration::from_millis(250);
 /// then, so that there are always some pieces.
 fn take(store: &SharedStore, holding: &AtomicU64) {
     let mut take = store.begin().unwrap();
-    assert_eq!(take.call_within(0, "dec:1", LONG), Ok(Reply::Operation(1.into())));
+    assert_eq!(take.call_within(0, "dec:1", LONG).told(), Ok(Told::Operation(1.into())));
     holding.fetch_add(1, Ordering::SeqCst);
     let start = Instant::now();
     let may_end = || holding.fetch_update(Ordering::SeqCst, Ordering::SeqCst, |count| (count > 1).then(|| count - 1)).is_ok();
@@ -355,7 +356,7 @@ fn give_among_takes(store: &SharedStore, limit: Duration) -> Result<Reply, Error
 
 fn a_stream_of_takes_lets_a_give_through(make: Make) {
     let limit = Duration::from_secs(1);
-    assert_eq!(give_among_takes(&filled(make, 1), limit), Ok(Reply::Operation(0.into())));
+    assert_eq!(give_among_takes(&filled(make, 1), limit).told(), Ok(Told::Operation(0.into())));
     assert_eq!(give_among_takes(&filled(make, 1).without_gate(), limit), Err(Error::TimedOut));
 }
 
@@ -368,11 +369,11 @@ fn a_victim_tries_again_behind_its_blocker(make: Make) {
         let mut tries = 0;
         let told = store.retry(&Retry { tries: 3, ..Retry::default() }, |t| {
             tries += 1;
-            t.call_within(object, "inc:1", LONG)?.executed()?;
+            t.expect_within(object, "inc:1", "ok", LONG)?;
             if tries == 1 {
                 meet.wait();
             }
-            t.call_within(1 - object, "dec:1", LONG)?.executed()
+            t.expect_within(1 - object, "dec:1", "ok", LONG)
         });
         told.map(|_| tries)
     };
@@ -395,12 +396,12 @@ fn tries_end(make: Make) {
     let mut tries = 0;
     let told = store.retry(&retry, |t| {
         tries += 1;
-        t.call(0, "dec:1")?.executed()
+        t.expect(0, "dec:1", "ok")
     });
-    assert_eq!((told, tries), (Err(Error::Busy { blocker: blocker.number() }), 3));
+    assert_eq!((told, tries), (Err(Error::Busy { blocker: blocker.begun().unwrap() }), 3));
     let told = store.retry(&retry, |t| {
         tries += 1;
-        t.call_within(0, "dec:1", Duration::from_millis(1))?.executed()
+        t.expect_within(0, "dec:1", "ok", Duration::from_millis(1))
     });
     assert_eq!((told, tries), (Err(Error::TimedOut), 6));
     assert_eq!((store.stats().aborts, store.open_count()), (6, Ok(1)));
@@ -411,7 +412,7 @@ fn tries_end(make: Make) {
 /// other one is the youngest.
 fn a_retry_keeps_its_age(make: Make) {
     let store = filled(make, 2);
-    let (mut other, mut blocker, mut tries) = (None, 0, 0);
+    let (mut other, mut blocker, mut tries) = (None, id("0.0"), 0);
     thread::scope(|scope| {
         let store: &SharedStore = &store;
         let mut victim = None;
@@ -421,12 +422,12 @@ fn a_retry_keeps_its_age(make: Make) {
                 other = Some(holder(store, 1));
                 return Err(Error::TimedOut);
             }
-            t.call(0, "inc:1")?.executed()?;
-            blocker = t.number();
+            t.expect(0, "inc:1", "ok")?;
+            blocker = t.begun().unwrap();
             let younger = other.take().unwrap();
             victim = Some(scope.spawn(move || waiting(younger, 0)));
             until_asleep(store, 1);
-            t.call_within(1, "dec:1", LONG)?.executed()
+            t.expect_within(1, "dec:1", "ok", LONG)
         });
         assert_eq!((told, tries), (Ok(1.into()), 2));
         assert_eq!(victim.unwrap().join().unwrap().0, Err(Error::Deadlock { waited_for: blocker }));
@@ -444,7 +445,7 @@ fn a_swallowed_deadlock_is_no_commit(make: Make) {
         let mut older = Some(older);
         let told = store.retry(&Retry::default(), |t| {
             tries += 1;
-            t.call(1, "inc:1")?.executed()?;
+            t.expect(1, "inc:1", "ok")?;
             if let Some(older) = older.take() {
                 scope.spawn(move || waiting(older, 1));
                 until_asleep(store, 1);
@@ -463,7 +464,7 @@ fn stats_count(make: Make) {
     assert_eq!((before.commits, before.aborts, &before.busy[..], before.waits, before.waited), (2, 0, &[0, 0][..], 0, Duration::ZERO));
     let blocker = holder(&store, 1);
     let mut t = store.begin().unwrap();
-    assert_eq!(t.call(1, "dec:1"), Ok(Reply::Busy { blocker: blocker.number() }));
+    assert_eq!(t.call(1, "dec:1").told(), Ok(Told::Busy { blocker: number(&blocker) }));
     assert_eq!(t.call_within(1, "dec:1", SHORT), Err(Error::TimedOut));
     blocker.commit().unwrap();
     t.abort().unwrap();
@@ -479,7 +480,7 @@ fn pieces(make: Make, objects: u32, count: u64) -> Fixture {
     let of = Type::counter(5, &[1], Kind::Escrow).unwrap();
     let store = make(&vec![&of; objects as usize]);
     for object in (0..objects).flat_map(|object| (0..count).map(move |_| object)) {
-        store.transact(|turn| turn.call(object, "inc:1")?.executed()).unwrap();
+        store.transact(|turn| turn.expect(object, "inc:1", "ok")).unwrap();
     }
     store
 }
@@ -487,7 +488,7 @@ fn pieces(make: Make, objects: u32, count: u64) -> Fixture {
 /// A transaction that takes this many pieces.
 fn taker(store: &SharedStore, object: u32, count: u64) -> SharedTransaction<'_> {
     let mut taker = store.begin().unwrap();
-    assert!((0..count).all(|_| taker.call(object, "dec:1") == Ok(Reply::Operation(1.into()))));
+    assert!((0..count).all(|_| taker.call(object, "dec:1").told() == Ok(Told::Operation(1.into()))));
     taker
 }
 
@@ -499,7 +500,7 @@ fn a_take_in_escrow_waits_for_a_take(make: Make) {
         until_asleep(&store, 1);
         assert_eq!(store.kept(0), Ok(1)); // without what is open
         first.abort().unwrap();
-        assert_eq!(waiter.join().unwrap().0, Ok(Reply::Operation(1.into())));
+        assert_eq!(waiter.join().unwrap().0.told(), Ok(Told::Operation(1.into())));
     });
     assert_eq!(store.kept(0), Ok(0));
 }
@@ -507,17 +508,17 @@ fn a_take_in_escrow_waits_for_a_take(make: Make) {
 fn the_gate_of_a_number_lets_gives_pass(make: Make) {
     let store = pieces(make, 1, 2);
     let (first, older, mut younger) = (taker(&store, 0, 2), store.begin().unwrap(), store.begin().unwrap());
-    let name = older.number();
+    let name = number(&older);
     thread::scope(|scope| {
         let waiter = scope.spawn(|| waiting(older, 0));
         until_asleep(&store, 1);
         // a take goes after the one that waits; a give blocks no take
-        assert_eq!((younger.call(0, "dec:1"), younger.would(0, "dec:1")), (Ok(Reply::Busy { blocker: name }), Ok(Reply::Busy { blocker: name })));
-        assert_eq!(younger.call(0, "inc:1"), Ok(Reply::Operation(0.into())));
+        assert_eq!((younger.call(0, "dec:1").told(), younger.would(0, "dec:1").told()), (Ok(Told::Busy { blocker: name }), Ok(Told::Busy { blocker: name })));
+        assert_eq!(younger.call(0, "inc:1").told(), Ok(Told::Operation(0.into())));
         first.abort().unwrap();
-        assert_eq!(waiter.join().unwrap().0, Ok(Reply::Operation(1.into())));
+        assert_eq!(waiter.join().unwrap().0.told(), Ok(Told::Operation(1.into())));
     });
-    assert_eq!((younger.call(0, "dec:1"), store.kept(0)), (Ok(Reply::Operation(1.into())), Ok(1)));
+    assert_eq!((younger.call(0, "dec:1").told(), store.kept(0)), (Ok(Told::Operation(1.into())), Ok(1)));
     younger.commit().unwrap();
     assert_eq!(store.kept(0), Ok(1));
 }
@@ -525,11 +526,11 @@ fn the_gate_of_a_number_lets_gives_pass(make: Make) {
 fn takes_in_escrow_deadlock(make: Make) {
     let store = pieces(make, 2, 1);
     let (older, younger) = (taker(&store, 0, 1), taker(&store, 1, 1));
-    let blocker = older.number();
+    let blocker = older.begun().unwrap();
     thread::scope(|scope| {
         let victim = scope.spawn(|| waiting(younger, 0));
         until_asleep(&store, 1);
-        assert_eq!(waiting(older, 1).0, Ok(Reply::Operation(1.into())));
+        assert_eq!(waiting(older, 1).0.told(), Ok(Told::Operation(1.into())));
         assert_eq!(victim.join().unwrap().0, Err(Error::Deadlock { waited_for: blocker }));
     });
     assert_eq!((store.kept(0), store.kept(1), store.stats().deadlocks), (Ok(0), Ok(0), 1));
@@ -540,7 +541,7 @@ fn tens(make: Make, objects: u32) -> Fixture {
     let of = Type::counter(20, &[3, 5, 8, 10], Kind::Escrow).unwrap();
     let store = make(&vec![&of; objects as usize]);
     for object in 0..objects {
-        store.transact(|turn| turn.call(object, "inc:10")?.executed()).unwrap();
+        store.transact(|turn| turn.expect(object, "inc:10", "ok")).unwrap();
     }
     store
 }
@@ -548,18 +549,18 @@ fn tens(make: Make, objects: u32) -> Fixture {
 /// A transaction that has made a call at object 0.
 fn caller<'s>(store: &'s SharedStore, name: &str) -> SharedTransaction<'s> {
     let mut caller = store.begin().unwrap();
-    caller.call(0, name).unwrap().executed().unwrap();
+    caller.call(0, name).unwrap().expected("ok").unwrap();
     caller
 }
 
 /// That a take of 5, which waits for the first of those that are open, is let go by what `end` does, while that one stays
 /// open.
 fn is_let_go(store: &SharedStore, first: &SharedTransaction<'_>, end: impl FnOnce()) {
-    let name = first.number();
+    let name = number(first);
     thread::scope(|scope| {
         let waiter = scope.spawn(|| {
             let mut waiter = store.begin().unwrap();
-            assert_eq!(waiter.would(0, "dec:5"), Ok(Reply::Busy { blocker: name }));
+            assert_eq!(waiter.would(0, "dec:5").told(), Ok(Told::Busy { blocker: name }));
             let reply = waiter.call_within(0, "dec:5", LONG);
             waiter.commit().unwrap();
             reply
@@ -568,7 +569,7 @@ fn is_let_go(store: &SharedStore, first: &SharedTransaction<'_>, end: impl FnOnc
         thread::sleep(SHORT);
         assert!(!waiter.is_finished());
         end();
-        waiter.join().unwrap().unwrap().executed().unwrap();
+        waiter.join().unwrap().unwrap().expected("ok").unwrap();
     });
     assert_eq!(store.stats().waits, 1);
 }
@@ -578,7 +579,7 @@ fn a_give_that_commits_lets_a_take_go(make: Make) {
         let store = tens(make, 1);
         let first = caller(&store, "dec:8");
         is_let_go(&store, &first, || match is_turn {
-            true => store.transact(|turn| turn.call(0, "inc:10")?.executed()).map(drop).unwrap(),
+            true => store.transact(|turn| turn.expect(0, "inc:10", "ok")).map(drop).unwrap(),
             false => caller(&store, "inc:10").commit().unwrap(),
         });
         first.commit().unwrap();
@@ -613,14 +614,14 @@ fn what_lets_go_elsewhere_wakes_nobody(make: Make) {
     let store = tens(make, 2);
     let first = caller(&store, "dec:8");
     is_let_go(&store, &first, || {
-        store.transact(|turn| turn.call(1, "inc:10")?.executed()).unwrap();
+        store.transact(|turn| turn.expect(1, "inc:10", "ok")).unwrap();
         let mut other = store.begin().unwrap();
-        other.call(1, "dec:3").unwrap().executed().unwrap();
+        other.call(1, "dec:3").unwrap().expected("ok").unwrap();
         other.rollback(1).unwrap();
         other.commit().unwrap();
         // at the object, but nothing is executed
         let mut busy = store.begin().unwrap();
-        assert_eq!(busy.call(0, "dec:10"), Ok(Reply::Busy { blocker: first.number() + 1 }));
+        assert_eq!(busy.call(0, "dec:10").told(), Ok(Told::Busy { blocker: number(&first) + 1 }));
         busy.abort().unwrap();
         thread::sleep(SHORT);
         assert_eq!(store.stats().waits, 1);
@@ -649,7 +650,7 @@ fn a_give_at_any_moment_lets_a_take_go(make: Make) {
             meet.wait();
             thread::sleep(Duration::from_micros(turn * 10));
             give.commit().unwrap();
-            waiter.join().unwrap().unwrap().executed().unwrap();
+            waiter.join().unwrap().unwrap().expected("ok").unwrap();
         });
         caller(&store, "dec:5").commit().unwrap();
     }

@@ -1,7 +1,7 @@
 //! What the tests of shared stores have in common: a store in memory or in a file, from one list of types.
 #![allow(dead_code, unused_macros)] // each file of tests uses a part
 
-use colock::{Kind, OpenOptions, SharedStore, Type};
+use colock::{Error, Kind, OpenOptions, OperationId, Reply, SharedStore, SharedTransaction, TransactionId, Type};
 use std::env;
 use std::fs;
 use std::io::Write;
@@ -73,13 +73,15 @@ pub struct Fixture {
 impl Fixture {
     /// The store without its gate.
     pub fn without_gate(self) -> Fixture {
-        let Fixture { store, _folder } = self;
-        Fixture { store: store.without_gate(), _folder }
+        self.store.take_gate_out();
+        self
     }
+}
 
-    /// Closes the store.
-    pub fn close(self) -> Result<(), colock::Error> {
-        self.store.close()
+/// The child has ended before the folder goes away.
+impl Drop for Fixture {
+    fn drop(&mut self) {
+        let _ = self.store.close();
     }
 }
 
@@ -126,7 +128,7 @@ pub fn filled(make: Make, objects: u32) -> Fixture {
     let of = counter();
     let store = make(&vec![&of; objects as usize]);
     for object in 0..objects {
-        store.transact(|turn| turn.call(object, "inc:500")?.executed()).unwrap();
+        store.transact(|turn| turn.expect(object, "inc:500", "ok")).unwrap();
     }
     store
 }
@@ -176,5 +178,38 @@ impl Drawn {
     pub fn below(&mut self, most: u64) -> u64 {
         self.0 = self.0.wrapping_mul(6_364_136_223_846_793_005).wrapping_add(1_442_695_040_888_963_407);
         (self.0 >> 33) % most
+    }
+}
+
+/// The id of a text.
+pub fn id(text: &str) -> TransactionId {
+    text.parse().unwrap()
+}
+
+/// The number of a transaction, which begins for that.
+pub fn number(t: &SharedTransaction<'_>) -> u64 {
+    t.begun().unwrap().number
+}
+
+/// What a call was answered, by numbers.
+#[derive(Clone, Copy, Debug, PartialEq, Eq)]
+pub enum Told {
+    Operation(OperationId),
+    Busy { blocker: u64 },
+    Illegal,
+}
+
+/// A reply as `Told`.
+pub trait Telling {
+    fn told(self) -> Result<Told, Error>;
+}
+
+impl Telling for Result<Reply, Error> {
+    fn told(self) -> Result<Told, Error> {
+        Ok(match self? {
+            Reply::Operation(operation) => Told::Operation(operation.id),
+            Reply::Busy { blocker } => Told::Busy { blocker: blocker.number },
+            Reply::Illegal => Told::Illegal,
+        })
     }
 }

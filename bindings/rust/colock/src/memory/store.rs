@@ -1,0 +1,379 @@
+use crate::error::{Error, NotFollowed};
+use crate::event::Event;
+use crate::memory::handle::{done, Handle};
+use crate::memory::transaction::{LeftOpen, Transaction};
+use crate::operation_id::OperationId;
+use crate::types::calls::Calls;
+use crate::types::Type;
+use colock_sys as sys;
+use std::fmt;
+use std::sync::atomic::{AtomicU64, Ordering};
+
+/// A store of objects. Where it is dropped, what is open aborts.
+pub struct Store {
+    handle: Handle,
+    /// That of no other store, nor of this one before it began anew: it is a mark of what is left open.
+    mark: u64,
+    /// How often it began anew.
+    life: u64,
+    /// Of each object.
+    types: Vec<Type>,
+}
+
+/// How many events there were, and how many of them were forgotten.
+struct Counts {
+    all: u64,
+    forgotten: u64,
+}
+
+fn next_mark() -> u64 {
+    static MARKS: AtomicU64 = AtomicU64::new(0);
+    MARKS.fetch_add(1, Ordering::Relaxed)
+}
+
+impl Store {
+    /// A store of an object of each of these types, each in its initial state. Its history will have at most
+    /// `max_events` events, those that were forgotten among them.
+    ///
+    /// ```
+    /// use colock::{Error, Kind, Store, Type};
+    ///
+    /// let counter = Type::counter(5, &[1], Kind::Undo)?;
+    /// let account = Type::account(5, &[1], Kind::Intentions)?;
+    /// let store = Store::new([&counter, &account, &account], 1_000_000)?;
+    /// assert_eq!(store.kept(2)?, 0);
+    /// assert_eq!(Store::new([&counter], 1).err(), Some(Error::BadMax));
+    /// # Ok::<(), Error>(())
+    /// ```
+    ///
+    /// # Errors
+    ///
+    /// [`Error::NoObjects`], [`Error::TooManyObjects`], [`Error::BadMax`] or [`Error::NoMemory`].
+    pub fn new<'t>(types: impl IntoIterator<Item = &'t Type>, max_events: u64) -> Result<Store, Error> {
+        // SAFETY: `made` gives a handle of its own.
+        let handle = Handle::made(|handle| unsafe { sys::colock_store_new(handle) }).map_err(|(code, _)| Error::of_code(code))?;
+        let types: Vec<Type> = types.into_iter().cloned().collect();
+        for of in &types {
+            // SAFETY: handles as `Handle::at` says, which are two.
+            done(unsafe { sys::colock_store_add(handle.at(), of.handle().at()) })?;
+        }
+        // SAFETY: a handle as `Handle::at` says, as in all below.
+        done(unsafe { sys::colock_store_open(handle.at(), max_events) })?;
+        Ok(Store { handle, mark: next_mark(), life: 0, types })
+    }
+
+    #[inline]
+    pub(crate) fn handle(&self) -> &Handle {
+        &self.handle
+    }
+
+    pub(crate) fn mark(&self) -> u64 {
+        self.mark
+    }
+
+    /// How often it began anew.
+    #[inline]
+    pub(crate) fn life(&self) -> u64 {
+        self.life
+    }
+
+    /// The types of its objects, in the order of the objects.
+    ///
+    /// ```
+    /// # use colock::{Kind, Store, Type};
+    /// # let store = Store::new([&Type::counter(5, &[1], Kind::Undo)?], 100)?;
+    /// assert_eq!(store.types()[0].name(), "counter");
+    /// # Ok::<(), colock::Error>(())
+    /// ```
+    pub fn types(&self) -> &[Type] {
+        &self.types
+    }
+
+    /// The calls of an object.
+    #[inline]
+    pub(crate) fn calls_at(&self, object: u32) -> Result<&Calls, Error> {
+        calls_at(&self.types, object)
+    }
+
+    /// Begins a transaction, as worker 0.
+    ///
+    /// ```
+    /// # use colock::{Kind, Store, Type};
+    /// # let store = Store::new([&Type::counter(5, &[1], Kind::Undo)?], 100)?;
+    /// let transaction = store.begin()?;
+    /// assert_eq!(store.open_count(), 1);
+    /// transaction.commit()?;
+    /// # Ok::<(), colock::Error>(())
+    /// ```
+    ///
+    /// # Errors
+    ///
+    /// [`Error::TooManyOpen`], [`Error::HistoryFull`] or [`Error::NoMemory`].
+    pub fn begin(&self) -> Result<Transaction<'_>, Error> {
+        self.begin_as(0)
+    }
+
+    /// Begins a transaction as a worker, which is a number that its events have.
+    ///
+    /// ```
+    /// # use colock::{Kind, Store, Type};
+    /// # let store = Store::new([&Type::counter(5, &[1], Kind::Undo)?], 100)?;
+    /// store.begin_as(7)?.commit()?;
+    /// assert_eq!(store.events(0)?[1].to_string(), "commit 7 0");
+    /// # Ok::<(), colock::Error>(())
+    /// ```
+    ///
+    /// # Errors
+    ///
+    /// As of [`Store::begin`].
+    #[inline]
+    pub fn begin_as(&self, worker: u8) -> Result<Transaction<'_>, Error> {
+        let mut number = 0;
+        // SAFETY: as in `new`.
+        done(unsafe { sys::colock_begin(self.handle.at(), worker, &mut number) })?;
+        Ok(Transaction::of(self, worker, number))
+    }
+
+    /// Takes up a transaction of this store that was left open.
+    ///
+    /// ```
+    /// # use colock::{Error, Kind, Store, Type};
+    /// # let mut store = Store::new([&Type::counter(5, &[1], Kind::Undo)?], 100)?;
+    /// let left = store.begin()?.leave();
+    /// store.resume(left)?.commit()?;
+    /// assert_eq!(store.resume(left)?.commit(), Err(Error::NotOpen));
+    /// store.renew()?;
+    /// assert_eq!(store.resume(left).err(), Some(Error::NotOpen));
+    /// # Ok::<(), Error>(())
+    /// ```
+    ///
+    /// # Errors
+    ///
+    /// [`Error::NotOpen`] where it is another store's, or this one began anew since. Where it has ended, its calls
+    /// say so.
+    pub fn resume(&self, left: LeftOpen) -> Result<Transaction<'_>, Error> {
+        if left.mark != self.mark {
+            return Err(Error::NotOpen);
+        }
+        Ok(Transaction::of(self, left.worker, left.number))
+    }
+
+    /// The call of this name at an object, for [`Transaction::call_op`]: the first operation that has it, of `value` that of
+    /// the value 0.
+    ///
+    /// ```
+    /// # use colock::{Error, Kind, Store, Type};
+    /// # let store = Store::new([&Type::counter(5, &[1], Kind::Undo)?], 100)?;
+    /// assert_eq!(store.call_number(0, "dec:1")?, 1.into());
+    /// assert_eq!(store.call_number(0, "dec:2"), Err(Error::NoCall));
+    /// # Ok::<(), Error>(())
+    /// ```
+    ///
+    /// # Errors
+    ///
+    /// [`Error::NoObject`] or [`Error::NoCall`].
+    pub fn call_number(&self, object: u32, name: &str) -> Result<OperationId, Error> {
+        let mut call = 0;
+        // SAFETY: as in `new`; the name is one slice.
+        done(unsafe { sys::colock_call_number(self.handle.at(), object, name.as_ptr(), name.len(), &mut call) })?;
+        OperationId::try_from(call).map_err(|_| Error::Unknown(call))
+    }
+
+    /// The state that is kept of an object: of [`Kind::Undo`](crate::Kind::Undo) with what open transactions did, else
+    /// without it.
+    ///
+    /// ```
+    /// # use colock::{Error, Kind, Store, Type};
+    /// # let store = Store::new([&Type::counter(5, &[1], Kind::Undo)?], 100)?;
+    /// assert_eq!(store.kept(0)?, 0);
+    /// assert_eq!(store.kept(1), Err(Error::NoObject));
+    /// # Ok::<(), Error>(())
+    /// ```
+    ///
+    /// # Errors
+    ///
+    /// [`Error::NoObject`].
+    pub fn kept(&self, object: u32) -> Result<u64, Error> {
+        let mut state = 0;
+        // SAFETY: as in `new`.
+        done(unsafe { sys::colock_kept(self.handle.at(), object, &mut state) })?;
+        Ok(state)
+    }
+
+    /// How many transactions are open.
+    ///
+    /// ```
+    /// # use colock::{Kind, Store, Type};
+    /// # let store = Store::new([&Type::counter(5, &[1], Kind::Undo)?], 100)?;
+    /// let transaction = store.begin()?;
+    /// assert_eq!(store.open_count(), 1);
+    /// # drop(transaction);
+    /// # Ok::<(), colock::Error>(())
+    /// ```
+    pub fn open_count(&self) -> u64 {
+        let mut count = 0;
+        // SAFETY: as in `new`. The handle holds a store, of which this is always known.
+        unsafe { sys::colock_open_count(self.handle.at(), &mut count) };
+        count
+    }
+
+    /// Aborts each transaction that was left open, in ascending order, as the worker that began it.
+    ///
+    /// ```
+    /// # use colock::{Kind, Store, Type};
+    /// # let mut store = Store::new([&Type::counter(5, &[1], Kind::Undo)?], 100)?;
+    /// store.begin()?.leave();
+    /// store.abort_all();
+    /// assert_eq!(store.open_count(), 0);
+    /// # Ok::<(), colock::Error>(())
+    /// ```
+    pub fn abort_all(&mut self) {
+        // SAFETY: as in `new`. The handle holds a store, of which this is always done.
+        unsafe { sys::colock_abort_all(self.handle.at()) };
+    }
+
+    /// The events from a place on, oldest first. Events count from 0.
+    ///
+    /// ```
+    /// # use colock::{Event, Kind, Store, Type};
+    /// # let store = Store::new([&Type::counter(5, &[1], Kind::Undo)?], 100)?;
+    /// store.begin()?.commit()?;
+    /// assert_eq!(store.events(1)?, [Event::Commit { worker: 0, transaction: 0 }]);
+    /// # Ok::<(), colock::Error>(())
+    /// ```
+    ///
+    /// # Errors
+    ///
+    /// [`Error::Forgotten`] where `from` is below [`Store::forgotten_count`].
+    pub fn events(&self, from: u64) -> Result<Vec<Event>, Error> {
+        let count = usize::try_from(self.event_count().saturating_sub(from)).map_err(|_| Error::NoMemory)?;
+        let mut room = Vec::new();
+        // before the library is asked, which knows whether they were forgotten
+        let places = if from < self.forgotten_count() { 0 } else { count };
+        room.try_reserve_exact(places).map_err(|_| Error::NoMemory)?;
+        room.resize(places, sys::Event::default());
+        let mut copied = 0;
+        // SAFETY: as in `new`; the room is one slice.
+        done(unsafe { sys::colock_events(self.handle.at(), from, room.as_mut_ptr(), room.len(), &mut copied) })?;
+        room.iter().map(|words| Event::of(words).map_err(Error::Unknown)).collect()
+    }
+
+    /// How many events there were, those that were forgotten among them.
+    ///
+    /// ```
+    /// # use colock::{Kind, Store, Type};
+    /// # let store = Store::new([&Type::counter(5, &[1], Kind::Undo)?], 100)?;
+    /// store.begin()?.commit()?;
+    /// assert_eq!(store.event_count(), 2);
+    /// # Ok::<(), colock::Error>(())
+    /// ```
+    pub fn event_count(&self) -> u64 {
+        self.counts().all
+    }
+
+    /// How many of the first events were forgotten.
+    ///
+    /// ```
+    /// # use colock::{Error, Kind, Store, Type};
+    /// # let store = Store::new([&Type::counter(5, &[1], Kind::Undo)?], 100)?;
+    /// store.begin()?.commit()?;
+    /// store.forget(1);
+    /// assert_eq!(store.forgotten_count(), 1);
+    /// assert_eq!(store.events(0), Err(Error::Forgotten));
+    /// # Ok::<(), Error>(())
+    /// ```
+    pub fn forgotten_count(&self) -> u64 {
+        self.counts().forgotten
+    }
+
+    fn counts(&self) -> Counts {
+        let mut counts = Counts { all: 0, forgotten: 0 };
+        // SAFETY: as in `new`. The handle holds a store, of which this is always known.
+        unsafe { sys::colock_event_count(self.handle.at(), &mut counts.all, &mut counts.forgotten) };
+        counts
+    }
+
+    /// Forgets the first events, this many of those that are in memory, or all of them.
+    ///
+    /// ```
+    /// # use colock::{Kind, Store, Type};
+    /// # let store = Store::new([&Type::counter(5, &[1], Kind::Undo)?], 100)?;
+    /// store.begin()?.commit()?;
+    /// store.forget(u64::MAX);
+    /// assert_eq!((store.event_count(), store.forgotten_count()), (2, 2));
+    /// # Ok::<(), colock::Error>(())
+    /// ```
+    pub fn forget(&self, events: u64) {
+        // SAFETY: as in `new`. The handle holds a store, of which this is always done.
+        unsafe { sys::colock_forget(self.handle.at(), events) };
+    }
+
+    /// Makes events again, one after another, each as its worker: a store becomes what another was.
+    ///
+    /// ```
+    /// # use colock::{Error, Kind, Store, Type};
+    /// # let counter = Type::counter(5, &[1], Kind::Undo)?;
+    /// # let store = Store::new([&counter], 100)?;
+    /// let mut transaction = store.begin()?;
+    /// let _reply = transaction.call(0, "inc:1")?;
+    /// transaction.commit()?;
+    /// let other = Store::new([&counter], 100)?;
+    /// assert!(other.follow(&store.events(0)?).is_ok());
+    /// assert_eq!(other.kept(0)?, 1);
+    /// let again = other.follow(&store.events(0)?).unwrap_err(); // no second transaction 0
+    /// assert_eq!((again.made, again.error), (0, Error::NotMade));
+    /// # Ok::<(), Error>(())
+    /// ```
+    ///
+    /// # Errors
+    ///
+    /// [`Error::NotMade`] or [`Error::NoMemory`], with how many were made.
+    pub fn follow(&self, events: &[Event]) -> Result<(), NotFollowed> {
+        let mut room = Vec::new();
+        room.try_reserve_exact(events.len()).map_err(|_| NotFollowed { made: 0, error: Error::NoMemory })?;
+        room.extend(events.iter().map(|event| event.words()));
+        let mut made = 0;
+        // SAFETY: as in `new`; the events are one slice.
+        let code = unsafe { sys::colock_follow(self.handle.at(), room.as_ptr(), room.len(), &mut made) };
+        done(code).map_err(|error| NotFollowed { made, error })
+    }
+
+    /// Begins anew, with no event, at the states that are kept. Transactions count from 0 again.
+    ///
+    /// ```
+    /// # use colock::{Error, Kind, Store, Type};
+    /// # let mut store = Store::new([&Type::counter(5, &[1], Kind::Undo)?], 100)?;
+    /// let mut transaction = store.begin()?;
+    /// let _reply = transaction.call(0, "inc:1")?;
+    /// let left = transaction.leave();
+    /// assert_eq!(store.renew(), Err(Error::StillOpen));
+    /// store.resume(left)?.commit()?;
+    /// store.renew()?;
+    /// assert_eq!((store.kept(0)?, store.event_count()), (1, 0));
+    /// # Ok::<(), Error>(())
+    /// ```
+    ///
+    /// # Errors
+    ///
+    /// [`Error::StillOpen`] where a transaction was left open, or [`Error::NoMemory`].
+    pub fn renew(&mut self) -> Result<(), Error> {
+        // SAFETY: as in `new`.
+        done(unsafe { sys::colock_renew(self.handle.at()) })?;
+        self.mark = next_mark();
+        self.life += 1;
+        Ok(())
+    }
+}
+
+/// The calls of an object, by the types of all objects.
+#[inline]
+pub(crate) fn calls_at(types: &[Type], object: u32) -> Result<&Calls, Error> {
+    let place = usize::try_from(object).unwrap_or(usize::MAX);
+    types.get(place).map(Type::calls).ok_or(Error::NoObject)
+}
+
+impl fmt::Debug for Store {
+    fn fmt(&self, f: &mut fmt::Formatter<'_>) -> fmt::Result {
+        f.debug_struct("Store").field("events", &self.event_count()).field("open", &self.open_count()).finish_non_exhaustive()
+    }
+}

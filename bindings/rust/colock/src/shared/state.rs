@@ -1,0 +1,173 @@
+//! What is under the one lock of a shared store.
+
+use crate::error::Error;
+use crate::memory::store::Store;
+use crate::memory::transaction::Transaction;
+use crate::reply::Outcome;
+use crate::shared::calling::would;
+use crate::stats::Stats;
+use crate::transaction_id::TransactionId;
+use crate::types::Type;
+use crate::wait::waiters::{Waiters, Woken};
+use crate::wire::remote::RemoteState;
+use crate::wire::request::Request;
+use crate::wire::slot::Slot;
+use colock_waiting::Touched;
+use std::mem::ManuallyDrop;
+use std::sync::Arc;
+
+/// Where the store is.
+#[derive(Debug)]
+pub(crate) enum Held {
+    Memory(Store),
+    Remote(RemoteState),
+}
+
+/// A transaction, by what every call of it needs.
+#[derive(Clone, Copy, Debug)]
+pub(crate) struct Ticket {
+    pub(crate) id: TransactionId,
+    pub(crate) age: u64,
+    pub(crate) worker: u8,
+    /// At which objects it has executed operations.
+    pub(crate) touched: Touched,
+}
+
+impl Ticket {
+    /// That of one that has just begun.
+    #[inline]
+    pub(crate) fn new(id: TransactionId, age: u64, worker: u8) -> Ticket {
+        Ticket { id, age, worker, touched: Touched::default() }
+    }
+}
+
+/// What is under the lock.
+#[derive(Debug)]
+pub(crate) struct State {
+    pub(crate) held: Held,
+    pub(crate) waiters: Waiters,
+    pub(crate) stats: Stats,
+    /// Of a child the life that was answered last, in memory how often the store began anew.
+    pub(crate) life: u64,
+    /// How often a transaction has ended, or all of them.
+    pub(crate) ends: u64,
+}
+
+impl State {
+    pub(crate) fn new(held: Held, types: &[Type], life: u64) -> State {
+        State { held, waiters: Waiters::new(types.to_vec()), stats: Stats::new(types.len()), life, ends: 0 }
+    }
+
+    /// Does what was decided about those that wait. In memory the store is asked for them here, so that nobody is woken who
+    /// can't go; over a child each asks by itself.
+    pub(crate) fn settle(&mut self) {
+        while let Some(caller) = self.waiters.next_to_ask() {
+            match &self.held {
+                Held::Memory(store) => match would(store, caller) {
+                    Ok(Outcome::Busy { blocker }) => self.waiters.is_busy(caller.number, blocker),
+                    _ => self.waiters.may_go(caller.number),
+                },
+                Held::Remote(_) => self.waiters.wake(caller.number, Woken::Again),
+            }
+        }
+    }
+
+    /// A transaction has ended.
+    #[inline]
+    pub(crate) fn ended(&mut self, ticket: Ticket) {
+        self.ends += 1;
+        if !self.waiters.is_empty() {
+            self.waiters.ended(ticket.id.number, ticket.touched);
+            self.settle();
+        }
+    }
+
+    /// A transaction has taken back operations.
+    pub(crate) fn took_back(&mut self, ticket: Ticket) {
+        self.waiters.took_back(ticket.id.number, ticket.touched);
+        self.settle();
+    }
+
+    /// A call waits no more.
+    pub(crate) fn leaves(&mut self, number: u64) {
+        self.waiters.leave(number);
+        self.settle();
+    }
+
+    /// All transactions have ended with their epoch.
+    pub(crate) fn all_ended(&mut self) {
+        self.ends += 1;
+        self.waiters.epoch_ended();
+        self.settle();
+    }
+
+    /// The child is lost.
+    pub(crate) fn lost(&mut self) {
+        self.waiters.lost();
+        self.settle();
+    }
+
+    /// The store in memory.
+    #[inline]
+    pub(crate) fn memory(&mut self) -> Result<&mut Store, Error> {
+        match &mut self.held {
+            Held::Memory(store) => Ok(store),
+            Held::Remote(_) => Err(Error::InMemoryOnly),
+        }
+    }
+
+    /// Writes a request to the child, whose answer comes into the slot.
+    pub(crate) fn send(&mut self, request: Request<'_>) -> Result<Arc<Slot>, Error> {
+        self.remote_state()?.send(request)
+    }
+
+    /// The store behind a child.
+    pub(crate) fn remote_state(&mut self) -> Result<&mut RemoteState, Error> {
+        match &mut self.held {
+            Held::Remote(remote_state) => Ok(remote_state),
+            Held::Memory(_) => Err(Error::ConnectionLost("the store is in memory".to_string())),
+        }
+    }
+
+    /// A transaction has begun over a child. Where a later life was answered meanwhile, it has been aborted.
+    pub(crate) fn began(&mut self, id: TransactionId) {
+        self.told_life(id.life);
+        if let (Held::Remote(remote_state), true) = (&mut self.held, id.life == self.life) {
+            remote_state.open.insert(id.number, 0);
+        }
+    }
+
+    /// Whether the transaction can still be open: why not, if not.
+    #[inline]
+    pub(crate) fn is_of_life(&self, ticket: Ticket) -> Result<(), Error> {
+        match self.held {
+            _ if ticket.id.life == self.life => Ok(()),
+            Held::Memory(_) => Err(Error::NotOpen),
+            Held::Remote(_) => Err(Error::EpochEnded),
+        }
+    }
+
+    /// Whether a transaction of the present life is open.
+    pub(crate) fn is_open(&self, number: u64) -> bool {
+        match &self.held {
+            Held::Memory(store) => resumed(store, 0, number).would_op_in_numbers(0, 0.into()) != Err(Error::NotOpen),
+            Held::Remote(remote_state) => remote_state.open.contains_key(&number),
+        }
+    }
+
+    /// A life was answered. Where it is a new one, what was open has been aborted.
+    pub(crate) fn told_life(&mut self, life: u64) {
+        if let (Held::Remote(remote_state), true) = (&mut self.held, life > self.life) {
+            self.life = life;
+            self.stats.aborts += remote_state.open.len() as u64;
+            remote_state.open.clear();
+            self.all_ended();
+        }
+    }
+}
+
+/// A transaction of a store in memory, which isn't aborted where this is dropped.
+#[inline]
+pub(crate) fn resumed(store: &Store, worker: u8, number: u64) -> ManuallyDrop<Transaction<'_>> {
+    ManuallyDrop::new(Transaction::of(store, worker, number))
+}

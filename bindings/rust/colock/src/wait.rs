@@ -1,0 +1,7 @@
+//! Calls that wait, and tries that are made again.
+
+pub(crate) mod calling;
+pub(crate) mod retry;
+mod room;
+pub(crate) mod touched;
+pub(crate) mod waiters;

@@ -1,0 +1,229 @@
+use crate::error::Error;
+use crate::shared::transaction::SharedTransaction;
+use crate::shared::SharedStore;
+use std::collections::hash_map::RandomState;
+use std::hash::{BuildHasher, Hasher};
+use std::iter;
+use std::ops::Deref;
+use std::thread;
+use std::time::Duration;
+
+/// The longest sleep between two tries.
+const LONGEST_SLEEP: Duration = Duration::from_secs(1);
+
+/// How long a victim waits for the end of whom it waited for before it begins anew.
+const LONGEST_LOOK: Duration = Duration::from_secs(10);
+
+/// How long a begin waits where too many are open.
+const LONGEST_CROWD: Duration = Duration::from_secs(10);
+
+/// How often [`SharedStore::retry`] tries, and how long it sleeps between two tries.
+#[derive(Clone, Copy, Debug, PartialEq, Eq)]
+// it may be built by its fields, so it isn't `non_exhaustive`
+pub struct Retry {
+    /// How many tries there are at most, at least one.
+    pub tries: u32,
+    /// After the n-th try it sleeps a random time up to this times 2 to the n, and at most a second.
+    pub backoff: Duration,
+}
+
+impl Default for Retry {
+    /// Ten tries, and a millisecond.
+    fn default() -> Retry {
+        Retry { tries: 10, backoff: Duration::from_millis(1) }
+    }
+}
+
+/// An error in which there may be one of a store, so that [`SharedStore::retry`] sees whether to try again.
+///
+/// ```
+/// use colock::{Cause, Error};
+///
+/// enum BookingError {
+///     SoldOut,
+///     Store(Error),
+/// }
+///
+/// impl From<Error> for BookingError {
+///     fn from(error: Error) -> BookingError {
+///         BookingError::Store(error)
+///     }
+/// }
+///
+/// impl Cause for BookingError {
+///     fn cause_in_store(&self) -> Option<&Error> {
+///         match self {
+///             BookingError::SoldOut => None,
+///             BookingError::Store(error) => Some(error),
+///         }
+///     }
+/// }
+/// # assert!(BookingError::SoldOut.cause_in_store().is_none());
+/// ```
+pub trait Cause {
+    /// The error of a store that is in this one.
+    fn cause_in_store(&self) -> Option<&Error>;
+}
+
+impl Cause for Error {
+    fn cause_in_store(&self) -> Option<&Error> {
+        Some(self)
+    }
+}
+
+/// What is behind a pointer to any error.
+pub trait AnyError {
+    fn cause(&self) -> Option<&Error>;
+}
+
+impl AnyError for dyn std::error::Error {
+    fn cause(&self) -> Option<&Error> {
+        cause_in(self)
+    }
+}
+
+impl AnyError for dyn std::error::Error + Send + Sync {
+    fn cause(&self) -> Option<&Error> {
+        cause_in(self)
+    }
+}
+
+/// A pointer to any error: `Box<dyn std::error::Error>`, the same with `Send + Sync`, or `anyhow::Error`.
+impl<P: Deref<Target: AnyError>> Cause for P {
+    fn cause_in_store(&self) -> Option<&Error> {
+        (**self).cause()
+    }
+}
+
+/// The error of a store that an error is or comes from, by its sources. Of an `anyhow::Error` it is
+/// `cause_in(error.as_ref())`.
+///
+/// ```
+/// use colock::{cause_in, Cause, Error};
+/// use std::fmt;
+///
+/// #[derive(Debug)]
+/// struct BookingError(Error);
+///
+/// impl fmt::Display for BookingError {
+///     fn fmt(&self, f: &mut fmt::Formatter<'_>) -> fmt::Result {
+///         f.write_str("the seat isn't booked")
+///     }
+/// }
+///
+/// impl std::error::Error for BookingError {
+///     fn source(&self) -> Option<&(dyn std::error::Error + 'static)> {
+///         Some(&self.0)
+///     }
+/// }
+///
+/// impl Cause for BookingError {
+///     fn cause_in_store(&self) -> Option<&Error> {
+///         cause_in(self)
+///     }
+/// }
+/// # assert_eq!(BookingError(Error::TimedOut).cause_in_store(), Some(&Error::TimedOut));
+/// # assert_eq!(cause_in(&fmt::Error), None);
+/// ```
+pub fn cause_in<'e>(error: &'e (dyn std::error::Error + 'static)) -> Option<&'e Error> {
+    iter::successors(Some(error), |error| error.source()).find_map(|error| error.downcast_ref())
+}
+
+impl SharedStore {
+    /// Does `f` as a transaction, which is committed at its end. Where `f` or the commit fails by an error that
+    /// [`is_retryable`](Error::is_retryable), the transaction is aborted and `f` runs again in another one, of the age of the first. Any other error aborts and is handed on; so does a panic.
+    ///
+    /// So `f` may run several times: what it does beside its transaction isn't taken back. A victim first waits for
+    /// the end of whom it waited for, at most ten seconds; else a random time is slept before another try. Where too many
+    /// transactions are open, a begin waits for the end of one, at most ten seconds.
+    ///
+    /// ```
+    /// use colock::{Error, Kind, Retry, SharedStore, Type};
+    ///
+    /// let counter = Type::counter(5, &[1], Kind::Undo)?;
+    /// let store = SharedStore::new([&counter], 100)?;
+    /// let mut blocker = Some(store.begin()?);
+    /// blocker.as_mut().unwrap().expect(0, "inc:1", "ok")?;
+    /// let mut tries = 0;
+    /// store.retry(&Retry::default(), |transaction| {
+    ///     tries += 1;
+    ///     if tries == 3 {
+    ///         blocker.take().unwrap().commit()?;
+    ///     }
+    ///     transaction.expect(0, "dec:1", "ok")
+    /// })?;
+    /// assert_eq!((tries, store.kept(0)?), (3, 0));
+    /// # Ok::<(), Error>(())
+    /// ```
+    ///
+    /// # Errors
+    ///
+    /// The last error of `f`, of the commit, or of [`SharedStore::begin`]. [`Error::OutcomeUnknown`] is never tried
+    /// again.
+    pub fn retry<T, E, F>(&self, how: &Retry, mut f: F) -> Result<T, E>
+    where
+        E: From<Error> + Cause,
+        F: FnMut(&mut SharedTransaction<'_>) -> Result<T, E>,
+    {
+        let (mut age, mut attempt) = (None, 1);
+        loop {
+            let mut transaction = self.begin_within(age, LONGEST_CROWD)?;
+            age = Some(transaction.age());
+            let done = tried(&mut transaction, &mut f);
+            let life = transaction.life();
+            let error = match done {
+                Ok(told) => match transaction.commit() {
+                    Ok(()) => return Ok(told),
+                    Err(error) => E::from(error),
+                },
+                Err(error) => {
+                    drop(transaction); // which aborts it
+                    error
+                }
+            };
+            match error.cause_in_store() {
+                Some(_) if attempt >= how.tries => return Err(error),
+                Some(Error::Deadlock { waited_for }) => self.wait_for_end(life, waited_for.number, LONGEST_LOOK),
+                Some(cause) if cause.is_retryable() => thread::sleep(drawn(how.backoff, attempt)),
+                _ => return Err(error),
+            }
+            attempt += 1;
+        }
+    }
+}
+
+/// One try, up to its commit.
+fn tried<T, E: From<Error>>(transaction: &mut SharedTransaction<'_>, f: &mut impl FnMut(&mut SharedTransaction<'_>) -> Result<T, E>) -> Result<T, E> {
+    let told = f(transaction)?;
+    match transaction.deadlock() {
+        // that it was aborted isn't to be lost where `f` said nothing of it
+        Some(error) => Err(error.into()),
+        None => Ok(told),
+    }
+}
+
+/// A random time up to the backoff of this try.
+fn drawn(backoff: Duration, attempt: u32) -> Duration {
+    let most = backoff.saturating_mul(1_u32.checked_shl(attempt).unwrap_or(u32::MAX)).min(LONGEST_SLEEP);
+    let nanoseconds = u64::try_from(most.as_nanos()).unwrap_or(u64::MAX);
+    // the keys of each are random
+    let random = RandomState::new().build_hasher().finish();
+    Duration::from_nanos(random % nanoseconds.saturating_add(1))
+}
+
+#[cfg(test)]
+mod tests {
+    use super::drawn;
+    use std::time::Duration;
+
+    #[test]
+    fn sleeps_are_bounded() {
+        let backoff = Duration::from_millis(1);
+        for attempt in 1..=64 {
+            let most = Duration::from_millis(1 << attempt.min(10)).min(Duration::from_secs(1));
+            assert!(drawn(backoff, attempt) <= most, "{attempt}");
+        }
+        assert_eq!(drawn(Duration::ZERO, 3), Duration::ZERO);
+        assert!(drawn(Duration::MAX, 3) <= Duration::from_secs(1));
+    }
+}

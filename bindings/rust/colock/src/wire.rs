@@ -1,0 +1,17 @@
+//! A store in a file, behind the lines of a child process.
+
+pub(crate) mod beginning;
+pub(crate) mod child;
+mod creating;
+pub(crate) mod dropped;
+pub(crate) mod ending;
+mod flight;
+mod gather;
+mod identity;
+pub(crate) mod opening;
+pub(crate) mod past;
+mod pipe;
+mod program;
+pub(crate) mod remote;
+pub(crate) mod request;
+pub(crate) mod slot;

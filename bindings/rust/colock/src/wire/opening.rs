@@ -1,0 +1,344 @@
+use crate::error::Error;
+use crate::failure::Failure;
+use crate::operation_id::OperationId;
+use crate::shared::state::{Held, State};
+use crate::shared::SharedStore;
+use crate::types::bounds::Bounds;
+use crate::types::{Kind, Type};
+use crate::wire::child::{listed, Conversation, Link};
+use crate::wire::creating;
+use crate::wire::ending::{wait_for_end, FileId};
+use crate::wire::identity::store_id;
+use crate::wire::past::{Archive, Past};
+use crate::wire::program;
+use crate::wire::remote::RemoteState;
+use crate::wire::request::Request;
+use crate::wire::slot::Slot;
+use std::fs;
+use std::io;
+use std::path::{Path, PathBuf};
+use std::process::Command;
+use std::sync::Arc;
+use std::time::Duration;
+
+/// The version of what is spoken with a child.
+const VERSION: &str = "3";
+
+/// How a store in a file is opened. A child process serves it, the program `colock serve`, in a process group of its
+/// own.
+///
+/// The program is the one that is given, else the one that `COLOCK` names in the environment, else a file `colock`
+/// in the folder of the present executable, else the `colock` on the path.
+///
+/// ```no_run
+/// use colock::{Kind, OpenOptions, Type};
+///
+/// let seats = Type::set(&["a1", "a2", "b1"], Kind::Undo)?;
+/// let path = std::env::temp_dir().join("seats.db");
+/// let store = OpenOptions::new().objects(&[&seats]).create(true).open(path)?;
+/// let mut transaction = store.begin()?;
+/// transaction.expect(0, "insert:a1", "ok")?;
+/// transaction.commit()?; // it is durable
+/// store.close()?;
+/// # Ok::<(), colock::Error>(())
+/// ```
+///
+/// With all that can be said:
+///
+/// ```no_run
+/// use colock::OpenOptions;
+/// use std::time::Duration;
+///
+/// let options = OpenOptions::new().archive("old").fast(true).drain(1).program("/usr/bin/colock").limit(Duration::from_secs(10));
+/// let store = options.open("seats.db")?;
+/// # Ok::<(), colock::Error>(())
+/// ```
+#[derive(Clone, Debug)]
+pub struct OpenOptions<'t> {
+    objects: Vec<&'t Type>,
+    creates: bool,
+    archive: Option<PathBuf>,
+    is_fast: bool,
+    drain: Option<u32>,
+    program: Option<PathBuf>,
+    limit: Duration,
+}
+
+impl Default for OpenOptions<'_> {
+    fn default() -> Self {
+        OpenOptions::new()
+    }
+}
+
+impl<'t> OpenOptions<'t> {
+    /// A file that has to be there, with any objects; a limit of 60 seconds.
+    pub fn new() -> OpenOptions<'t> {
+        OpenOptions { objects: Vec::new(), creates: false, archive: None, is_fast: false, drain: None, program: None, limit: Duration::from_secs(60) }
+    }
+
+    /// The objects, by their types: those of a new file, and those that a file has to have. Where none are given, a
+    /// file may have any.
+    pub fn objects(mut self, objects: &[&'t Type]) -> OpenOptions<'t> {
+        self.objects = objects.to_vec();
+        self
+    }
+
+    /// Whether the file is made where nothing is at its path.
+    pub fn create(mut self, creates: bool) -> OpenOptions<'t> {
+        self.creates = creates;
+        self
+    }
+
+    /// The folder that keeps the history of each epoch that ends. It has to be there. Several stores may share it.
+    pub fn archive(mut self, folder: impl Into<PathBuf>) -> OpenOptions<'t> {
+        self.archive = Some(folder.into());
+        self
+    }
+
+    /// Whether it is supposed that a write which is torn where the machine stops leaves each byte old or new: then a
+    /// commit syncs once, and else twice.
+    pub fn fast(mut self, is_fast: bool) -> OpenOptions<'t> {
+        self.is_fast = is_fast;
+        self
+    }
+
+    /// How many seconds what is open may go on in an epoch that is full; 5 where it isn't said.
+    pub fn drain(mut self, seconds: u32) -> OpenOptions<'t> {
+        self.drain = Some(seconds);
+        self
+    }
+
+    /// The program.
+    pub fn program(mut self, program: impl Into<PathBuf>) -> OpenOptions<'t> {
+        self.program = Some(program.into());
+        self
+    }
+
+    /// How long an answer may take before the child is lost. What a transaction waits for another one isn't part of
+    /// it.
+    pub fn limit(mut self, limit: Duration) -> OpenOptions<'t> {
+        self.limit = limit;
+        self
+    }
+
+    /// Opens the store at a path. What was open in it is aborted.
+    ///
+    /// ```no_run
+    /// use colock::{Error, Kind, OpenOptions, Type};
+    ///
+    /// let counter = Type::counter(5, &[1], Kind::Undo)?;
+    /// let account = Type::account(5, &[1], Kind::Undo)?;
+    /// let path = std::env::temp_dir().join("counter.db");
+    /// OpenOptions::new().objects(&[&counter]).create(true).open(&path)?.close()?;
+    /// let other = OpenOptions::new().objects(&[&account]).open(&path);
+    /// assert_eq!(other.err(), Some(Error::OtherObjects));
+    /// # Ok::<(), Error>(())
+    /// ```
+    ///
+    /// # Errors
+    ///
+    /// [`Error::CannotOpen`], as of a file that isn't there, of another process that has it, of a program that
+    /// isn't found or doesn't answer within the limit; [`Error::OtherObjects`]; [`Error::NoObjects`] where a file is
+    /// to be made of none; and what [`Type::read`] says of a type of the file.
+    pub fn open(self, path: impl AsRef<Path>) -> Result<SharedStore, Error> {
+        let path = whole(path.as_ref())?;
+        wait_for_end(&path, self.limit);
+        let archive = self.archive.as_deref().map(whole).transpose()?;
+        let program = program::find(self.program.as_deref())?;
+        let is_missing = || matches!(fs::symlink_metadata(&path), Err(error) if error.kind() == io::ErrorKind::NotFound);
+        if self.creates && is_missing() {
+            creating::create(&program, &path, &self.objects, self.limit)?;
+        }
+        let mut command = Command::new(&program);
+        command.arg("serve").args(self.is_fast.then_some("--fast"));
+        if let Some(folder) = &archive {
+            command.arg("--archive").arg(folder);
+        }
+        if let Some(seconds) = self.drain {
+            command.arg("--drain").arg(seconds.to_string());
+        }
+        command.arg(&path);
+        let (link, greeting) = Link::start(command, self.limit).map_err(Error::CannotOpen)?;
+        let opened = self.greeted(&link, &greeting, &path, archive);
+        opened.map_err(|error| {
+            link.lose("it wasn't opened");
+            as_not_opened(error)
+        })
+    }
+
+    /// The store of a child that was started, when it has greeted and listed its objects.
+    fn greeted(&self, link: &Arc<Link>, greeting: &Slot, path: &Path, folder: Option<PathBuf>) -> Result<SharedStore, Error> {
+        let life = life_of(&link.answered(greeting)?)?;
+        let archive = folder.map(|folder| store_id(path).map(|store| Archive { folder, store })).transpose()?;
+        let mut conversation = Conversation::new(Arc::clone(link));
+        let objects = objects_of(listed(link, &conversation.ask(Request::Objects)?)?, link)?;
+        let texts = texts_of(listed(link, &conversation.ask(Request::Types)?)?);
+        let made = Made::of(&objects, &texts).map_err(|wrong| wrong.unwrap_or_else(|| link.broken("objects without types")))?;
+        let types: Vec<&Type> = objects.iter().filter_map(|object| made.of_object(object)).collect();
+        if !self.objects.is_empty() && !are_same(&self.objects, &types) {
+            return Err(Error::OtherObjects);
+        }
+        let past = Past { greeted: life, found: link.found(), archive };
+        let types: Vec<Type> = types.into_iter().cloned().collect();
+        let state = State::new(Held::Remote(RemoteState::new(conversation)), &types, life);
+        Ok(SharedStore::of_remote(state, types, Arc::clone(link), past, FileId::of(path)))
+    }
+}
+
+/// A path that doesn't begin with a hyphen, and means the same whatever the working folder becomes.
+fn whole(path: &Path) -> Result<PathBuf, Error> {
+    std::path::absolute(path).map_err(|error| Error::CannotOpen(Failure::of(path.display(), error)))
+}
+
+/// A child that was lost before the store was open.
+fn as_not_opened(error: Error) -> Error {
+    match error {
+        Error::ConnectionLost(words) => Error::CannotOpen(words.into()),
+        other => other,
+    }
+}
+
+/// The life with which a child greets.
+fn life_of(greeting: &str) -> Result<u64, Error> {
+    let words: Vec<&str> = greeting.split(' ').collect();
+    let told = match words[..] {
+        ["colock", VERSION, life] => return life.parse().map_err(|_| Error::CannotOpen(format!("no greeting: {greeting}").into())),
+        ["colock", version, ..] => format!("the program speaks version {version}, and this client version {VERSION}"),
+        _ => format!("no greeting: {greeting}"),
+    };
+    Err(Error::CannotOpen(told.into()))
+}
+
+/// An object as a child lists it: its kind, and the place of its type.
+type ObjectLine = (Kind, usize);
+
+fn objects_of(lines: &str, link: &Link) -> Result<Vec<ObjectLine>, Error> {
+    lines.lines().map(|line| object_of(line).ok_or_else(|| link.broken(line))).collect()
+}
+
+fn object_of(line: &str) -> Option<ObjectLine> {
+    let (kind, place) = line.strip_prefix("object ")?.split_once(' ')?;
+    Some((Kind::of_word(kind)?, place.parse().ok()?))
+}
+
+/// The texts of types, each of which ends in an empty line.
+fn texts_of(lines: &str) -> Vec<String> {
+    let mut texts = Vec::new();
+    let mut text = String::new();
+    for line in lines.lines() {
+        if line.is_empty() {
+            texts.push(std::mem::take(&mut text));
+        } else {
+            text.push_str(line);
+            text.push('\n');
+        }
+    }
+    texts
+}
+
+/// The types of objects, one for each kind and text.
+struct Made(Vec<(ObjectLine, Type)>);
+
+impl Made {
+    /// Makes them. No error is given where a text is missing.
+    fn of(objects: &[ObjectLine], texts: &[String]) -> Result<Made, Option<Error>> {
+        let mut made = Made(Vec::new());
+        for object in objects {
+            if made.of_object(object).is_none() {
+                let text = texts.get(object.1).ok_or(None::<Error>)?;
+                made.0.push((*object, Type::read(text, object.0).map_err(Some)?));
+            }
+        }
+        Ok(made)
+    }
+
+    fn of_object(&self, object: &ObjectLine) -> Option<&Type> {
+        self.0.iter().find(|(of, _)| of == object).map(|(_, made)| made)
+    }
+}
+
+/// Whether objects have the same types.
+fn are_same(given: &[&Type], found: &[&Type]) -> bool {
+    let mut compared: Vec<(&Type, &Type)> = Vec::new();
+    for (given, found) in given.iter().copied().zip(found.iter().copied()) {
+        let is_known = compared.iter().any(|(one, other)| one.is(given) && other.is(found));
+        if !is_known && !given.is_same(found) {
+            return false;
+        }
+        compared.push((given, found));
+    }
+    given.len() == found.len()
+}
+
+impl Type {
+    /// Whether it has the kind, the name, the states, the operations, the steps and the conflicts of another one.
+    fn is_same(&self, other: &Type) -> bool {
+        let shape = |of: &Type| (of.kind(), of.name(), of.states(), of.initial(), of.operations());
+        let operations = self.operations();
+        let name = |of: &Type, k| (of.call_name(k), of.reply_name(k));
+        let mut pairs = (0..operations).flat_map(|requested| (0..operations).map(move |held| (requested, held)));
+        shape(self) == shape(other)
+            && (0..operations).all(|k| name(self, k) == name(other, k) && self.has_steps_of(other, OperationId::listed(k)))
+            && pairs.all(|(requested, held)| self.conflicts(requested, held) == other.conflicts(requested, held))
+    }
+
+    /// Whether an operation has the steps that it has in another type of as many states. Of a number its bounds say so; and
+    /// where it has an amount its names do.
+    fn has_steps_of(&self, other: &Type, operation: OperationId) -> bool {
+        match self.kind() {
+            Kind::Escrow => Bounds::of(self, operation) == Bounds::of(other, operation),
+            Kind::Undo | Kind::Intentions => (0..self.states()).all(|state| self.step(state, operation) == other.step(state, operation)),
+        }
+    }
+}
+
+#[cfg(test)]
+mod tests {
+    use super::{are_same, life_of, object_of, texts_of};
+    use crate::{Error, Kind, Type};
+
+    #[test]
+    fn greetings_are_read() {
+        assert_eq!(life_of("colock 3 12"), Ok(12));
+        for other in ["1", "2", "4", "30"] {
+            let told = format!("the program speaks version {other}, and this client version 3");
+            assert_eq!(life_of(&format!("colock {other} 12")), Err(Error::CannotOpen(told.into())));
+        }
+        for wrong in ["colock 3 x", "hello", "colock", "", "colock 3 1 1"] {
+            assert!(matches!(life_of(wrong), Err(Error::CannotOpen(_))), "{wrong}");
+        }
+    }
+
+    #[test]
+    fn objects_and_texts_are_read() {
+        assert_eq!((object_of("object undo 0"), object_of("object intentions 12")), (Some((Kind::Undo, 0)), Some((Kind::Intentions, 12))));
+        assert_eq!(object_of("object escrow 255"), Some((Kind::Escrow, 255)));
+        assert_eq!((object_of("object redo 0"), object_of("object undo"), object_of("undo 0")), (None, None, None));
+        assert_eq!(texts_of("type a\nend\n\ntype b\nend\n\n"), ["type a\nend\n", "type b\nend\n"]);
+    }
+
+    #[test]
+    fn types_are_compared() {
+        let make = |cap, kind| Type::counter(cap, &[1], kind).unwrap();
+        let (five, again, six, deferred) = (make(5, Kind::Undo), make(5, Kind::Undo), make(6, Kind::Undo), make(5, Kind::Intentions));
+        let (escrow, another) = (make(5, Kind::Escrow), make(5, Kind::Escrow));
+        assert!(are_same(&[&five, &five], &[&again, &again]));
+        assert!(!are_same(&[&five], &[&again, &again]));
+        assert!(!are_same(&[&five, &five], &[&again, &six]));
+        assert!(!are_same(&[&five], &[&deferred]) && !are_same(&[&deferred], &[&escrow]));
+        assert!(are_same(&[&escrow], &[&another]) && !are_same(&[&escrow], &[&make(6, Kind::Escrow)]));
+        let large = |take: u32| Type::read(format!("number large\nmax 4294967295\ninitial 7\ntake {take}\nend\n"), Kind::Escrow).unwrap();
+        assert!(are_same(&[&large(5)], &[&large(5)]) && !are_same(&[&large(5)], &[&large(6)]));
+        let any = |lines: &str| Type::read(format!("number purse\nmax 100\ninitial 7\n{lines}\nend\n"), Kind::Escrow).unwrap();
+        assert!(are_same(&[&any("take any\nvalue")], &[&any("take any\nvalue")]) && !are_same(&[&any("take any")], &[&any("give any")]));
+        assert!(!are_same(&[&any("take 5\ntake any")], &[&any("take 6\ntake any")]) && !are_same(&[&any("value")], &[&any("take any")]));
+        let moved = |step: &str| Type::read(format!("type c\nstates 3\ninitial 0\nop a b\nstep {step}\nend\n"), Kind::Escrow).unwrap();
+        assert!(are_same(&[&moved("0 0 1")], &[&moved("0 0 1")]) && !are_same(&[&moved("0 0 1")], &[&moved("1 0 2")]));
+        let all = "type c\nstates 2\ninitial 0\nop a b\nstep 0 0 1\nconflict undo 0 0\nend\n";
+        let none = all.replace("conflict undo 0 0\n", "");
+        let other = all.replace("step 0 0 1", "step 1 0 0");
+        let read = |text: &str| Type::read(text, Kind::Undo).unwrap();
+        assert!(are_same(&[&read(all)], &[&read(all)]));
+        assert!(!are_same(&[&read(all)], &[&read(&none)]) && !are_same(&[&read(all)], &[&read(&other)]));
+    }
+}

@@ -1,0 +1,205 @@
+//! The lines of `colock serve`: what is asked, and what is answered.
+
+use crate::error::Error;
+use crate::event::Event;
+use crate::operation_id::OperationId;
+use crate::transaction_id::{decimal, TransactionId};
+use std::fmt;
+
+/// What is asked. It is displayed as its line, without the tag.
+#[derive(Clone, Copy, Debug)]
+pub(crate) enum Request<'a> {
+    Begin,
+    Call(TransactionId, u32, &'a str),
+    Would(TransactionId, u32, &'a str),
+    Commit(TransactionId),
+    Abort(TransactionId),
+    Rollback(TransactionId, u32),
+    Kept(u32),
+    Objects,
+    Types,
+    Events(u32, u32),
+    Stats,
+    End,
+}
+
+impl Request<'_> {
+    /// Whether lines come before the last one of its answer.
+    pub(crate) fn is_list(&self) -> bool {
+        matches!(self, Request::Objects | Request::Types | Request::Events(..))
+    }
+
+    /// Whether it asks for what all transactions have done.
+    pub(crate) fn is_of_store(&self) -> bool {
+        matches!(self, Request::Events(..) | Request::Stats)
+    }
+
+    /// The transaction that it commits.
+    pub(crate) fn committed(&self) -> Option<TransactionId> {
+        match self {
+            Request::Commit(id) => Some(*id),
+            _ => None,
+        }
+    }
+}
+
+impl fmt::Display for Request<'_> {
+    fn fmt(&self, f: &mut fmt::Formatter<'_>) -> fmt::Result {
+        match self {
+            Request::Begin => f.write_str("begin"),
+            Request::Call(id, object, name) => write!(f, "call {id} {object} {name}"),
+            Request::Would(id, object, name) => write!(f, "would {id} {object} {name}"),
+            Request::Commit(id) => write!(f, "commit {id}"),
+            Request::Abort(id) => write!(f, "abort {id}"),
+            Request::Rollback(id, count) => write!(f, "rollback {id} {count}"),
+            Request::Kept(object) => write!(f, "kept {object}"),
+            Request::Objects => f.write_str("objects"),
+            Request::Types => f.write_str("types"),
+            Request::Events(from, count) => write!(f, "events {from} {count}"),
+            Request::Stats => f.write_str("stats"),
+            Request::End => f.write_str("end"),
+        }
+    }
+}
+
+/// The last line of an answer, without the tag.
+#[derive(Clone, Debug, PartialEq, Eq)]
+pub(crate) enum Answer<'a> {
+    /// It is done, with what comes after the word.
+    Ok(&'a str),
+    Reply(&'a str),
+    Busy(TransactionId),
+    /// The epoch is full.
+    Drain,
+    None,
+    Refused(Error),
+}
+
+/// The answer of a line; nothing where it is none.
+pub(crate) fn answer(line: &str) -> Option<Answer<'_>> {
+    let (word, rest) = line.split_once(' ').unwrap_or((line, ""));
+    match (word, rest) {
+        ("ok", rest) => Some(Answer::Ok(rest)),
+        ("reply", name) if !name.is_empty() => Some(Answer::Reply(name)),
+        ("busy", "drain") => Some(Answer::Drain),
+        ("busy", id) => id.parse().ok().map(Answer::Busy),
+        ("none", "") => Some(Answer::None),
+        ("refused", kind) => refusal(kind).map(Answer::Refused),
+        _ => None,
+    }
+}
+
+fn refusal(kind: &str) -> Option<Error> {
+    Some(match kind {
+        "NotOpen" => Error::NotOpen,
+        "NoObject" => Error::NoObject,
+        "NoCall" => Error::NoCall,
+        "TooManyOpen" => Error::TooManyOpen,
+        "HistoryFull" => Error::HistoryFull,
+        "NoMemory" => Error::NoMemory,
+        "BadRollback" => Error::BadRollback,
+        _ => return None,
+    })
+}
+
+/// The most numbers of a line of a history.
+const MOST_NUMBERS: usize = 5;
+
+/// The event of a line of a history; nothing where it is none.
+pub(crate) fn event(line: &str) -> Option<Event> {
+    let (kind, rest) = line.split_once(' ')?;
+    let (mut numbers, mut count) = ([0; MOST_NUMBERS], 0);
+    for word in rest.split(' ') {
+        *numbers.get_mut(count)? = decimal(word)?;
+        count += 1;
+    }
+    let (&worker, numbers) = numbers[..count].split_first()?;
+    let worker = small(worker)?;
+    Some(match (kind, numbers) {
+        ("begin", &[transaction]) => Event::Begin { worker, transaction },
+        ("op", &[transaction, object, place]) => {
+            Event::Operation { worker, transaction, object: small(object)?, operation: OperationId::listed(small(place)?) }
+        }
+        ("op", &[transaction, object, place, amount]) => {
+            Event::Operation { worker, transaction, object: small(object)?, operation: OperationId::with(small(place)?, small(amount)?) }
+        }
+        ("busy", &[transaction, object, call, blocker]) => Event::Busy { worker, transaction, object: small(object)?, call: small(call)?, blocker },
+        ("none", &[transaction, object, call]) => Event::None { worker, transaction, object: small(object)?, call: small(call)? },
+        ("commit", &[transaction]) => Event::Commit { worker, transaction },
+        ("abort", &[transaction]) => Event::Abort { worker, transaction },
+        ("rollback", &[transaction, operations]) => Event::Rollback { worker, transaction, operations },
+        _ => return None,
+    })
+}
+
+/// A number that has fewer bits.
+fn small<N: TryFrom<u64>>(number: u64) -> Option<N> {
+    number.try_into().ok()
+}
+
+#[cfg(test)]
+mod tests {
+    use super::{answer, event, Answer, Request};
+    use crate::{Error, Event, OperationId, TransactionId};
+
+    #[test]
+    fn requests_are_spelled() {
+        let id = TransactionId { life: 3, number: 14 };
+        let rows = [
+            (Request::Begin, "begin"),
+            (Request::Call(id, 2, "inc:1"), "call 3.14 2 inc:1"),
+            (Request::Would(id, 2, "inc:1"), "would 3.14 2 inc:1"),
+            (Request::Rollback(id, 4_294_967_295), "rollback 3.14 4294967295"),
+            (Request::Events(5, 65_536), "events 5 65536"),
+        ];
+        for (request, line) in rows {
+            assert_eq!(request.to_string(), line);
+        }
+    }
+
+    #[test]
+    fn answers_are_read() {
+        let rows = [
+            ("ok", Some(Answer::Ok(""))),
+            ("ok 3.14", Some(Answer::Ok("3.14"))),
+            ("reply ok", Some(Answer::Reply("ok"))),
+            ("busy 3.14", Some(Answer::Busy(TransactionId { life: 3, number: 14 }))),
+            ("busy drain", Some(Answer::Drain)),
+            ("none", Some(Answer::None)),
+            ("refused NotOpen", Some(Answer::Refused(Error::NotOpen))),
+            ("refused Else", None),
+            ("fault BadTag", None),
+            ("busy 3", None),
+            ("busy 3.+4", None),
+            ("none 4", None),
+            ("reply", None),
+            ("", None),
+        ];
+        for (line, wanted) in rows {
+            assert_eq!(answer(line), wanted, "{line}");
+        }
+    }
+
+    #[test]
+    fn events_are_read_as_they_are_displayed() {
+        let events = [
+            Event::Begin { worker: 0, transaction: 7 },
+            Event::Operation { worker: 255, transaction: 7, object: 1, operation: OperationId::listed(2) },
+            Event::Operation { worker: 0, transaction: 7, object: 1, operation: OperationId::with(2, 0) },
+            Event::Operation { worker: 0, transaction: 7, object: 255, operation: OperationId::with(63, u32::MAX) },
+            Event::Busy { worker: 0, transaction: 7, object: 1, call: 2, blocker: 3 },
+            Event::None { worker: 0, transaction: 7, object: 1, call: 2 },
+            Event::Commit { worker: 0, transaction: 7 },
+            Event::Abort { worker: 0, transaction: 7 },
+            Event::Rollback { worker: 0, transaction: 7, operations: 4 },
+        ];
+        for wanted in events {
+            assert_eq!(event(&wanted.to_string()), Some(wanted));
+        }
+        assert_eq!(event("op 0 7 1 2 17"), Some(Event::Operation { worker: 0, transaction: 7, object: 1, operation: OperationId::with(2, 17) }));
+        let wrong_amounts = ["op 0 7 1 2 17 3", "op 0 7 1 2 x", "op 0 7 1 2 4294967296", "op 0 7 1 256", "none 0 7 1 2 17", "busy 0 7 1 2 17 3", "op 0 7 1 2 "];
+        for wrong in ["", "begin", "begin 0", "begin 256 0", "begin 0 0 0", "op 0 0 0", "other 0 0", "begin 0 x"].iter().chain(&wrong_amounts) {
+            assert_eq!(event(wrong), None, "{wrong}");
+        }
+    }
+}

@@ -1,0 +1,176 @@
+//! Where the answer to one request is put, and who waits for it.
+
+use crate::error::Error;
+use crate::locks::locked;
+use crate::transaction_id::TransactionId;
+use std::mem;
+use std::sync::{Arc, Condvar, Mutex, PoisonError};
+use std::time::Instant;
+
+/// The place of an answer, which its asker waits for.
+#[derive(Debug, Default)]
+pub(crate) struct Slot {
+    told: Mutex<Told>,
+    is_there: Condvar,
+}
+
+/// The lines of an answer, each but the last with its line feed; and whether that is all, or why no more comes.
+#[derive(Debug, Default)]
+struct Told {
+    text: String,
+    outcome: Option<Result<(), Error>>,
+    is_awaited: bool,
+}
+
+impl Told {
+    /// The answer, which is taken out once.
+    fn taken(&mut self) -> Option<Result<String, Error>> {
+        let outcome = self.outcome.take()?;
+        Some(outcome.map(|()| mem::take(&mut self.text)))
+    }
+}
+
+impl Slot {
+    /// One more line, which isn't the last.
+    fn add(&self, line: &str) {
+        let mut told = locked(&self.told);
+        told.text.push_str(line);
+        told.text.push('\n');
+    }
+
+    /// The last line, or why none comes.
+    fn close(&self, line: &str, outcome: Result<(), Error>) {
+        let mut told = locked(&self.told);
+        told.text.push_str(line);
+        told.outcome = Some(outcome);
+        let is_awaited = told.is_awaited;
+        drop(told); // whom it wakes takes the lock
+        if is_awaited {
+            self.is_there.notify_one();
+        }
+    }
+
+    /// The answer, where it is there.
+    pub(crate) fn answer_now(&self) -> Option<Result<String, Error>> {
+        locked(&self.told).taken()
+    }
+
+    /// The answer, where it comes before then; with no limit it is waited for as long as that takes.
+    pub(crate) fn answer_until(&self, limit: Option<Instant>) -> Option<Result<String, Error>> {
+        let mut told = locked(&self.told);
+        loop {
+            if let Some(answer) = told.taken() {
+                return Some(answer);
+            }
+            told.is_awaited = true;
+            told = match limit {
+                None => self.is_there.wait(told).unwrap_or_else(PoisonError::into_inner),
+                Some(limit) => {
+                    let left = limit.saturating_duration_since(Instant::now());
+                    if left.is_zero() {
+                        return None;
+                    }
+                    self.is_there.wait_timeout(told, left).unwrap_or_else(PoisonError::into_inner).0
+                }
+            };
+        }
+    }
+}
+
+/// What lines an answer has.
+#[derive(Clone, Copy, Debug, PartialEq, Eq)]
+pub(crate) enum Form {
+    /// The first line of all, which has no tag.
+    Greeting,
+    One,
+    /// Some lines, and then `ok` or a refusal.
+    List,
+    /// As `One`, of the last answer of all.
+    End,
+}
+
+/// A request that was written, or is about to be, and isn't answered.
+#[derive(Debug)]
+pub(crate) struct Pending {
+    pub(crate) tag: u64,
+    pub(crate) form: Form,
+    pub(crate) commits: Option<TransactionId>,
+    /// Whether a thread waits for it that may ask again at once.
+    pub(crate) wakes: bool,
+    /// Whether what others ask may go before it.
+    pub(crate) is_last: bool,
+    pub(crate) slot: Arc<Slot>,
+}
+
+impl Pending {
+    /// What a line answers, where it is this one's.
+    pub(crate) fn own<'l>(&self, line: &'l str) -> Option<&'l str> {
+        if self.form == Form::Greeting {
+            return Some(line);
+        }
+        let (tag, answer) = line.split_once(' ')?;
+        (tag.parse::<u64>() == Ok(self.tag)).then_some(answer)
+    }
+
+    /// Whether this is the last line of its answer.
+    pub(crate) fn ends_with(&self, answer: &str) -> bool {
+        self.form != Form::List || answer == "ok" || answer.starts_with("refused ") || answer.starts_with("fault ")
+    }
+
+    pub(crate) fn add(&self, answer: &str) {
+        self.slot.add(answer);
+    }
+
+    pub(crate) fn close(&self, answer: &str) {
+        self.slot.close(answer, Ok(()));
+    }
+
+    /// No answer comes, by this error. Whether a commit is done isn't known then.
+    pub(crate) fn fail(&self, error: &Error) {
+        self.slot.close("", Err(self.commits.map_or_else(|| error.clone(), Error::OutcomeUnknown)));
+    }
+}
+
+#[cfg(test)]
+mod tests {
+    use super::{Form, Pending, Slot};
+    use crate::{Error, TransactionId};
+    use std::sync::Arc;
+    use std::time::{Duration, Instant};
+
+    fn pending(form: Form, commits: Option<TransactionId>) -> (Pending, Arc<Slot>) {
+        let slot = Arc::new(Slot::default());
+        (Pending { tag: 12, form, commits, wakes: true, is_last: false, slot: Arc::clone(&slot) }, slot)
+    }
+
+    #[test]
+    fn lines_have_owners() {
+        let (one, _) = pending(Form::One, None);
+        assert_eq!((one.own("12 ok 3"), one.own("13 ok"), one.own("12"), one.own("12 ")), (Some("ok 3"), None, None, Some("")));
+        let (greeting, _) = pending(Form::Greeting, None);
+        assert_eq!(greeting.own("colock 3 1"), Some("colock 3 1"));
+    }
+
+    #[test]
+    fn lists_end_with_ok() {
+        let (list, slot) = pending(Form::List, None);
+        assert!(!list.ends_with("op ok ok") && !list.ends_with("") && list.ends_with("ok") && list.ends_with("refused NoMemory"));
+        list.add("op ok ok");
+        list.add("");
+        list.close("ok");
+        assert_eq!(slot.answer_until(None), Some(Ok("op ok ok\n\nok".to_string())));
+    }
+
+    #[test]
+    fn what_is_lost_is_told() {
+        let (one, slot) = pending(Form::One, None);
+        let gone = Error::ConnectionLost("gone".to_string());
+        one.fail(&gone);
+        assert_eq!(slot.answer_until(None), Some(Err(gone.clone())));
+        let (commit, slot) = pending(Form::One, Some(TransactionId::new(3, 4)));
+        commit.fail(&gone);
+        assert_eq!(slot.answer_until(None), Some(Err(Error::OutcomeUnknown(TransactionId::new(3, 4)))));
+        let (_, nothing) = pending(Form::One, None);
+        assert_eq!(nothing.answer_until(Some(Instant::now() + Duration::from_millis(5))), None);
+    }
+}
