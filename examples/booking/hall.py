@@ -4,7 +4,6 @@ Each seat is an object, and one object more counts the bookings. Two bookings of
 at the counter too: two ups don't conflict. Two guests at one seat come one after the other.
 """
 import itertools
-import threading
 import time
 from typing import Callable, List, Optional, Tuple, TypeVar
 
@@ -19,13 +18,10 @@ NUMBERS = {name: number for number, name in enumerate(SEATS)}
 SOLD = len(SEATS)
 """The object after those of the seats: how many are booked."""
 
-WAIT = 1.0
-"""How many seconds a call waits for whoever is in its way. A transaction here takes milliseconds."""
+WAIT = 10.0
+"""How many seconds a call waits for all who are before it. A transaction here takes milliseconds, and hundreds may be."""
 TRIES = 5
 """How often a transaction is tried in all."""
-AT_ONCE = 64
-"""How many transactions run at once. More requests than that wait for their turn outside of the store, which may have
-1,024 open: in it they would only wait for one another."""
 
 T = TypeVar("T")
 
@@ -103,7 +99,6 @@ class Hall:
         """
         self._store = store
         self._turns = itertools.count(1)
-        self._turnstile = threading.BoundedSemaphore(AT_ONCE)
         states = store.retry(_woken, tries=TRIES)
         sold = store.kept(SOLD)
         if sold != states.count(SeatState.BOOKED):
@@ -196,8 +191,7 @@ class Hall:
 
     def _done(self, f: Callable[[colock.Transaction], T]) -> T:
         """A function as a transaction, which is durable after this."""
-        with self._turnstile:
-            return self._store.retry(f, tries=TRIES)
+        return self._store.retry(f, tries=TRIES)
 
     def _turn(self, t: colock.Transaction, seat: int, call: str) -> Tuple[str, Turn]:
         """The reply of a seat, after whoever is there; and the turn, drawn while nobody else can change the seat."""
@@ -239,7 +233,7 @@ def _opened(path: str, archive: str, patience: float) -> colock.Store:
     while True:
         try:
             return colock.Store.open(path, OBJECTS, create=True, archive=archive)
-        except colock.CannotOpen as error:
-            if "in use" not in str(error) or time.monotonic() > end:
+        except colock.InUse:
+            if time.monotonic() > end:
                 raise
         time.sleep(0.1)

@@ -38,15 +38,12 @@ KNOCKING = 2048
 FILES = 4096
 
 # The store is gone: this process can only end, and its supervisor starts it anew.
-LOST = (colock.ConnectionLost, colock.OutcomeUnknown, colock.Closed)
+LOST = (colock.ConnectionLost, colock.OutcomeUnknown, colock.ClosedError)
 # Nothing was changed, and it may be done another time.
 LATER = (
-    colock.WasBusy,
-    colock.Deadlock,
-    colock.TimedOut,
-    colock.EpochEnded,
-    colock.TooManyOpen,
-    colock.HistoryFull,
+    colock.Retryable,
+    colock.TooManyOpenError,
+    colock.HistoryFullError,
     colock.NoMemory,
 )
 
@@ -389,7 +386,7 @@ def main(words: Optional[List[str]] = None) -> int:
     stop_at_signals(server)
     try:
         server.hall = Hall.open(chosen.database, chosen.archive, chosen.hold_seconds)
-    except (colock.ColockError, Disagree) as error:
+    except (colock.Error, Disagree) as error:
         return failed(f"{chosen.database}: {error}")
     for work in server.serve_forever, server.sweep:
         threading.Thread(target=work, daemon=True).start()

@@ -424,7 +424,7 @@ class ReasonsTest(unittest.TestCase):
 
     def test_what_ends_the_service(self) -> None:
         lost = "The store is lost. Nothing was done. Try again in a moment."
-        for error in colock.ConnectionLost("gone"), colock.Closed("closed"):
+        for error in colock.ConnectionLost("gone"), colock.ClosedError("closed"):
             self.assertEqual(self.answer(error), (503, lost, True))
         unknown = "It isn't known whether this was done. Look again in a moment."
         self.assertEqual(self.answer(colock.OutcomeUnknown("1.1")), (503, unknown, True))
@@ -443,9 +443,8 @@ class LostTest(ServiceTest):
         self.assertEqual((seats["seats"]["A1"], seats["seats"]["A2"], seats["sold"]), ("booked", "free", 1))
 
     def test_a_file_that_is_served_is_not_opened(self) -> None:
-        with self.assertRaises(colock.CannotOpen) as caught:
+        with self.assertRaises(colock.InUse):
             Hall.open(self.service.path, self.service.archive, 60.0, patience=0.2)
-        self.assertIn("in use", str(caught.exception))
         self.assertEqual(Client(self.service).seats()["sold"], 0)
 
 

@@ -6,9 +6,9 @@ commute keep each other waiting: two transactions may count one counter up side 
     >>> store = colock.Store([counter], max_events=1_000_000)
     >>> first, second = store.begin(), store.begin()
     >>> first.call(0, "inc:1")
-    Operation(place=0, reply='ok')
+    Operation('inc:1', 'ok', place=0)
     >>> second.call(0, "inc:1")  # beside the first
-    Operation(place=0, reply='ok')
+    Operation('inc:1', 'ok', place=0)
     >>> second.call(0, "dec:1")
     Busy(blocker=0)
     >>> first.abort()  # takes its up out of the middle
@@ -16,15 +16,16 @@ commute keep each other waiting: two transactions may count one counter up side 
     >>> store.kept(0)
     1
 
-A transaction in a `with` commits at its end, and aborts where an exception leaves it:
+A transaction in a `with` commits at its end, and aborts where an exception leaves it. `expect` raises where a call has
+another reply than the one that is named:
 
     >>> with store.begin() as transaction:
-    ...     reply = transaction.call(0, "dec:1")
+    ...     done = transaction.expect(0, "dec:1", "ok")
     >>> store.kept(0)
     0
 
 A call may wait where another transaction is in its way. It sleeps until that one has ended or rolled back, goes
-after older ones that wait at the object, and raises where it can't be: `TimedOut` at its limit, and `Deadlock`
+after older ones that wait at the object, and raises where it can't be: `TimedOut` at its limit, and `DeadlockError`
 where transactions wait for each other, of which the youngest is aborted.
 
     >>> with store.begin() as transaction:
@@ -41,12 +42,12 @@ bounds whatever becomes of them; and what is kept is what is committed:
     ...     reply = transaction.call(0, "inc:2")
     >>> first, second, third = shelf.begin(), shelf.begin(), shelf.begin()
     >>> first.call(0, "dec:2"), second.call(0, "inc:1")
-    (Operation(place=3, reply='ok'), Operation(place=0, reply='ok'))
+    (Operation('dec:2', 'ok', place=3), Operation('inc:1', 'ok', place=0))
     >>> third.call(0, "dec:1")  # the second one's up may yet be taken back
     Busy(blocker=1)
     >>> second.commit()
     >>> third.call(0, "dec:1"), shelf.kept(0)
-    (Operation(place=1, reply='ok'), 3)
+    (Operation('dec:1', 'ok', place=1), 3)
 
 A number that has no table may take and give any amount, and answer what it is:
 
@@ -54,12 +55,12 @@ A number that has no table may take and give any amount, and answer what it is:
     >>> purses = colock.Store([colock.Type(text, colock.Kind.ESCROW)], max_events=1_000_000)
     >>> first, second = purses.begin(), purses.begin()
     >>> first.call(0, "take:17"), second.call(0, "give:3")
-    (Operation(place=0, reply='ok', amount=17), Operation(place=2, reply='ok', amount=3))
+    (Operation('take:17', 'ok', place=0, amount=17), Operation('give:3', 'ok', place=2, amount=3))
     >>> first.call(0, "value")  # the give may yet be aborted
     Busy(blocker=1)
     >>> second.commit()
     >>> first.call(0, "value")
-    Operation(place=4, reply='486', amount=486)
+    Operation('value', '486', place=4, amount=486)
 
 `Store.open` has the same store in a file, behind a child process, where each commit is durable when it returns:
 
@@ -79,21 +80,26 @@ A number that has no table may take and give any amount, and answer what it is:
 
 A store has a lock, which each call takes: threads may share it and its transactions.
 """
+from typing import TYPE_CHECKING as _TYPE_CHECKING
+
 from ._errors import (
     BadMax,
     BadParameter,
     BadRollback,
     BadText,
+    BusyError,
     CannotOpen,
-    Closed,
-    ColockError,
+    ClosedError,
     ConnectionLost,
-    Deadlock,
-    EpochEnded,
+    DeadlockError,
+    EpochEndedError,
+    Error,
     FaultKind,
     Forgotten,
-    HistoryFull,
+    HistoryFullError,
+    IllegalError,
     InMemoryOnly,
+    InUse,
     NeedsEscrow,
     NoCall,
     NoMemory,
@@ -101,22 +107,23 @@ from ._errors import (
     NoObjects,
     NoOperation,
     NoState,
-    NotFollowed,
-    NotMade,
-    NotOpen,
+    NotFollowedError,
+    NotMadeError,
+    NotOpenError,
     OtherObjects,
     OutcomeUnknown,
     Refused,
-    StillOpen,
+    Retryable,
+    StillOpenError,
     TimedOut,
     TooLarge,
     TooManyObjects,
-    TooManyOpen,
+    TooManyOpenError,
     TooManyStates,
-    WasBusy,
-    WasIllegal,
+    UnexpectedError,
 )
 from ._events import Event, EventKind
+from ._old_names import renamed as _renamed
 from ._replies import Busy, Illegal, Operation, Reply
 from ._stats import Stats
 from ._store import Store
@@ -131,19 +138,22 @@ __all__ = [
     "BadRollback",
     "BadText",
     "Busy",
+    "BusyError",
     "CannotOpen",
-    "Closed",
-    "ColockError",
+    "ClosedError",
     "ConnectionLost",
-    "Deadlock",
-    "EpochEnded",
+    "DeadlockError",
+    "EpochEndedError",
+    "Error",
     "Event",
     "EventKind",
     "FaultKind",
     "Forgotten",
-    "HistoryFull",
+    "HistoryFullError",
     "Illegal",
+    "IllegalError",
     "InMemoryOnly",
+    "InUse",
     "Kind",
     "NeedsEscrow",
     "NoCall",
@@ -152,25 +162,31 @@ __all__ = [
     "NoObjects",
     "NoOperation",
     "NoState",
-    "NotFollowed",
-    "NotMade",
-    "NotOpen",
+    "NotFollowedError",
+    "NotMadeError",
+    "NotOpenError",
     "Operation",
     "OtherObjects",
     "OutcomeUnknown",
     "Refused",
     "Reply",
+    "Retryable",
     "Stats",
-    "StillOpen",
+    "StillOpenError",
     "Store",
     "TimedOut",
     "TooLarge",
     "TooManyObjects",
-    "TooManyOpen",
+    "TooManyOpenError",
     "TooManyStates",
     "Transaction",
     "Type",
     "TypeOperation",
-    "WasBusy",
-    "WasIllegal",
+    "UnexpectedError",
 ]
+
+# type checkers are told of no old name
+if not _TYPE_CHECKING:
+
+    def __getattr__(name: str) -> object:
+        return _renamed(name)

@@ -1,63 +1,246 @@
 """What a store asks of where its transactions run."""
 import threading
 from abc import ABC, abstractmethod
-from typing import TYPE_CHECKING, Callable, Iterable, List, Optional, Sequence, Tuple
+from collections import deque
+from types import GeneratorType
+from typing import TYPE_CHECKING, Callable, Deque, Dict, Generator, Iterable, List, Optional, Sequence, TypeVar, Union, cast
+from weakref import ref
 
-from ._errors import InMemoryOnly
+from ._connection import Slot
+from ._errors import Error, InMemoryOnly
 from ._events import Event
-from ._graph import Graph
+from ._let_go import warn_of_transaction
 from ._replies import Reply
+from ._sleepers import Blocker, Sleepers
 from ._stats import Counts
 from ._types import Type
 
 if TYPE_CHECKING:
     from ._transaction import Transaction
 
+T = TypeVar("T")
+# How long a call that was interrupted waits for the lock, to put right what it left.
+SECONDS_TO_MEND = 1.0
 # What is left to do, once the lock is free, of what was begun under it.
 Finish = Optional[Callable[[], None]]
 
 
-class Backend(ABC):
-    """Where the transactions of a store run, with the lock and the graph of the store.
+# Several requests, one after another: each is put and given out, and then has its answer.
+Steps = Generator[Slot, None, T]
+# An answer, or what is to be asked for it where it isn't here.
+Asked = Union[T, Slot, Steps[T]]
 
-    Each method is called under the lock, and one that has to wait for an answer gives the lock up meanwhile.
+
+def _keeping(steps: Steps[T], told: List[T]) -> Steps[None]:
+    """The same steps, whose outcome is kept."""
+    told.append((yield from steps))
+
+
+class Backend(ABC):
+    """Where the transactions of a store run, with the lock and the sleepers of the store.
+
+    Each method is called under the lock, but for `run`, `interrupted`, and what is given back as a `Finish`.
+
+    A signal handler may raise at any place in the main thread: it ends the call, and the store is to hold. So what a call
+    has to do together is noted in `doing` first; and what the call left there is put right before the next one.
     """
 
     # how often the store began anew, or the number of its life: a transaction is of one life
     life: int
+    # puts a request, and waits for its answer, outside the lock
+    put: Callable[[Slot], None]
+    answer: Callable[[Slot], bytes]
 
-    def __init__(self, types: Sequence[Type]) -> None:
+    def __init__(self, types: Sequence[Type], blocker: Optional[Blocker] = None) -> None:
         self.lock = threading.RLock()
+        # the thread that is in a turn of `transact`, and has the lock meanwhile
+        self.turn_of = 0
+        # whether a call in it was interrupted, which may have left the lock
+        self.is_turn_cut = False
         self.types = types
-        self.graph = Graph(types)
+        self.sleepers = Sleepers(types, blocker)
         self.counts = Counts(len(types))
+        # how often a transaction has ended, or all of them; or more
+        self.ends = 0
+        # what puts right what was begun under the lock and isn't through; it may be done twice
+        self.doing: Optional[Callable[[], None]] = None
+        # who has each open transaction, by its number, and those that are gone. A deque notes that, and so no bytecode,
+        # in which a handler might raise what Python would drop.
+        self.holders: Dict[int, "ref[Transaction]"] = {}
+        self.gone: Deque["ref[Transaction]"] = deque()
+        # the number of the request that was answered last
+        self.answered = 0
+        self._goes = self.gone.append
+        # the requests of transactions that began for calls which were interrupted
+        self.left: Deque[Slot] = deque()
+
+    # ---- what an exception leaves that came at any place
+
+    def is_in_turn(self) -> bool:
+        """Whether this thread is in a turn of `transact`."""
+        return self.turn_of != 0 and self.turn_of == threading.get_ident()
+
+    def put_right(self) -> None:
+        """Puts right what an interrupted call left. It may be done twice."""
+        if self.sleepers.is_torn:
+            self.sleepers.begin_anew()
+        if self.doing is not None:
+            self.doing()
+            self.doing = None
+        while self.gone:
+            for number in [number for number, holder in self.holders.items() if holder is self.gone[0]]:
+                is_open = self.is_open(self.life, number)
+                self.abort_forsaken(number)
+                self.holders.pop(number, None)
+                if is_open:
+                    warn_of_transaction(self.life, number)
+            self.gone.popleft()
+
+    def hold(self, t: "Transaction") -> None:
+        """A transaction is aborted where it is open and nobody has it any more."""
+        self.holders[t._number] = ref(t, self._goes)
+
+    @abstractmethod
+    def abort_forsaken(self, number: int) -> None:
+        """Aborts a transaction of this life that nobody has, where it is open. It may be done twice."""
+
+    def interrupted(self, error: BaseException) -> None:
+        """A call ends with this exception, which may have come at any place: the lock may be held, or something half done."""
+        if isinstance(error, Error):
+            return
+        try:
+            self._give_back()
+            # who comes next does it where another thread keeps the lock
+            if self.is_half_done() and self.lock.acquire(timeout=SECONDS_TO_MEND):
+                self.put_right()
+        finally:
+            self._give_back()
+
+    def is_half_done(self) -> bool:
+        """Whether there is something to put right."""
+        return self.sleepers.is_torn or self.doing is not None or bool(self.gone)
+
+    def _give_back(self) -> None:
+        """This thread hasn't the lock any more, or not after its turn."""
+        if self.is_in_turn():
+            self.is_turn_cut = True  # it has more of it than its own
+        else:
+            self._release()
+
+    def end_turn(self) -> None:
+        """The turn of this thread is over, if it is in one. The lock of the turn was given back."""
+        if self.is_in_turn():
+            self.turn_of = 0
+            if self.is_turn_cut:
+                self.is_turn_cut = False
+                self._release()
+
+    def _release(self) -> None:
+        """This thread hasn't the lock any more."""
+        while self.lock._is_owned():  # type: ignore[attr-defined]
+            self.lock.release()
+
+    # ---- questions
+
+    def run(self, ask: Callable[[], Asked[T]]) -> T:
+        """What is asked under the lock, and answered perhaps after waits without it."""
+        slot: Optional[Slot] = None
+        if self.left:
+            self.end_left()
+        try:
+            with self.lock:
+                if self.doing is not None or self.gone or self.sleepers.is_torn:
+                    self.put_right()
+                asked = ask()
+                if isinstance(asked, Slot):
+                    slot = asked
+                    self.put(slot)
+            if slot is not None:
+                answer = self.answer(slot)
+                with self.lock:
+                    self.answered = slot.number
+                    told: T = slot.then(answer)
+                    slot.forget()
+                    return told
+        except BaseException:
+            if slot is not None:
+                with self.lock:
+                    if slot.cut is not None:
+                        slot.cut()
+                    slot.forget()
+            raise
+        return cast(T, self._through(asked)) if isinstance(asked, GeneratorType) else cast(T, asked)
+
+    def _through(self, steps: Steps[T]) -> T:
+        """What comes out of several requests."""
+        told: List[T] = []
+        each = _keeping(steps, told)
+        try:
+            while True:
+                with self.lock:
+                    slot = next(each, None)
+                if slot is None:
+                    return told[0]
+                self.answer(slot)
+        except BaseException:
+            with self.lock:
+                each.close()
+            raise
+
+    def steps_to(self, ask: Callable[[], Asked[T]]) -> Steps[T]:
+        """The steps to an answer, as parts of others."""
+        asked = ask()
+        if isinstance(asked, GeneratorType):
+            return cast(T, (yield from asked))
+        if not isinstance(asked, Slot):
+            return cast(T, asked)
+        try:
+            self.put(asked)
+            return cast(T, asked.then((yield from self.answer_to(asked))))
+        except BaseException:
+            if asked.cut is not None:
+                asked.cut()
+            raise
+        finally:
+            asked.forget()
+
+    def answer_to(self, slot: Slot) -> Steps[bytes]:
+        """The answer to a request that was put, as a part of others."""
+        yield slot
+        self.answered = slot.number
+        return slot.answer or b""
+
+    def end_left(self) -> None:
+        """Aborts what began for calls that were interrupted. The lock isn't held."""
+
+    # ---- transactions
 
     def call_of(self, x: int, name: str) -> Optional[int]:
         """The number of the call of this name at an object; None where it isn't there."""
         return self.types[x]._calls.number(name) if x < len(self.types) else None
 
     @abstractmethod
-    def begin(self, worker: int) -> Optional[Tuple[int, int]]:
-        """The life and the number of a new transaction; None where none begins now, but soon."""
+    def begin(self, t: "Transaction") -> Asked[bool]:
+        """Begins a transaction, which has a life and a number then. False where none begins now, but soon."""
 
     @abstractmethod
     def check(self, t: "Transaction") -> None:
         """Raises what a call of the transaction would raise where it isn't open."""
 
     @abstractmethod
-    def call(self, t: "Transaction", x: int, name: str) -> Reply:
+    def call(self, t: "Transaction", x: int, name: str) -> Asked[Reply]:
         """Calls the call of this name. Where it is executed, the transaction has touched the object."""
 
     @abstractmethod
-    def call_op(self, t: "Transaction", x: int, call: int) -> Reply:
+    def call_op(self, t: "Transaction", x: int, call: int) -> Asked[Reply]:
         """Calls the call of this number, as `call`."""
 
     @abstractmethod
-    def would(self, t: "Transaction", x: int, name: str) -> Reply:
+    def would(self, t: "Transaction", x: int, name: str) -> Asked[Reply]:
         """What `call` would be answered."""
 
     @abstractmethod
-    def would_op(self, t: "Transaction", x: int, call: int) -> Reply:
+    def would_op(self, t: "Transaction", x: int, call: int) -> Asked[Reply]:
         """What `call_op` would be answered."""
 
     @abstractmethod
@@ -67,6 +250,10 @@ class Backend(ABC):
     @abstractmethod
     def is_open(self, life: int, number: int) -> bool:
         """Whether a transaction is open."""
+
+    def is_lost(self) -> bool:
+        """Whether no end will come any more."""
+        return False
 
     @abstractmethod
     def rollback(self, t: "Transaction", operations: int) -> Finish:
@@ -85,31 +272,36 @@ class Backend(ABC):
         """The number of a call."""
 
     @abstractmethod
-    def kept(self, x: int) -> int:
+    def kept(self, x: int) -> Asked[int]:
         """The kept state of an object."""
 
     @abstractmethod
-    def open_count(self) -> int:
+    def open_count(self) -> Asked[int]:
         """How many transactions are open."""
 
     @abstractmethod
-    def events(self, start: int) -> List[Event]:
-        """The events from a place on."""
+    def events(self, start: int) -> Asked[Callable[[], List[Event]]]:
+        """What reads the events from a place on, outside the lock: here only their words are taken."""
 
     @abstractmethod
-    def event_count(self) -> int:
+    def event_count(self) -> Asked[int]:
         """How many events there are."""
 
     @abstractmethod
-    def committed(self, life: int, number: int) -> Optional[bool]:
+    def committed(self, life: int, number: int) -> Asked[Optional[bool]]:
         """What became of a transaction."""
 
     @abstractmethod
     def close(self) -> Finish:
-        """Closes it."""
+        """Closes it. Where that was interrupted it is gone on with."""
 
     def after_fork(self) -> None:
-        """The process is a fork: the threads that held the lock aren't there."""
+        """The process is a fork: the store is closed here, and the threads that held the lock or slept aren't there."""
+        self.lock = threading.RLock()
+        self.turn_of, self.doing = 0, None
+        self.holders.clear()
+        self.gone.clear()
+        self.sleepers.begin_anew()
 
     def abort_all(self) -> int:
         """Aborts each open transaction, and returns how many there were."""

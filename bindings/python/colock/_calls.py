@@ -11,6 +11,8 @@ from ._operations import PLACES, number_of, parts_of
 from ._replies import Illegal, Operation, Reply
 
 ANY = "any"
+# How many operations a type keeps, so that they needn't be made again.
+MOST_KEPT = 4096
 NUMBER = re.compile(r"0|[1-9][0-9]{0,9}")
 ILLEGAL = Illegal()
 
@@ -81,7 +83,8 @@ class Calls:
         """The operation of this number, which the type has."""
         place, amount = parts_of(number)
         row = self.rows[place]
-        return Operation(place, str(amount) if row.has_values else row.reply, amount)
+        reply = str(amount) if row.has_values else row.reply
+        return Operation(row.call if row.stem is None else f"{row.stem}{amount}", reply, place, amount)
 
     def replied(self, call: int, reply: str) -> Optional[Operation]:
         """The operation of a call that has this reply; None where there is none."""
@@ -92,9 +95,9 @@ class Calls:
             if row.has_values:
                 value = number_in(reply)
                 if value is not None and value <= self._greatest:
-                    return Operation(place, reply, value)
+                    return Operation(row.call, reply, place, value)
             elif row.reply == reply:
-                return Operation(place, reply, amount)
+                return self.operation(number_of(place, amount))
         return None
 
     def found(self, names: Tuple[str, ...]) -> Optional[Operation]:
@@ -113,19 +116,22 @@ class Calls:
 
     def _answers_of(self, call: int) -> Dict[bytes, Reply]:
         """The same for each answer to a call that is listed."""
-        replies = [Operation(place, row.reply) for place, row in enumerate(self.rows) if row.first == call]
+        replies = [Operation(row.call, row.reply, place) for place, row in enumerate(self.rows) if row.first == call]
         return {b"none": ILLEGAL, **{b"reply " + of.reply.encode("ascii"): of for of in replies}}
 
 
 class _Replies(Dict[int, Operation]):
-    """The operations by their numbers: those without an amount are made once."""
+    """The operations by their numbers: those without an amount are made once, and of the others the first that are met."""
 
     def __init__(self, calls: Calls) -> None:
-        super().__init__((place, Operation(place, row.reply)) for place, row in enumerate(calls.rows) if not row.has_amounts)
+        super().__init__((place, Operation(row.call, row.reply, place)) for place, row in enumerate(calls.rows) if not row.has_amounts)
         self._calls = calls
 
     def __missing__(self, number: int) -> Operation:
-        return self._calls.operation(number)
+        operation = self._calls.operation(number)
+        if len(self) < MOST_KEPT:
+            self[number] = operation
+        return operation
 
 
 def _row(call: str, reply: str, first: int, has_amounts: bool) -> Row:

@@ -1,25 +1,25 @@
 """A durable store, over a child process `colock serve`."""
 import re
-import threading
-from typing import TYPE_CHECKING, Dict, List, NoReturn, Optional, Sequence, Tuple
+from functools import partial
+from typing import TYPE_CHECKING, Callable, Collection, Dict, List, NoReturn, Optional, Sequence, Tuple
 from typing import Type as Class
 
-from ._backend import Backend, Finish
+from ._backend import Backend, Finish, Steps
 from ._connection import Connection, Slot
 from ._errors import (
     BadRollback,
-    Closed,
-    ColockError,
+    ClosedError,
     ConnectionLost,
-    EpochEnded,
-    HistoryFull,
+    EpochEndedError,
+    Error,
+    HistoryFullError,
     InMemoryOnly,
     NoCall,
     NoMemory,
     NoObject,
-    NotOpen,
+    NotOpenError,
     OutcomeUnknown,
-    TooManyOpen,
+    TooManyOpenError,
 )
 from ._events import Event, read_event
 from ._outcomes import Archive, outcome_in
@@ -32,12 +32,12 @@ if TYPE_CHECKING:
 # A request for events is answered with at most this many.
 MOST_TOLD = 65_536
 MOST_EVENTS = 1 << 32
-REFUSALS: Dict[str, Class[ColockError]] = {
-    "NotOpen": EpochEnded,
+REFUSALS: Dict[str, Class[Error]] = {
+    "NotOpen": EpochEndedError,
     "NoObject": NoObject,
     "NoCall": NoCall,
-    "TooManyOpen": TooManyOpen,
-    "HistoryFull": HistoryFull,
+    "TooManyOpen": TooManyOpenError,
+    "HistoryFull": HistoryFullError,
     "NoMemory": NoMemory,
     "BadRollback": BadRollback,
 }
@@ -45,48 +45,42 @@ STATS = re.compile(rb"ok events ([0-9]+) begun [0-9]+ open ([0-9]+)")
 
 
 class Child(Backend):
-    """Transactions behind a pipe. Requests are sent under the lock, so their order is that of the decisions here.
+    """Transactions behind a pipe. Requests are put under the lock, so their order is that of the decisions here.
 
-    What waits for an answer gives the lock up; the ends of transactions are awaited without the lock.
+    Answers are awaited without the lock.
     """
 
     def __init__(self, connection: Connection, life: int, types: Sequence[Type], archive: Optional[Archive]) -> None:
         """The store that was opened in this life."""
-        self._connection, self._is_closed = connection, False
+        self._connection, self._is_closed, self._has_finished = connection, False, False
         super().__init__(types)
         self.life = self._first_life = life
         self._archive = archive
         self._found = connection.found()
         # the open transactions of this life, each with the number of the request by which it last rolled back
         self._open: Dict[int, int] = {}
-        # the number of the request that was answered last
-        self._answered = 0
         # the number of the last end or rollback, and for each object of the last one that let go there
         self._last_end = 0
         self._let_go: Dict[int, int] = {}
         self._calls = [of._calls for of in types]
-        connection.on_loss = self.graph.ring_all
+        # the request for the end
+        self._last: Optional[Slot] = None
+        connection.on_loss = self.sleepers.ring_all
+        self.put, self.answer = connection.put, connection.wait
 
     # ---- requests
 
     def _check_connection(self) -> None:
         if self._is_closed:
-            raise Closed(Closed.__doc__)
+            raise ClosedError(ClosedError.__doc__)
         if self._connection.lost is not None:
             raise ConnectionLost(self._connection.lost)
 
-    def _ask(self, words: str) -> bytes:
-        """The answer to a request. The lock is given up meanwhile."""
-        return self._awaited(self._connection.send(words))
-
-    def _awaited(self, slot: Slot) -> bytes:
-        self.lock.release()
-        try:
-            answer = self._connection.wait(slot)
-        finally:
-            self.lock.acquire()
-        self._answered = slot.number
-        return answer
+    def _request(self, words: str, then: Callable[[bytes], object], cut: Optional[Callable[[], None]] = None) -> Slot:
+        """A request, with what is made of its answer."""
+        slot = self._connection.made(words)
+        slot.then, slot.cut = then, cut
+        return slot
 
     def _break(self, answer: bytes) -> NoReturn:
         """The answer is none."""
@@ -103,15 +97,31 @@ class Child(Backend):
 
     # ---- transactions
 
-    def begin(self, worker: int) -> Optional[Tuple[int, int]]:
+    def begin(self, t: "Transaction") -> Slot:
         self._check_connection()
-        if worker != 0:
+        if t._worker != 0:
             raise InMemoryOnly("a worker other than 0 begins a transaction only in memory")
-        answer = self._ask("begin")
+        slot = self._connection.made("begin")
+        slot.then, slot.cut = partial(self._begins, t), partial(self._leave, t, slot)
+        return slot
+
+    def _begins(self, t: "Transaction", answer: bytes) -> bool:
+        """Whether a transaction has begun, by the answer."""
         if answer == b"busy drain":
-            return None
+            return False
         if not answer.startswith(b"ok "):
             self._refuse(answer)
+        t._life, t._number = self._begun(answer)
+        self.hold(t)
+        return True
+
+    def _leave(self, t: "Transaction", slot: Slot) -> None:
+        """Nobody will have what begins by this request."""
+        if t._number < 0:
+            self.left.append(slot)
+
+    def _begun(self, answer: bytes) -> Tuple[int, int]:
+        """The life and the number of a transaction that has begun."""
         life, number = self._named(answer, answer[3:])
         if life > self.life:
             self._end_life()
@@ -120,6 +130,28 @@ class Child(Backend):
         if life == self.life:
             self._open[number] = 0
         return life, number
+
+    def end_left(self) -> None:
+        for slot in self.left.copy():
+            try:
+                answer = self._connection.wait(slot) if slot.written else b""
+            except ConnectionLost:
+                answer = b""
+            with self.lock:
+                if slot not in self.left:
+                    continue  # another thread was here
+                self.put_right()
+                if answer.startswith(b"ok "):
+                    life, number = self._begun(answer)
+                    if life == self.life:
+                        self.abort_forsaken(number)
+                self.left.remove(slot)
+
+    def abort_forsaken(self, number: int) -> None:
+        if self.is_open(self.life, number):
+            slot, aborts = self._connection.made(f"abort {self.life}.{number}"), self.counts.aborts + 1
+            # at which objects it let go isn't known
+            self._put_with(slot, lambda: self._has_ended(slot, number, range(len(self.types)), aborts))
 
     def _named(self, answer: bytes, name: bytes) -> Tuple[int, int]:
         """The life and the number of a transaction."""
@@ -130,41 +162,67 @@ class Child(Backend):
 
     def _end_life(self) -> None:
         """Another epoch has begun: what was open is aborted."""
-        self.counts.aborts += len(self._open)
+        aborts = self.counts.aborts + len(self._open)
+        self._together(lambda: self._forget_open(aborts))
+
+    def _forget_open(self, aborts: int) -> None:
+        """What is open is no more, and this many aborts are counted. It may be done twice."""
+        self.counts.aborts = aborts
+        self.ends += 1
+        self.sleepers.all_ended()
         self._open.clear()
-        self.graph.end_all()
+        self.holders.clear()
+
+    def _put_with(self, slot: Slot, book: Callable[[], None]) -> None:
+        """Puts a request, and books where it was written what it does. That may be done twice."""
+        self.doing = book
+        self._connection.put(slot)
+        book()
+        self.doing = None
+
+    def _together(self, act: Callable[[], None]) -> None:
+        """Does all of it, also where a signal handler raises meanwhile. It may be done twice."""
+        self.put_right()
+        self.doing = act
+        act()
+        self.doing = None
 
     def check(self, t: "Transaction") -> None:
-        self._check_connection()
+        if self._is_closed or self._connection.lost is not None:
+            self._check_connection()
         if t._ended:
-            raise NotOpen(NotOpen.__doc__)
+            raise NotOpenError(NotOpenError.__doc__)
         if t._life != self.life or t._number not in self._open:
-            raise EpochEnded(EpochEnded.__doc__)
+            raise EpochEndedError(EpochEndedError.__doc__)
 
     def is_open(self, life: int, number: int) -> bool:
-        return self._connection.lost is None and life == self.life and number in self._open
+        return not self.is_lost() and life == self.life and number in self._open
+
+    def is_lost(self) -> bool:
+        return self._is_closed or self._connection.lost is not None
 
     def is_stale(self, x: int, blocker: int) -> bool:
         # an end or a rollback that was asked after the call, while its answer was awaited
         rolled_back = self._open.get(blocker)
-        return rolled_back is None or rolled_back > self._answered or self._let_go.get(x, 0) > self._answered
+        return rolled_back is None or rolled_back > self.answered or self._let_go.get(x, 0) > self.answered
 
-    def call(self, t: "Transaction", x: int, name: str) -> Reply:
+    def call(self, t: "Transaction", x: int, name: str) -> Slot:
         return self._called(t, x, self._call_here(t, x, name), name)
 
-    def call_op(self, t: "Transaction", x: int, call: int) -> Reply:
+    def call_op(self, t: "Transaction", x: int, call: int) -> Slot:
         return self._called(t, x, call, self._name_here(t, x, call))
 
-    def would(self, t: "Transaction", x: int, name: str) -> Reply:
-        return self._call(t, "would", x, self._call_here(t, x, name), name)
+    def would(self, t: "Transaction", x: int, name: str) -> Slot:
+        return self._asked(t, x, self._call_here(t, x, name), name)
 
-    def would_op(self, t: "Transaction", x: int, call: int) -> Reply:
-        return self._call(t, "would", x, call, self._name_here(t, x, call))
+    def would_op(self, t: "Transaction", x: int, call: int) -> Slot:
+        return self._asked(t, x, call, self._name_here(t, x, call))
 
     def _call_here(self, t: "Transaction", x: int, name: str) -> int:
         """The number of a call. Only a name that is one goes over, so it can't break a line."""
         self.check(t)
-        return self.call_number(x, name)
+        call = self._calls[x].number(name) if x < len(self._calls) else None
+        return self.call_number(x, name) if call is None else call
 
     def _name_here(self, t: "Transaction", x: int, call: int) -> str:
         self.check(t)
@@ -175,29 +233,37 @@ class Child(Backend):
             raise NoCall(NoCall.__doc__)
         return name
 
-    def _called(self, t: "Transaction", x: int, call: int, name: str) -> Reply:
+    def _called(self, t: "Transaction", x: int, call: int, name: str) -> Slot:
         """A call. Where its answer isn't seen, by an interrupt, it may have been executed."""
-        try:
-            reply = self._call(t, "call", x, call, name)
-        except BaseException:
+        slot = self._connection.made(f"call {t._life}.{t._number} {x} {name}")
+        slot.then, slot.cut = partial(self._executed, t, x, call), partial(self._touches, t, x)
+        return slot
+
+    def _executed(self, t: "Transaction", x: int, call: int, answer: bytes) -> Reply:
+        done = self._calls[x].answered(call, answer)
+        if done is None:
+            return self._refused(t, answer)
+        if done.__class__ is Operation:
             self._touches(t, x)
-            raise
-        if reply.__class__ is Operation:
-            self._touches(t, x)
-        return reply
+        return done
 
     def _touches(self, t: "Transaction", x: int) -> None:
         """The transaction has touched an object. Another thread may have asked it to let go, while the answer was awaited."""
         t._touched.add(x)
-        if self._open.get(t._number, self._last_end) > self._answered:
+        if self._open.get(t._number, self._last_end) > self.answered:
             self._let_go[x] = self._last_end
-            self.graph.let_go_at(x)
+            self.sleepers.took_back(t._number, (x,))
 
-    def _call(self, t: "Transaction", verb: str, x: int, call: int, name: str) -> Reply:
-        answer = self._ask(f"{verb} {t._life}.{t._number} {x} {name}")
-        reply = self._calls[x].answered(call, answer)
-        if reply is not None:
-            return reply
+    def _asked(self, t: "Transaction", x: int, call: int, name: str) -> Slot:
+        """What a call would be answered."""
+        return self._request(f"would {t._life}.{t._number} {x} {name}", lambda answer: self._reply(t, x, call, answer))
+
+    def _reply(self, t: "Transaction", x: int, call: int, answer: bytes) -> Reply:
+        """The reply that answers a call."""
+        return self._calls[x].answered(call, answer) or self._refused(t, answer)
+
+    def _refused(self, t: "Transaction", answer: bytes) -> Reply:
+        """The reply that is no operation."""
         if answer.startswith(b"busy "):
             return Busy(self._named(answer, answer[5:])[1])
         return self._refuse_transaction(t, answer)
@@ -208,43 +274,62 @@ class Child(Backend):
             if t._life == self.life:
                 self._end_life()
             # it may have been ended by another thread, while this one waited for the answer
-            raise NotOpen(NotOpen.__doc__) if t._ended else EpochEnded(EpochEnded.__doc__)
+            raise NotOpenError(NotOpenError.__doc__) if t._ended else EpochEndedError(EpochEndedError.__doc__)
         self._refuse(answer)
 
     def rollback(self, t: "Transaction", operations: int) -> Finish:
+        self.put_right()
         self.check(t)
         if operations >= MOST_EVENTS:
             raise BadRollback(BadRollback.__doc__)
-        slot = self._connection.send(f"rollback {t._life}.{t._number} {operations}")
-        self._open[t._number] = slot.number
-        self._lets_go(t, slot)
-        self.graph.let_go(t._number, t._touched)
+        slot = self._connection.made(f"rollback {t._life}.{t._number} {operations}")
+        self._put_with(slot, lambda: self._has_rolled_back(slot, t._number, t._touched))
         return lambda: self._finish(t, slot)
 
+    def _has_rolled_back(self, slot: Slot, number: int, touched: Collection[int]) -> None:
+        """A rollback was asked for, where it was written."""
+        if not slot.written:
+            return
+        self._open[number] = self._last_end = slot.number
+        for x in touched:
+            self._let_go[x] = slot.number
+        self.sleepers.took_back(number, touched)
+
     def commit(self, t: "Transaction") -> Finish:
-        slot = self._send_end(t, "commit")
+        slot = self._put_end(t, "commit", self.counts.aborts)
         return lambda: self._finish_commit(t, slot)
 
     def abort(self, t: "Transaction") -> Finish:
-        slot = self._send_end(t, "abort")
-        self.counts.aborts += 1
+        slot = self._put_end(t, "abort", self.counts.aborts + 1)
         return lambda: self._finish(t, slot)
 
-    def _send_end(self, t: "Transaction", verb: str) -> Slot:
+    def _put_end(self, t: "Transaction", verb: str, aborts: int) -> Slot:
         """Asks for the end of a transaction. What is asked from now on is done after it, so it counts as ended."""
+        if self.is_half_done():
+            self.put_right()
         self.check(t)
-        slot = self._connection.send(f"{verb} {t._life}.{t._number}")
-        t._ended = True
-        del self._open[t._number]
-        self._lets_go(t, slot)
-        self.graph.ended(t._number, t._touched)
+        slot = self._connection.made(f"{verb} {t._life}.{t._number}")
+        self._put_with(slot, partial(self._ends, t, slot, aborts))
         return slot
 
-    def _lets_go(self, t: "Transaction", slot: Slot) -> None:
-        """An end or a rollback was asked for."""
+    def _ends(self, t: "Transaction", slot: Slot, aborts: int) -> None:
+        if slot.written:
+            t._ended = True
+            self._has_ended(slot, t._number, t._touched, aborts)
+
+    def _has_ended(self, slot: Slot, number: int, touched: Collection[int], aborts: int) -> None:
+        """An end was asked for, where it was written."""
+        if not slot.written:
+            return
+        self._open.pop(number, None)
+        self.holders.pop(number, None)
         self._last_end = slot.number
-        for x in t._touched:
+        for x in touched:
             self._let_go[x] = slot.number
+        self.ends += 1
+        if self.sleepers.calls or self.sleepers.bells:
+            self.sleepers.ended(number, touched)
+        self.counts.aborts = aborts
 
     def _finish(self, t: "Transaction", slot: Slot) -> None:
         """The end of an abort or a rollback, outside the lock."""
@@ -253,14 +338,16 @@ class Child(Backend):
             self._refuse_end(t, answer)
 
     def _finish_commit(self, t: "Transaction", slot: Slot) -> None:
-        """The end of a commit, outside the lock. From when it was sent it isn't known what becomes of it."""
+        """The end of a commit, outside the lock. From when it was written it isn't known what becomes of it."""
         try:
             answer = self._connection.wait(slot)
             if answer != b"ok":
                 self._refuse_end(t, answer)
         except ConnectionLost as lost:
+            if not slot.written:
+                raise
             raise OutcomeUnknown(f"{t._life}.{t._number}") from lost
-        except EpochEnded:
+        except EpochEndedError:
             with self.lock:
                 self.counts.aborts += 1
             raise
@@ -269,10 +356,11 @@ class Child(Backend):
 
     def _refuse_end(self, t: "Transaction", answer: bytes) -> NoReturn:
         with self.lock:
+            self.put_right()
             if answer == b"refused NotOpen":
                 if t._life == self.life:
                     self._end_life()
-                raise EpochEnded(EpochEnded.__doc__)
+                raise EpochEndedError(EpochEndedError.__doc__)
             self._refuse(answer)
 
     # ---- the store
@@ -286,48 +374,56 @@ class Child(Backend):
             raise NoCall(NoCall.__doc__)
         return call
 
-    def kept(self, x: int) -> int:
+    def kept(self, x: int) -> Slot:
         self._check_connection()
         if x >= len(self.types):
             raise NoObject(NoObject.__doc__)
-        answer = self._ask(f"kept {x}")
+        return self._request(f"kept {x}", self._state_in)
+
+    def _state_in(self, answer: bytes) -> int:
         if not (answer.startswith(b"ok ") and answer[3:].isdigit()):
             self._refuse(answer)
         return int(answer[3:])
 
-    def _stats(self) -> Tuple[int, int]:
+    def _counts_in(self, answer: bytes) -> Tuple[int, int]:
         """How many events there are, and how many transactions are open."""
-        self._check_connection()
-        answer = self._ask("stats")
         told = STATS.fullmatch(answer)
         if told is None:
             self._refuse(answer)
         return int(told[1]), int(told[2])
 
-    def open_count(self) -> int:
-        return self._stats()[1]
-
-    def event_count(self) -> int:
-        return self._stats()[0]
-
-    def events(self, start: int) -> List[Event]:
+    def open_count(self) -> Slot:
         self._check_connection()
+        return self._request("stats", lambda answer: self._counts_in(answer)[1])
+
+    def event_count(self) -> Slot:
+        self._check_connection()
+        return self._request("stats", lambda answer: self._counts_in(answer)[0])
+
+    def events(self, start: int) -> Steps[Callable[[], List[Event]]]:
         lines: Optional[List[bytes]] = None
         while lines is None:
-            lines = self._event_lines(start)
+            lines = yield from self._event_lines(start)
+        told = lines
+        return lambda: self._read_events(told)
+
+    def _read_events(self, lines: List[bytes]) -> List[Event]:
+        """The events of these lines."""
         try:
             return [read_event(line.decode("ascii").split(" ")) for line in lines]
         except ValueError as error:
             self._connection.lose(f"the program told what is no event: {error}")
             raise ConnectionLost(self._connection.lost or "") from error
 
-    def _event_lines(self, start: int) -> Optional[List[bytes]]:
+    def _event_lines(self, start: int) -> Steps[Optional[List[bytes]]]:
         """The lines of the events from a place on; None where another epoch has begun meanwhile."""
         lines: List[bytes] = []
         life = self.life
         while start + len(lines) < MOST_EVENTS:
+            # it may have been closed while an answer was awaited, and then the pipe's number may be a stranger's
+            self._check_connection()
             slot = self._connection.send(f"events {start + len(lines)} {MOST_TOLD}", True)
-            answer = self._awaited(slot)
+            answer = yield from self.answer_to(slot)
             if answer != b"ok":
                 self._refuse(answer)
             lines += slot.lines
@@ -335,24 +431,24 @@ class Child(Backend):
                 break
         return lines if self.life == life else None
 
-    def committed(self, life: int, number: int) -> Optional[bool]:
+    def committed(self, life: int, number: int) -> Steps[Optional[bool]]:
         self._check_connection()
         if life == self.life:
-            return self._of_this_life(number)
+            return (yield from self._of_this_life(number))
         if life + 1 == self._first_life:
-            return self._of_the_life_before(number)
+            return (yield from self._of_the_life_before(number))
         # An archived history is named by the store and the last life of its epoch. Of an earlier life of the epoch it
         # isn't certain: what was lost by a crash left its number to a later transaction. So only the file of this very
         # life says it.
         return outcome_in(self._archived(life), number)
 
-    def _of_this_life(self, number: int) -> Optional[bool]:
+    def _of_this_life(self, number: int) -> Steps[Optional[bool]]:
         """By the events of this life: those after what was found and aborted as the store was opened."""
         if self.life != self._first_life:
-            return outcome_in(self._event_lines(0), number)
-        return None if self._found is None else outcome_in(self._event_lines(sum(self._found)), number)
+            return outcome_in((yield from self._event_lines(0)), number)
+        return None if self._found is None else outcome_in((yield from self._event_lines(sum(self._found))), number)
 
-    def _of_the_life_before(self, number: int) -> Optional[bool]:
+    def _of_the_life_before(self, number: int) -> Steps[Optional[bool]]:
         """By the events that were found when this opening began, in the life that followed.
 
         Each opening and each new epoch is a life of its own, so the file was last in that life, and all that was
@@ -360,16 +456,16 @@ class Child(Backend):
         """
         if self._found is None:
             return None
-        lines, count = self._first_lines(), self._found[0]
+        lines, count = (yield from self._first_lines()), self._found[0]
         if lines is None or len(lines) < count:
             return None
         return outcome_in(lines[:count], number) or False
 
-    def _first_lines(self) -> Optional[List[bytes]]:
+    def _first_lines(self) -> Steps[Optional[List[bytes]]]:
         """The lines of the events of the epoch in which the store was opened, where they are still to be had."""
         if self._found == (0, 0):
             return []
-        return self._event_lines(0) if self.life == self._first_life else self._archived(self._first_life)
+        return (yield from self._event_lines(0)) if self.life == self._first_life else self._archived(self._first_life)
 
     def _archived(self, life: int) -> Optional[List[bytes]]:
         """The lines of the events of the epoch whose last life this was, by the archive, if there is one."""
@@ -378,33 +474,42 @@ class Child(Backend):
     # ---- the end
 
     def close(self) -> Finish:
-        if self._is_closed:
+        if self._has_finished:
             return None
         self._is_closed = True
-        slot: Optional[Slot] = None
-        if self._connection.lost is None:
-            try:
-                slot = self._connection.end()
-            except ConnectionLost:
-                pass  # it was lost at this moment, and nothing is left to ask
-        self._open.clear()
-        self.graph.end_all()
-        return lambda: self._finish_close(slot)
+        self._together(self._put_close)
+        return self._finish_close
 
-    def _finish_close(self, slot: Optional[Slot]) -> None:
-        """Waits for the end, outside the lock, and for the process. Raises `ConnectionLost`."""
+    def _put_close(self) -> None:
+        """Asks for the end. It may be done twice."""
+        if self._last is None and self._connection.lost is None:
+            self._last = self._connection.end()
+        if self._last is not None:
+            self._connection.put(self._last)
+        self.ends += 1
+        self.sleepers.all_ended()
+        self._open.clear()
+        self.holders.clear()
+
+    def _finish_close(self) -> None:
+        """Waits for the end, outside the lock, and for the process. Raises `ConnectionLost`, also where it was lost before."""
         try:
-            if slot is not None and self._connection.wait(slot) != b"ok":
-                self._connection.lose("the program didn't answer the end")
-                raise ConnectionLost(self._connection.lost or "")
-        finally:
-            self._connection.finish()
+            is_told = self._last is not None and self._connection.wait(self._last) == b"ok"
+        except ConnectionLost:
+            is_told = False
+        if not is_told:
+            self._connection.lose("the program didn't answer the end")
+        self._connection.finish()
+        self._has_finished = True
+        if not is_told:
+            raise ConnectionLost(self._connection.lost or "")
 
     def after_fork(self) -> None:
-        self.lock = threading.RLock()
-        self._is_closed = True
+        super().after_fork()
+        self._is_closed = self._has_finished = True
+        self.left.clear()
         self._connection.after_fork()
 
     def __del__(self) -> None:
-        if not self._is_closed:
+        if not self._has_finished:
             self._connection.let_go()

@@ -6,7 +6,7 @@ import subprocess
 import tempfile
 import threading
 from collections import deque
-from typing import Callable, Deque, Iterator, List, Optional, Tuple
+from typing import Any, Callable, Deque, Iterator, List, Optional, Tuple
 
 from ._errors import CannotOpen, ConnectionLost
 
@@ -19,22 +19,38 @@ MOST_SAID = 65_536
 FOUND = re.compile(rb": ([0-9]+) events, ([0-9]+) aborted, [0-9]+ ms$", re.MULTILINE)
 
 
+def _itself(answer: bytes) -> bytes:
+    """The answer, of which nothing is made."""
+    return answer
+
+
 class NoAnswer(Exception):
     """A line that isn't the answer which has to come next."""
 
 
 class Slot:
-    """A request in flight, on which its asker waits."""
+    """A request, and its answer, for which any thread may wait, also again.
 
-    __slots__ = ("number", "_start", "is_list", "lines", "answer", "_bell")
+    Of a question `then` makes of the answer what it says. Where an exception comes before that is through, `cut` is called.
+    Both are under the lock of the caller.
+    """
 
-    def __init__(self, number: int, start: bytes, is_list: bool) -> None:
-        self.number, self._start, self.is_list = number, start, is_list
+    __slots__ = ("number", "line", "is_list", "lines", "answer", "written", "then", "cut", "_start", "_is_over", "_bells")
+
+    def __init__(self, number: int, words: str, is_list: bool) -> None:
+        tag = f"{number} "
+        self.number, self.line, self.is_list = number, f"{tag}{words}\n".encode("ascii"), is_list
+        # what its answers begin with; the greeting, which is number 0, has no tag
+        self._start = tag.encode("ascii") if number else b""
         self.lines: List[bytes] = []
         # what comes after the tag of its last line; none where the connection was lost
         self.answer: Optional[bytes] = None
-        self._bell = threading.Lock()
-        self._bell.acquire()
+        # how many bytes were written, once they are
+        self.written: List[int] = []
+        self.then: Callable[[bytes], Any] = _itself
+        self.cut: Optional[Callable[[], None]] = None
+        self._is_over = False
+        self._bells: List[threading.Lock] = []
 
     def take(self, line: bytes) -> bool:
         """Takes a line, and returns whether the answer is whole. Raises `NoAnswer`."""
@@ -45,20 +61,36 @@ class Slot:
             self.lines.append(rest)
             return False
         self.answer = rest
-        self._bell.release()
+        self.end()
         return True
 
-    def fail(self) -> None:
-        """There will be no answer."""
-        self._bell.release()
+    def forget(self) -> None:
+        """It isn't a question any more, so that it keeps nothing alive."""
+        self.then, self.cut = _itself, None
+
+    def end(self) -> None:
+        """The answer is there, or there will be none. A second time does nothing."""
+        self._is_over = True
+        for bell in self._bells:
+            try:
+                bell.release()
+            except RuntimeError:
+                pass  # it was rung before
 
     def wait(self, seconds: float) -> bool:
         """Waits for the answer, and returns whether it is there, or known not to come."""
-        return self._bell.acquire(timeout=min(max(seconds, 0.0), threading.TIMEOUT_MAX))
+        if self._is_over:
+            return True
+        # each wait has a bell of its own, so that one which is interrupted takes nothing from another
+        bell = threading.Lock()
+        bell.acquire()
+        self._bells.append(bell)
+        # who ends it marks that first and rings then
+        return self._is_over or bell.acquire(timeout=seconds) or self._is_over
 
 
 class Connection:
-    """A process that answers lines, in their order. Requests are sent under a lock of the caller.
+    """A process that answers lines, in their order. Requests are put under a lock of the caller.
 
     A thread reads the answers. It takes no lock of the store, and knows nothing of it: where nobody has the store
     any more, the pipe is closed, and the process ends by itself.
@@ -66,20 +98,23 @@ class Connection:
 
     def __init__(self, words: List[str], limit: float) -> None:
         """Starts the program. Raises `CannotOpen`."""
-        self.limit = limit
-        # why it isn't to be used any more
-        self.lost: Optional[str] = None
+        self.limit, self._patience = limit, min(max(limit, 0.0), threading.TIMEOUT_MAX)
         self.on_loss: Callable[[], None] = _nothing
-        self._losing = threading.Lock()
-        self._is_ending = False
+        # the reasons for which it isn't to be used any more, and the first of them
+        self._reasons: Deque[str] = deque()
+        self.lost: Optional[str] = None
+        # whether its end was asked for, nothing is written any more, and nothing is answered any more
+        self._is_ending = self._is_cut = self._is_over = False
         self._count = 0
+        # what is in flight, and what was put last, which may not be written
         self._requests: Deque[Slot] = deque()
+        self._last: Optional[Slot] = None
         # the request whose answer is being read
         self._head: Optional[Slot] = None
         self._said = tempfile.TemporaryFile()
         self._process = self._started(words)
         self._to, self._from = _ends(self._process)
-        self.greeting = Slot(0, b"", False)
+        self.greeting = Slot(0, "", False)
         self._requests.append(self.greeting)
         self._reader = threading.Thread(target=self._read, name="colock reader", daemon=True)
         self._reader.start()
@@ -96,50 +131,75 @@ class Connection:
 
     # ---- requests
 
-    def send(self, words: str, is_list: bool = False) -> Slot:
-        """Sends a request: those that are sent before it are done before it. Raises `ConnectionLost`."""
+    def made(self, words: str, is_list: bool = False) -> Slot:
+        """A request that isn't put yet."""
         self._count += 1
-        tag = str(self._count)
-        slot = Slot(self._count, (tag + " ").encode("ascii"), is_list)
-        # it is in the queue before it is looked whether all is lost: who loses it marks that first, and then fails all
+        return Slot(self._count, words, is_list)
+
+    def put(self, slot: Slot) -> None:
+        """Puts a request: those that were put before it are done before it. A second time does nothing.
+
+        A signal handler may raise here at any place. `Slot.written` says then whether the program gets it.
+        """
+        if slot.written:
+            return
+        last = self._last
+        if last is not None and not last.written:
+            self._take_back(last)
+        self._last = slot
+        # it is in flight before it is looked whether all is over: who sees the end marks that first, and then ends all
         self._requests.append(slot)
-        if self.lost is not None:
-            raise ConnectionLost(self.lost)
+        if self.lost is not None or self._is_over or self._is_cut:
+            self._end_all()
+            return
         try:
-            # a pipe takes a line of this length whole or not at all
-            os.write(self._to, f"{tag} {words}\n".encode("ascii"))
+            # in one step of C, so no handler comes between; and a pipe takes a line of this length whole or not at all
+            slot.written.extend(map(os.write, (self._to,), (slot.line,)))
         except OSError as error:
-            # where it has ended the reader says why, with what it said
+            if error.errno is None:
+                raise  # a handler's, of a time that is over
+            # where the program has ended the reader says why, with what it said
             self._reader.join(2 * SECONDS_TO_END)
             self.lose(f"the program takes no requests: {error}")
-            raise ConnectionLost(self.lost or "") from error
+
+    def _take_back(self, last: Slot) -> None:
+        """What was put last isn't in flight where it wasn't written, since a signal handler came before."""
+        try:
+            self._requests.remove(last)
+        except ValueError:
+            pass
+
+    def send(self, words: str, is_list: bool = False) -> Slot:
+        """A request that is put."""
+        slot = self.made(words, is_list)
+        self.put(slot)
         return slot
 
     def wait(self, slot: Slot) -> bytes:
         """The answer to a request. Raises `ConnectionLost`."""
-        if not slot.wait(self.limit):
+        if not slot.wait(self._patience):
             self.lose(f"no answer within {self.limit:g} seconds")
         if slot.answer is None:
-            raise ConnectionLost(self.lost or "")
+            raise ConnectionLost(self.lost or "the end was asked for before")
         return slot.answer
 
     def lose(self, words: str) -> None:
-        """The connection is lost: the process is killed, and whoever waits is woken. A second time does nothing."""
-        with self._losing:
-            if self.lost is not None:
-                return
-            self.lost = words
+        """The connection is lost: the process is killed, and whoever waits is woken. The first reason stays."""
+        self._reasons.append(words)
+        self.lost = self._reasons[0]
         self._process.kill()
-        self._fail_all()
-        self.on_loss()
+        self._end_all()
 
-    def _fail_all(self) -> None:
+    def _end_all(self) -> None:
+        """What is in flight gets no answer. Where it is lost, whoever sleeps is woken."""
         while True:
             try:
                 slot = self._requests.popleft()
             except IndexError:
-                return
-            slot.fail()
+                break
+            slot.end()
+        if self.lost is not None:
+            self.on_loss()
 
     # ---- the thread that reads
 
@@ -153,7 +213,7 @@ class Connection:
             why = str(error)
         except OSError as error:
             why = f"the answers can't be read: {error}"
-        self._is_over(why)
+        self._end_reading(why)
 
     def _lines(self) -> Iterator[bytes]:
         rest = b""
@@ -178,16 +238,18 @@ class Connection:
         if slot.take(line):
             self._head = None
 
-    def _is_over(self, why: Optional[str]) -> None:
+    def _end_reading(self, why: Optional[str]) -> None:
         """No answer comes any more: the process is reaped, and what is in flight is failed."""
         if why is not None:
             self._process.kill()
         status = self._reaped()
         if not self._is_ending or self._head or self._requests or status or why:
-            self.lose(why or self._told_end(status))
+            self._reasons.append(why or self._told_end(status))
+            self.lost = self._reasons[0]
+        self._is_over = True
         if self._head is not None:
-            self._head.fail()
-        self._fail_all()
+            self._head.end()
+        self._end_all()
         if self._process.stdout is not None:
             self._process.stdout.close()
         self._said.close()
@@ -230,22 +292,23 @@ class Connection:
     # ---- the end
 
     def end(self) -> Slot:
-        """Asks for the end. Raises `ConnectionLost`."""
+        """The request for the end, which isn't put yet."""
         self._is_ending = True
-        return self.send("end")
+        return self.made("end")
 
     def finish(self) -> None:
         """Waits until the process has ended, which is killed where it takes longer than the limit.
 
-        Nothing may be sent any more.
+        What is put after this gets no answer. A second time only waits.
         """
         self._close_input()
-        self._reader.join(min(self.limit, threading.TIMEOUT_MAX))
+        self._reader.join(self._patience)
         if self._reader.is_alive():
             self.lose(f"the program didn't end within {self.limit:g} seconds")
             self._reader.join()
 
     def _close_input(self) -> None:
+        self._is_cut = True
         if self._process.stdin is not None:
             self._process.stdin.close()
 

@@ -1,51 +1,58 @@
-"""What is raised. Nothing has changed then, but for what `NotFollowed` says."""
+"""What is raised. Nothing has changed then, but for what `NotFollowedError` and `UnexpectedError` say.
+
+Each is an `Error`. Those whose names don't end in `Error` are also of the kind of Python's own by which they are caught.
+"""
 import enum
 from typing import Dict, Tuple, Type
 
 from . import _library
 
 
-class ColockError(Exception):
+class Error(Exception):
     """What the others are."""
 
 
-class NotOpen(ColockError):
+class Retryable(Error):
+    """What `Store.retry` tries again: another transaction was in the way, or an epoch ended."""
+
+
+class NotOpenError(Error):
     """The transaction isn't open."""
 
 
-class NoObject(ColockError):
+class NoObject(Error, LookupError):
     """The store has no object of this number."""
 
 
-class NoCall(ColockError):
+class NoCall(Error, LookupError):
     """No operation of the object's type has this call."""
 
 
-class TooManyOpen(ColockError):
+class TooManyOpenError(Error):
     """1,024 transactions are open."""
 
 
-class HistoryFull(ColockError):
+class HistoryFullError(Error):
     """The history has no room for the event, and for the end of each open transaction."""
 
 
-class NoMemory(ColockError, MemoryError):
+class NoMemory(Error, MemoryError):
     """Memory was refused."""
 
 
-class BadRollback(ColockError):
+class BadRollback(Error, ValueError):
     """A rollback of no operation, or of more than the transaction has."""
 
 
-class Closed(ColockError):
+class ClosedError(Error):
     """The store or the type is closed."""
 
 
-class EpochEnded(NotOpen):
+class EpochEndedError(NotOpenError, Retryable):
     """The store behind a child began a new epoch, and aborted the transaction."""
 
 
-class Deadlock(ColockError):
+class DeadlockError(Retryable):
     """Transactions waited for each other in a circle, and this one, the youngest, was aborted.
 
     `blocker` is the number of the transaction for which it waited.
@@ -59,11 +66,11 @@ class Deadlock(ColockError):
         return f"it waited for transaction {self.blocker} in a circle, and was aborted as the youngest"
 
 
-class TimedOut(ColockError):
+class TimedOut(Retryable, TimeoutError):
     """The limit of a wait is over. Nothing was executed, and the transaction is open."""
 
 
-class WasBusy(ColockError):
+class BusyError(Retryable):
     """What `executed` says of a `Busy`: `blocker` is the number of the transaction that is in the way."""
 
     def __init__(self, blocker: int) -> None:
@@ -74,11 +81,27 @@ class WasBusy(ColockError):
         return f"transaction {self.blocker} is in the way"
 
 
-class WasIllegal(ColockError):
+class IllegalError(Error):
     """What `executed` says of an `Illegal`: no operation of the call was legal."""
 
 
-class ConnectionLost(ColockError):
+class UnexpectedError(Error):
+    """What `expect` says of an operation with another reply than the one that was expected.
+
+    It was executed, and is in its transaction as long as that isn't rolled back or aborted: `call` and `reply` are its
+    words.
+    """
+
+    def __init__(self, call: str, reply: str) -> None:
+        super().__init__(call, reply)
+        self.call = call
+        self.reply = reply
+
+    def __str__(self) -> str:
+        return f"{self.call} was answered {self.reply}"
+
+
+class ConnectionLost(Error, ConnectionError):
     """The program that serves the store is gone, or didn't answer as it has to: `words` say what was seen.
 
     The store isn't to be used any more, but for `close`. What was committed is in its file.
@@ -89,7 +112,7 @@ class ConnectionLost(ColockError):
         self.words = words
 
 
-class OutcomeUnknown(ColockError):
+class OutcomeUnknown(Error, ConnectionError):
     """A commit was in flight when the program was lost: it may be durable or not.
 
     `id` names the transaction: `Store.committed` of a later opening says what became of it.
@@ -103,7 +126,7 @@ class OutcomeUnknown(ColockError):
         return f"whether transaction {self.id} is committed isn't known"
 
 
-class CannotOpen(ColockError):
+class CannotOpen(Error, OSError):
     """A store in a file wasn't opened: `words` say what the program said, or why it wasn't started."""
 
     def __init__(self, words: str) -> None:
@@ -111,15 +134,19 @@ class CannotOpen(ColockError):
         self.words = words
 
 
-class OtherObjects(ColockError, ValueError):
+class InUse(CannotOpen):
+    """Another process has the file open, or makes it."""
+
+
+class OtherObjects(Error, ValueError):
     """The objects of the file aren't those that were given: the words name the first that differs."""
 
 
-class InMemoryOnly(ColockError):
+class InMemoryOnly(Error, NotImplementedError):
     """Only a store in memory does this."""
 
 
-class TooManyStates(ColockError, ValueError):
+class TooManyStates(Error, ValueError):
     """The steps lead to more than 1,024 states. `call` and `reply` are the operation that led to most new ones."""
 
     def __init__(self, call: str, reply: str) -> None:
@@ -131,47 +158,47 @@ class TooManyStates(ColockError, ValueError):
         return f"there are more than 1,024 states, and `{self.call} {self.reply}` leads to most of them"
 
 
-class NoObjects(ColockError, ValueError):
+class NoObjects(Error, ValueError):
     """A store of no object."""
 
 
-class TooManyObjects(ColockError, ValueError):
+class TooManyObjects(Error, ValueError):
     """A store of more than 256 objects."""
 
 
-class BadMax(ColockError, ValueError):
+class BadMax(Error, ValueError):
     """A limit below 2, or above 4,294,967,295."""
 
 
-class StillOpen(ColockError):
+class StillOpenError(Error):
     """A transaction is open."""
 
 
-class NotMade(ColockError):
+class NotMadeError(Error):
     """No command makes this event now."""
 
 
-class Forgotten(ColockError):
+class Forgotten(Error, LookupError):
     """These events were forgotten, or some of them."""
 
 
-class BadParameter(ColockError, ValueError):
+class BadParameter(Error, ValueError):
     """A parameter of a family is out of its range, or in a wrong order."""
 
 
-class TooLarge(ColockError, ValueError):
+class TooLarge(Error, ValueError):
     """The family would have more than 64 operations or 1,024 states."""
 
 
-class NoState(ColockError):
+class NoState(Error, LookupError):
     """The type has no state of this number."""
 
 
-class NoOperation(ColockError):
+class NoOperation(Error, LookupError):
     """The type has no operation of this number."""
 
 
-class NeedsEscrow(ColockError, ValueError):
+class NeedsEscrow(Error, ValueError):
     """The text declares a number, which is for `Kind.ESCROW` alone."""
 
 
@@ -190,7 +217,7 @@ class FaultKind(enum.IntEnum):
     TwiceOp = 10
 
 
-class BadText(ColockError, ValueError):
+class BadText(Error, ValueError):
     """The text of a type has a fault: `line` is its first refused line, from 1, and `kind` what is wrong."""
 
     def __init__(self, line: int, kind: FaultKind) -> None:
@@ -202,7 +229,7 @@ class BadText(ColockError, ValueError):
         return f"line {self.line}: {self.kind.name}"
 
 
-class Refused(ColockError, ValueError):
+class Refused(Error, ValueError):
     """The checker refuses the type for this kind.
 
     `reason` is a word, and `numbers` what it names: `InitialOutside`; `NotClosed` a state and an operation;
@@ -221,8 +248,8 @@ class Refused(ColockError, ValueError):
         return " ".join([self.reason, *map(str, self.numbers)])
 
 
-class NotFollowed(ColockError):
-    """Events of which one wasn't made: `made` of them were. Its cause is `NotMade` or `NoMemory`."""
+class NotFollowedError(Error):
+    """Events of which one wasn't made: `made` of them were. Its cause is `NotMadeError` or `NoMemory`."""
 
     def __init__(self, made: int) -> None:
         super().__init__(made)
@@ -232,20 +259,20 @@ class NotFollowed(ColockError):
         return f"{self.made} events were made, and the next wasn't"
 
 
-CODES: Dict[int, Type[ColockError]] = {
-    1: NotOpen,
+CODES: Dict[int, Type[Error]] = {
+    1: NotOpenError,
     2: NoObject,
     3: NoCall,
-    4: TooManyOpen,
-    5: HistoryFull,
+    4: TooManyOpenError,
+    5: HistoryFullError,
     6: NoMemory,
     7: BadRollback,
-    8: Closed,
+    8: ClosedError,
     13: NoObjects,
     14: TooManyObjects,
     16: BadMax,
-    17: StillOpen,
-    18: NotMade,
+    17: StillOpenError,
+    18: NotMadeError,
     19: Forgotten,
     20: BadParameter,
     21: TooLarge,
@@ -258,11 +285,11 @@ CODES: Dict[int, Type[ColockError]] = {
 _REASONS = {1: ("InitialOutside", 0), 2: ("NotClosed", 2), 3: ("NotSimulation", 3), 4: ("NotCommuting", 3), 5: ("NotNumeric", 2)}
 
 
-def error_of(code: int) -> ColockError:
+def error_of(code: int) -> Error:
     """What is raised at a code."""
     kind = CODES.get(code)
     if kind is None:
-        return ColockError(f"the library told the code {code}, which is unknown")
+        return Error(f"the library told the code {code}, which is unknown")
     return kind(kind.__doc__)
 
 
@@ -272,7 +299,7 @@ def done(code: int) -> None:
         raise error_of(code)
 
 
-def type_error(code: int, fault: _library.Fault) -> ColockError:
+def type_error(code: int, fault: _library.Fault) -> Error:
     """What is raised of a type that wasn't made."""
     if code == _library.BAD_TEXT:
         return BadText(fault.line, FaultKind(fault.kind))

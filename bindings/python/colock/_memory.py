@@ -1,22 +1,31 @@
 """A store in memory, over the library."""
 import ctypes
+import time
 from typing import TYPE_CHECKING, Callable, Iterable, List, Optional, Tuple
+from weakref import ref
 
 from . import _library
 from ._backend import Backend, Finish
-from ._errors import NotFollowed, NotOpen, done, error_of
+from ._errors import Error, NotFollowedError, NotOpenError, done, error_of
 from ._events import Event, event_of, words_of
-from ._library import functions, unsigned
+from ._library import functions, quick, unsigned
 from ._outcomes import outcome_among
 from ._replies import Busy, Illegal, Reply
+from ._sleepers import Blocker, Sleeper
 from ._types import Type
 
 if TYPE_CHECKING:
     from ._transaction import Transaction
 
-_BEGIN, _CALL, _CALL_OP, _WOULD, _WOULD_OP = (functions[name] for name in ("begin", "call", "call_op", "would", "would_op"))
-_COMMIT, _ABORT, _ROLLBACK = (functions[name] for name in ("commit", "abort", "rollback"))
+_BEGIN, _CALL, _CALL_OP, _WOULD, _WOULD_OP = (quick[name] for name in ("begin", "call", "call_op", "would", "would_op"))
+_COMMIT, _ABORT, _ROLLBACK = (quick[name] for name in ("commit", "abort", "rollback"))
 _ILLEGAL = Illegal()
+# What the library may have done of which the client doesn't know yet.
+Half = Tuple[Optional["Transaction"], int, int]
+# That a transaction was begun.
+_BEGINS: Half = (None, 0, 0)
+# The number of no transaction.
+_NOBODY = (1 << 64) - 1
 
 
 class Memory(Backend):
@@ -32,20 +41,57 @@ class Memory(Backend):
                 done(functions["store_add"](self._handle, of._handle))
             of._is_used = True
             added.append(of)
-        super().__init__(added)
+        super().__init__(added, _blocker_in(self._handle))
         self.life = 0
         # the replies are made once, and what a call writes into is used again: all of it is under the lock
         self._replies = [of._calls.replies for of in added]
         self._answer, self._number = _library.Answer(), ctypes.c_uint64()
+        # the number that was begun last
+        self._begun = ctypes.c_uint64(_NOBODY)
+        # a transaction that ends, and how many commits and aborts there are with it; or `_BEGINS`
+        self._half: Optional[Half] = None
         done(functions["store_open"](self._handle, limit))
 
     # ---- transactions
 
-    def begin(self, worker: int) -> Optional[Tuple[int, int]]:
-        code = _BEGIN(self._handle, worker, self._number)
+    def begin(self, t: "Transaction") -> bool:
+        if self._half is not None or self.gone:
+            self.put_right()
+        self._half = _BEGINS
+        code = _BEGIN(self._handle, t._worker, self._begun)
         if code:
+            self._half = None
             raise error_of(code)
-        return self.life, self._number.value
+        number = self._begun.value
+        t._life, t._number = self.life, number
+        self.holders[number] = ref(t, self._goes)
+        self._half = None
+        return True
+
+    def is_half_done(self) -> bool:
+        return self._half is not None or super().is_half_done()
+
+    def put_right(self) -> None:
+        if self._half is not None:
+            t = self._half[0]
+            # the library does all of what it is asked, or nothing
+            if t is None:
+                if self._begun.value not in self.holders:
+                    self.abort_forsaken(self._begun.value)
+            elif not self.is_open(self.life, t._number):
+                self._has_ended()
+            self._half = None
+        super().put_right()
+
+    def abort_forsaken(self, number: int) -> None:
+        if self.is_open(self.life, number):
+            self.counts.aborts += 1
+            self.doing = self.sleepers.begin_anew
+            _ABORT(self._handle, 0, number)
+            self.ends += 1
+            # at which objects it let go isn't known
+            self.sleepers.ended(number, range(len(self.types)))
+            self.doing = None
 
     def check(self, t: "Transaction") -> None:
         # the transaction is looked at before the object and the call are, and to ask is no event
@@ -62,36 +108,48 @@ class Memory(Backend):
     def call(self, t: "Transaction", x: int, name: str) -> Reply:
         content = name.encode("utf-8", "surrogatepass")
         if t._life != self.life:
-            raise NotOpen(NotOpen.__doc__)
-        code = _CALL(self._handle, t._worker, t._number, x, content, len(content), self._answer)
-        if code:
-            raise error_of(code)
-        if self._answer.kind:
-            return self._otherwise()
-        t._touched.add(x)
+            raise NotOpenError(NotOpenError.__doc__)
+        try:
+            code = _CALL(self._handle, t._worker, t._number, x, content, len(content), self._answer)
+            if code:
+                raise error_of(code)
+            if self._answer.kind:
+                return self._otherwise()
+            t._touched.add(x)
+        except Error:
+            raise
+        except BaseException:
+            t._touched.add(x)  # it may have been executed
+            raise
         return self._replies[x][self._answer.number]
 
     def call_op(self, t: "Transaction", x: int, call: int) -> Reply:
         if t._life != self.life:
-            raise NotOpen(NotOpen.__doc__)
-        code = _CALL_OP(self._handle, t._worker, t._number, x, call, self._answer)
-        if code:
-            raise error_of(code)
-        if self._answer.kind:
-            return self._otherwise()
-        t._touched.add(x)
+            raise NotOpenError(NotOpenError.__doc__)
+        try:
+            code = _CALL_OP(self._handle, t._worker, t._number, x, call, self._answer)
+            if code:
+                raise error_of(code)
+            if self._answer.kind:
+                return self._otherwise()
+            t._touched.add(x)
+        except Error:
+            raise
+        except BaseException:
+            t._touched.add(x)  # it may have been executed
+            raise
         return self._replies[x][self._answer.number]
 
     def would(self, t: "Transaction", x: int, name: str) -> Reply:
         content = name.encode("utf-8", "surrogatepass")
         if t._life != self.life:
-            raise NotOpen(NotOpen.__doc__)
+            raise NotOpenError(NotOpenError.__doc__)
         done(_WOULD(self._handle, t._number, x, content, len(content), self._answer))
         return self._replies[x][self._answer.number] if self._answer.kind == 0 else self._otherwise()
 
     def would_op(self, t: "Transaction", x: int, call: int) -> Reply:
         if t._life != self.life:
-            raise NotOpen(NotOpen.__doc__)
+            raise NotOpenError(NotOpenError.__doc__)
         done(_WOULD_OP(self._handle, t._number, x, call, self._answer))
         return self._replies[x][self._answer.number] if self._answer.kind == 0 else self._otherwise()
 
@@ -99,40 +157,65 @@ class Memory(Backend):
         return Busy(self._answer.number) if self._answer.kind == 1 else _ILLEGAL
 
     def rollback(self, t: "Transaction", operations: int) -> Finish:
+        self.put_right()
         if t._life != self.life:
-            raise NotOpen(NotOpen.__doc__)
-        done(_ROLLBACK(self._handle, t._worker, t._number, operations))
-        if self.graph.sleepers:
-            self.graph.let_go(t._number, t._touched)
+            raise NotOpenError(NotOpenError.__doc__)
+        self.doing = self.sleepers.begin_anew
+        code = _ROLLBACK(self._handle, t._worker, t._number, operations)
+        if not code and self.sleepers.calls:
+            self.sleepers.took_back(t._number, t._touched)
+        self.doing = None
+        done(code)
         return None
 
     def commit(self, t: "Transaction") -> Finish:
+        if self._half is not None or self.gone:
+            self.put_right()
         if t._life != self.life:
-            raise NotOpen(NotOpen.__doc__)
-        code = _COMMIT(self._handle, t._worker, t._number)
-        if code:
-            raise error_of(code)
-        self._end(t)
-        self.counts.commits += 1
-        return None
+            raise NotOpenError(NotOpenError.__doc__)
+        if not t._ended:
+            self._half = t, self.counts.commits + 1, self.counts.aborts
+        return self._ended(_COMMIT(self._handle, t._worker, t._number))
 
     def abort(self, t: "Transaction") -> Finish:
+        if self._half is not None or self.gone:
+            self.put_right()
         if t._life != self.life:
-            raise NotOpen(NotOpen.__doc__)
-        done(_ABORT(self._handle, t._worker, t._number))
-        self._end(t)
-        self.counts.aborts += 1
-        return None
+            raise NotOpenError(NotOpenError.__doc__)
+        if not t._ended:
+            self._half = t, self.counts.commits, self.counts.aborts + 1
+        return self._ended(_ABORT(self._handle, t._worker, t._number))
 
-    def _end(self, t: "Transaction") -> None:
+    def _ended(self, code: int) -> Finish:
+        """The library was asked for an end, and told this code. Who is woken by it goes first."""
+        self.sleepers.has_woken = False
+        if code:
+            self._half = None
+            raise error_of(code)
+        self._has_ended()
+        self._half = None
+        return _let_others_run if self.sleepers.has_woken else None
+
+    def _has_ended(self) -> None:
+        """What follows from an end. It may be done twice."""
+        t, commits, aborts = self._half or _BEGINS
+        if t is None:
+            return
+        self.counts.commits, self.counts.aborts = commits, aborts
         t._ended = True
-        if self.graph.sleepers or self.graph.watchers:
-            self.graph.ended(t._number, t._touched)
+        self.ends += 1
+        self.holders.pop(t._number, None)
+        if not self.sleepers.is_empty():
+            self.sleepers.ended(t._number, t._touched)
 
     def abort_all(self) -> int:
+        self.put_right()
         count = self.open_count()
+        self.doing = self.sleepers.begin_anew
         done(functions["abort_all"](self._handle))
-        self.graph.end_all()
+        self.ends += 1
+        self.sleepers.all_ended()
+        self.doing = None
         return count
 
     # ---- the store
@@ -150,12 +233,12 @@ class Memory(Backend):
         done(functions["open_count"](self._handle, self._number))
         return self._number.value
 
-    def events(self, start: int) -> List[Event]:
+    def events(self, start: int) -> Callable[[], List[Event]]:
         count, forgotten = self._event_counts()
         size = max(count - start, 0) if start >= forgotten else 0
         room, copied = (_library.Event * max(size, 1))(), ctypes.c_uint64()
         done(functions["events"](self._handle, start, room, size, copied))
-        return [event_of(room[i]) for i in range(copied.value)]
+        return lambda: [event_of(room[i]) for i in range(copied.value)]
 
     def event_count(self) -> int:
         return self._event_counts()[0]
@@ -174,32 +257,70 @@ class Memory(Backend):
     def follow(self, events: Iterable[Event]) -> None:
         words = list(map(words_of, events))
         room, made = (_library.Event * max(len(words), 1))(*words), ctypes.c_uint64()
-        code = functions["follow"](self._handle, room, len(words), made)
+        self.put_right()
         # the events may have ended whom somebody waits for
-        self._wake_all()
+        self.doing = self.sleepers.begin_anew
+        code = functions["follow"](self._handle, room, len(words), made)
+        self.sleepers.begin_anew()
+        self.doing = None
         if code == _library.NOT_HELD:
             raise error_of(code)
         if code != _library.OK:
-            raise NotFollowed(made.value) from error_of(code)
-
-    def _wake_all(self) -> None:
-        """Everybody looks anew, at whatever it was that they waited for."""
-        for sleeper in self.graph.sleepers.values():
-            sleeper.wake()
-        self.graph.ring_all()
+            raise NotFollowedError(made.value) from error_of(code)
 
     def renew(self) -> None:
-        done(functions["renew"](self._handle))
-        self.life += 1
+        self.put_right()
+        life = self.life + 1
+        self.doing = lambda: self._put_renewal_right(life)
+        code = functions["renew"](self._handle)
+        if not code:
+            self._has_renewed(life)
+        self.doing = None
+        done(code)
+
+    def _put_renewal_right(self, life: int) -> None:
+        """A renewal was interrupted: where it was done there are no events."""
+        if not self.event_count():
+            self._has_renewed(life)
+
+    def _has_renewed(self, life: int) -> None:
+        self.life, self._begun.value = life, _NOBODY
+        self.holders.clear()
 
     def committed(self, life: int, number: int) -> Optional[bool]:
         # the history of an earlier life isn't there any more
-        return outcome_among(self.events(self.forgotten_count()), number) if life == self.life else None
+        return outcome_among(self.events(self.forgotten_count())(), number) if life == self.life else None
 
     def close(self) -> Finish:
+        self.put_right()
+        self.doing = self.sleepers.begin_anew
         functions["close"](self._handle)
-        self.graph.end_all()
+        self.ends += 1
+        self.sleepers.all_ended()
+        self.doing = None
         return None
+
+    def after_fork(self) -> None:
+        super().after_fork()
+        # another thread may have been in the library, so what was held isn't used any more: not even to give it back
+        self._handle = _library.Handle()
 
     def __del__(self, close: Callable[..., int] = functions["close"]) -> None:
         close(self._handle)
+
+
+def _let_others_run() -> None:
+    """Else they would run when this thread sleeps, or after some milliseconds."""
+    time.sleep(0)
+
+
+def _blocker_in(handle: _library.Handle) -> Blocker:
+    """What says who is in the way of a sleeper. It has no store, which goes as soon as nobody has it."""
+    answer = _library.Answer()
+
+    def blocker(sleeper: Sleeper) -> Optional[int]:
+        # where it is refused the sleeper is to see that itself
+        code = _WOULD_OP(handle, sleeper.asker.number, sleeper.asker.object, sleeper.call, answer)
+        return answer.number if code == _library.OK and answer.kind == 1 else None
+
+    return blocker

@@ -8,7 +8,7 @@ from typing import Dict, List, NamedTuple, NoReturn, Optional, Sequence, Set, Tu
 
 from ._child import Child
 from ._connection import Connection
-from ._errors import BadText, CannotOpen, ConnectionLost, OtherObjects, Refused
+from ._errors import BadText, CannotOpen, ConnectionLost, InUse, OtherObjects, Refused
 from ._identity import store_id
 from ._library import unsigned
 from ._outcomes import Archive
@@ -20,6 +20,8 @@ VERSION = b"3"
 # A process can be waited for at most this many seconds.
 LONGEST_WAIT = 86_400.0
 GREETING = re.compile(rb"colock ([^ ]+) (0|[1-9][0-9]{0,9})")
+# What the program says of a file that another process has open, or makes.
+IN_USE = re.compile(r"^colock: .*: in use$", re.MULTILINE)
 OBJECT = re.compile(rb"object (undo|intentions|escrow) ([0-9]{1,3})")
 
 
@@ -60,7 +62,7 @@ def open_child(opening: Opening) -> Child:
         return _greeted(connection, opening)
     except ConnectionLost as lost:
         _give_up(connection)
-        raise CannotOpen(lost.words) from lost
+        raise _refused(lost.words) from lost
     except BaseException:
         _give_up(connection)
         raise
@@ -70,6 +72,11 @@ def _give_up(connection: Connection) -> None:
     """Ends the process without a word: the file stays as it is."""
     connection.lose("it wasn't opened")
     connection.finish()
+
+
+def _refused(words: str) -> CannotOpen:
+    """What is raised where the program said why it doesn't open or make a file."""
+    return InUse(words) if IN_USE.search(words) else CannotOpen(words)
 
 
 # ---- the program
@@ -164,7 +171,7 @@ def _told(program: str, words: Sequence[str], limit: float) -> bytes:
         raise CannotOpen(f"{program} can't be started: {error}") from error
     if done.returncode:
         said = (done.stderr or done.stdout).decode("utf-8", "replace").strip()
-        raise CannotOpen(said or f"`{PROGRAM} {words[0]}` ended with status {done.returncode}")
+        raise _refused(said or f"`{PROGRAM} {words[0]}` ended with status {done.returncode}")
     return done.stdout
 
 

@@ -1,28 +1,25 @@
 """What a call is answered."""
 from dataclasses import dataclass
-from typing import Optional
+from typing import Optional, Union
 
-from ._errors import WasBusy, WasIllegal
+from ._errors import BusyError, IllegalError, UnexpectedError
 from ._operations import number_of
 
 
-class Reply:
-    """What a call is answered: an `Operation`, `Busy` or `Illegal`."""
-
-    def executed(self) -> "Operation":
-        """The operation, where one was executed. Raises `WasBusy` or `WasIllegal`."""
-        raise NotImplementedError
-
-
 @dataclass(frozen=True, repr=False)
-class Operation(Reply):
-    """The operation at this place was executed, with this reply.
+class Operation:
+    """An operation that was executed, in words: its call and its reply.
 
-    It has an amount where its call may have any, and where a value was asked for, which is the amount.
+    `place` is where its type lists it. It has an amount where its call may have any, and where a value was asked for,
+    which is the amount.
     """
 
-    place: int
+    # for `match`; dataclasses have it only from Python 3.10 on
+    __match_args__ = ("call", "reply", "place", "amount")
+
+    call: str
     reply: str
+    place: int
     amount: Optional[int] = None
 
     @property
@@ -31,29 +28,56 @@ class Operation(Reply):
         return number_of(self.place, self.amount)
 
     def executed(self) -> "Operation":
+        """The operation itself."""
+        return self
+
+    def expected(self, reply: str) -> "Operation":
+        """The operation, where this is its reply. Raises `UnexpectedError`."""
+        if self.reply != reply:
+            raise UnexpectedError(self.call, self.reply)
         return self
 
     def __repr__(self) -> str:
         amount = "" if self.amount is None else f", amount={self.amount}"
-        return f"Operation(place={self.place}, reply={self.reply!r}{amount})"
+        return f"Operation({self.call!r}, {self.reply!r}, place={self.place}{amount})"
 
 
 @dataclass(frozen=True)
-class Busy(Reply):
+class Busy:
     """What another transaction, the blocker, did is in its way. Nothing was executed.
 
     Where somebody older waits at the object the blocker may be that one, who is first in turn.
     """
 
+    __match_args__ = ("blocker",)
+
     blocker: int
 
     def executed(self) -> Operation:
-        raise WasBusy(self.blocker)
+        """Raises `BusyError`."""
+        raise BusyError(self.blocker)
+
+    def expected(self, reply: str) -> Operation:
+        """Raises `BusyError`."""
+        raise BusyError(self.blocker)
 
 
 @dataclass(frozen=True)
-class Illegal(Reply):
+class Illegal:
     """No operation of the call is legal. Nothing was executed."""
 
+    __match_args__ = ()
+
     def executed(self) -> Operation:
-        raise WasIllegal(WasIllegal.__doc__)
+        """Raises `IllegalError`."""
+        raise IllegalError("no operation of the call is legal")
+
+    def expected(self, reply: str) -> Operation:
+        """Raises `IllegalError`."""
+        raise IllegalError("no operation of the call is legal")
+
+
+# What a call is answered. Each has `executed` and `expected`, and is matched by its class.
+Reply = Union[Operation, Busy, Illegal]
+# The same for `isinstance`, which takes no union before Python 3.10.
+REPLIES = (Operation, Busy, Illegal)

@@ -2,15 +2,18 @@
 import itertools
 import os
 import random
+import threading
 import time
 import weakref
+from functools import partial
 from types import TracebackType
 from typing import Callable, Iterable, List, Optional, Tuple, TypeVar, Union
 from typing import Type as Class
 
-from ._backend import Backend, Finish
-from ._errors import Deadlock, EpochEnded, TimedOut, WasBusy
+from ._backend import Asked, Backend, Finish
+from ._errors import ConnectionLost, DeadlockError, OutcomeUnknown, Retryable, TimedOut
 from ._events import Event
+from ._let_go import warn_of_store
 from ._library import unsigned
 from ._memory import Memory
 from ._opening import Opening, open_child
@@ -25,6 +28,8 @@ Path = Union[str, "os.PathLike[str]"]
 
 # How long a victim waits for the end of whom it waited for, before it is tried again.
 SECONDS_FOR_BLOCKER = 10.0
+# How long a try waits for room, where too many transactions are open.
+SECONDS_FOR_ROOM = 10.0
 # How long a try waits at most for its next one.
 LONGEST_BACKOFF = 1.0
 # How long it waits for the next epoch, each time.
@@ -34,14 +39,14 @@ SECONDS_OF_DRAIN = 0.01
 class Store:
     """A store of objects, which are numbered from 0: in memory, or by `Store.open` in a file. A `with` closes it.
 
-    Each call takes the lock of the store, so threads may share it.
+    Each call takes the lock of the store, so threads may share it. In a fork of the process it is closed.
     """
 
     def __init__(self, types: Iterable[Type], max_events: int) -> None:
         """A store in memory of an object of each of these types, each in its initial state.
 
         Its history will have at most `max_events` events, those that were forgotten among them. Raises
-        `NoObjects`, `TooManyObjects`, `BadMax`, `NoMemory`, or `Closed` of a type.
+        `NoObjects`, `TooManyObjects`, `BadMax`, `NoMemory`, or `ClosedError` of a type.
         """
         self._start(Memory(types, max_events), 0.0)
 
@@ -84,14 +89,16 @@ class Store:
         )
         store = cls.__new__(cls)
         store._start(open_child(opening), limit)
-        _in_files.add(store)
         return store
 
     def _start(self, backend: Backend, limit: float) -> None:
         self._backend, self._lock, self._limit = backend, backend.lock, limit
-        self._sleepers, self._counts = backend.graph.sleepers, backend.counts
+        self._sleepers, self._counts = backend.sleepers.calls, backend.counts
         self._waiting = Waiting(backend)
+        # the backend, where it answers at once
+        self._memory = backend if isinstance(backend, Memory) else None
         self._ages = itertools.count()
+        _stores.add(self)
 
     def _after_fork(self) -> None:
         self._backend.after_fork()
@@ -102,43 +109,72 @@ class Store:
     def begin(self, worker: int = 0) -> Transaction:
         """Begins a transaction, as a worker, which is a number below 256 that its events have.
 
-        It is open until it commits or aborts, or the store is closed. In a file, where an epoch is full, it waits
-        for the next one. Raises `TooManyOpen`, `HistoryFull`, `NoMemory` or `Closed`; of a store in a file
-        `ConnectionLost`, `TimedOut` where the next epoch doesn't come, or `InMemoryOnly` of a worker other than 0.
+        It is open until it commits or aborts, nobody has it any more, or the store is closed. In a file, where an epoch
+        is full, it waits for the next one. Raises `TooManyOpenError`, `HistoryFullError`, `NoMemory` or `ClosedError`; of a store in
+        a file `ConnectionLost`, `TimedOut` where the next epoch doesn't come, or `InMemoryOnly` of a worker other than 0.
         """
-        who = unsigned("the worker", worker, 8)
-        with self._lock:
-            begun = self._backend.begin(who)
-            if begun is not None:
-                return Transaction(self, begun[0], who, begun[1], next(self._ages))
-        return self._begun_later(who, next(self._ages))
+        t = Transaction(self, unsigned("the worker", worker, 8), next(self._ages))
+        if self._backend.turn_of:
+            self._check_no_turn()
+        try:
+            if self._memory is not None:
+                with self._lock:
+                    self._memory.begin(t)
+            elif not self._backend.run(partial(self._backend.begin, t)):
+                self._begin_later(t)
+            return t
+        except BaseException as error:
+            self._give_up(t, error)
+            raise
 
-    def _begun_later(self, who: int, age: int) -> Transaction:
-        """A transaction of the next epoch."""
+    def _begin(self, t: Transaction) -> None:
+        """Begins a transaction, where an epoch is full one of the next."""
+        if not self._begins_now(t):
+            self._begin_later(t)
+
+    def _begin_later(self, t: Transaction) -> None:
+        """Begins a transaction of the next epoch."""
         deadline = time.monotonic() + self._limit
         while time.monotonic() < deadline:
             time.sleep(SECONDS_OF_DRAIN)
-            t = self._begun(who, age)
-            if t is not None:
-                return t
+            if self._begins_now(t):
+                return
         raise TimedOut("the epoch is full, and the next one doesn't begin")
 
-    def _begun(self, who: int, age: int) -> Optional[Transaction]:
-        """A transaction of this age, where one begins now."""
-        with self._lock:
-            begun = self._backend.begin(who)
-        return None if begun is None else Transaction(self, begun[0], who, begun[1], age)
+    def _begin_in_room(self, t: Transaction) -> None:
+        """Begins a transaction, where too many are open when one has ended."""
+        self._waiting.in_room(lambda: self._begin(t), SECONDS_FOR_ROOM)
+
+    def _begins_now(self, t: Transaction) -> bool:
+        """Begins a transaction, and returns whether it has begun."""
+        if self._memory is not None:
+            with self._lock:
+                return self._memory.begin(t)
+        return self._backend.run(lambda: self._backend.begin(t))
+
+    def _give_up(self, t: Transaction, error: BaseException) -> None:
+        """Nobody will have this transaction, since its `begin`, or its turn, ends with an exception."""
+        self._backend.interrupted(error)
+        t._abort_quietly()
+
+    def _told(self, ask: Callable[[], Asked[T]]) -> T:
+        """What is asked under the lock, and answered perhaps after a wait without it."""
+        try:
+            return self._backend.run(ask)
+        except BaseException as error:
+            self._backend.interrupted(error)
+            raise
 
     def retry(self, f: Callable[[Transaction], T], tries: int = 10, backoff: float = 0.001, worker: int = 0) -> T:
         """Runs a function in a transaction, commits it where the function hasn't ended it, and returns its value.
 
-        **The function may run again**: at `WasBusy`, `Deadlock`, `TimedOut` and `EpochEnded` what it did is aborted
+        **The function may run again**: at a `Retryable`, as `BusyError` and `DeadlockError` are, what it did is aborted
         and it is tried anew, `tries` times in all, 1 or more. So it is to do nothing that the store doesn't take
         back. A victim of a deadlock first waits for the end of whom it waited for; else it sleeps a random time,
         at most `backoff` seconds the first time, and up to twice as long each further time, and a second at most.
         A deadlock of which the function says nothing counts as raised. It keeps the age of its first try, so it
-        becomes the oldest in the end. The last error is raised. Any other
-        exception, `OutcomeUnknown` too, aborts what is open and is handed on.
+        becomes the oldest in the end. Where too many transactions are open, a try waits for the end of one, 10 seconds
+        at most. The last error is raised. Any other exception, `OutcomeUnknown` too, aborts what is open and is handed on.
 
         Raises what the function and a commit raise, `ValueError` where `tries` is below 1, `backoff` negative or
         it is used inside of `transact`, and what `begin` raises.
@@ -147,14 +183,21 @@ class Store:
             raise ValueError(f"{tries} tries with a backoff of {backoff} seconds")
         who, age = unsigned("the worker", worker, 8), next(self._ages)
         self._check_no_turn()
-        for behind in range(1, tries):
-            t = self._begun(who, age) or self._begun_later(who, age)
-            try:
-                return self._run(t, f)
-            except (WasBusy, Deadlock, TimedOut, EpochEnded) as error:
-                reason = error
-            self._pause(t, reason, behind, backoff)
-        return self._run(self._begun(who, age) or self._begun_later(who, age), f)
+        t = Transaction(self, who, age)
+        try:
+            for behind in range(1, tries):
+                self._begin_in_room(t)
+                try:
+                    return self._run(t, f)
+                except Retryable as error:
+                    reason = error
+                self._pause(t, reason, behind, backoff)
+                t = Transaction(self, who, age)
+            self._begin_in_room(t)
+            return self._run(t, f)
+        except BaseException as error:
+            self._give_up(t, error)
+            raise
 
     def _run(self, t: Transaction, f: Callable[[Transaction], T]) -> T:
         """A try: the transaction has ended after it."""
@@ -168,47 +211,50 @@ class Store:
 
     def _pause(self, t: Transaction, reason: Exception, behind: int, backoff: float) -> None:
         """What comes between two tries, when this many are over."""
-        if isinstance(reason, Deadlock):
+        if isinstance(reason, DeadlockError):
             # a victim that began at once would take again what it gave up, before the other one wakes
             self._waiting.await_end(t._life, reason.blocker, SECONDS_FOR_BLOCKER)
         else:
             time.sleep(random.uniform(0, min(backoff * 2.0 ** min(behind - 1, 60), LONGEST_BACKOFF)))
 
     def _check_no_turn(self) -> None:
-        with self._lock:
-            if self._waiting.turns:
-                raise ValueError("what may wait can't be used inside of `transact`")
+        """Raises `ValueError` inside of `transact`, where only its transaction may be used."""
+        if self._backend.is_in_turn():
+            raise ValueError("the store can't be asked inside of `transact`, but by calls of transactions")
 
     def transact(self, f: Callable[[Transaction], T], worker: int = 0) -> T:
         """Runs a function in a transaction, in one turn of the lock: no call of another thread comes between.
 
         It is committed after the function where that hasn't ended it, and the function's value is returned. Calls
-        can't wait there. An exception of the function aborts it and is handed on. Raises what the function, `begin`
-        and `commit` raise.
+        can't wait there, and the store can't be asked: both raise `ValueError`. An exception of the function aborts it
+        and is handed on. Raises what the function, `begin` and `commit` raise.
         """
         who, age = unsigned("the worker", worker, 8), next(self._ages)
-        deadline = time.monotonic() + self._limit
-        while True:
-            with self._lock:
-                done = self._turn(f, who, age)
-            if done is not None:
-                finished(done[1])
-                return done[0]
-            if time.monotonic() >= deadline:
-                raise TimedOut("the epoch is full, and the next one doesn't begin")
-            time.sleep(SECONDS_OF_DRAIN)
+        self._check_no_turn()
+        deadline, t = time.monotonic() + self._limit, Transaction(self, who, age)
+        try:
+            while True:
+                with self._lock:
+                    done = self._turn(t, f)
+                self._backend.end_turn()
+                if done is not None:
+                    finished(done[1])
+                    return done[0]
+                if time.monotonic() >= deadline:
+                    raise TimedOut("the epoch is full, and the next one doesn't begin")
+                time.sleep(SECONDS_OF_DRAIN)
+        except BaseException as error:
+            self._backend.end_turn()
+            self._give_up(t, error)
+            raise
 
-    def _turn(self, f: Callable[[Transaction], T], who: int, age: int) -> Optional[Tuple[T, Finish]]:
-        """A turn, under the lock: its value, and what is left to do after it; None where no transaction begins now.
+    def _turn(self, t: Transaction, f: Callable[[Transaction], T]) -> Optional[Tuple[T, Finish]]:
+        """A turn, under the lock: its value, and what is left to do after it; None where the transaction can't begin now.
 
         Each call in it takes the lock once more, so what gives that up for an answer keeps the lock of the turn.
         """
-        self._waiting.turns += 1
-        try:
-            t = self._begun(who, age)
-            return None if t is None else self._run_in_turn(t, f)
-        finally:
-            self._waiting.turns -= 1
+        self._backend.turn_of = threading.get_ident()
+        return self._run_in_turn(t, f) if self._begins_now(t) else None
 
     def _run_in_turn(self, t: Transaction, f: Callable[[Transaction], T]) -> Tuple[T, Finish]:
         try:
@@ -224,121 +270,133 @@ class Store:
         True where it is committed, False where it never will be, and None where it is open, or where it isn't
         certain any more: of a store in memory after `renew` or `forget`, and of one in a file where neither the
         events nor the archive say. The life before this opening is always known until an epoch ends, and then
-        by the archive. Raises `ValueError` where it isn't an id, and `Closed`, `ConnectionLost` or `OSError`.
+        by the archive. Raises `ValueError` where it isn't an id, and `ClosedError`, `ConnectionLost` or `OSError`.
         """
         life, number = read_id(id)
-        with self._lock:
-            return self._backend.committed(life, number)
+        self._check_no_turn()
+        return self._told(lambda: self._backend.committed(life, number))
 
     # ---- what is there
 
     def stats(self) -> Stats:
         """What was counted of this client since it opened the store."""
-        with self._lock:
-            return self._counts.told()
+        return self._told(self._counts.told)
 
     def call_number(self, object: int, name: str) -> int:
         """The number of the call of this name at an object, for `Transaction.call_op`.
 
         It is that of the first operation that has the name: below 256 its place, and with the amount n 256 * (n + 1) more.
-                Raises `NoObject`, `NoCall`, `Closed` or `ConnectionLost`.
+                Raises `NoObject`, `NoCall`, `ClosedError` or `ConnectionLost`.
         """
         x = unsigned("the object", object, 32)
-        with self._lock:
-            return self._backend.call_number(x, name)
+        return self._told(lambda: self._backend.call_number(x, name))
 
     def kept(self, object: int) -> int:
         """The state that is kept of an object: of `Kind.UNDO` with what open transactions did, else without it.
 
-        Raises `NoObject`, `Closed` or `ConnectionLost`.
+        Raises `NoObject`, `ClosedError` or `ConnectionLost`.
         """
         x = unsigned("the object", object, 32)
-        with self._lock:
-            return self._backend.kept(x)
+        self._check_no_turn()
+        return self._told(lambda: self._backend.kept(x))
 
     def open_count(self) -> int:
-        """How many transactions are open. Raises `Closed` or `ConnectionLost`."""
-        with self._lock:
-            return self._backend.open_count()
+        """How many transactions are open. Raises `ClosedError` or `ConnectionLost`."""
+        self._check_no_turn()
+        return self._told(lambda: self._backend.open_count())
 
     def abort_all(self) -> None:
         """Aborts each open transaction, in ascending order, as the worker that began it.
 
-        Raises `Closed` or `InMemoryOnly`.
+        Raises `ClosedError` or `InMemoryOnly`.
         """
-        with self._lock:
-            self._counts.aborts += self._backend.abort_all()
+        self._check_no_turn()
+        self._told(self._abort_all)
+
+    def _abort_all(self) -> None:
+        self._counts.aborts += self._backend.abort_all()
 
     def events(self, start: int = 0) -> List[Event]:
         """The events from a place on, oldest first. Events count from 0; those of a file are of the present epoch.
 
-        Raises `Forgotten`, `Closed` or `ConnectionLost`.
+        Raises `Forgotten`, `ClosedError` or `ConnectionLost`.
         """
         first = unsigned("the place", start, 64)
-        with self._lock:
-            return self._backend.events(first)
+        self._check_no_turn()
+        return self._told(lambda: self._backend.events(first))()
 
     def event_count(self) -> int:
-        """How many events there were, those that were forgotten among them. Raises `Closed` or `ConnectionLost`."""
-        with self._lock:
-            return self._backend.event_count()
+        """How many events there were, those that were forgotten among them. Raises `ClosedError` or `ConnectionLost`."""
+        self._check_no_turn()
+        return self._told(lambda: self._backend.event_count())
 
     def forgotten_count(self) -> int:
-        """How many of the first events were forgotten. Raises `Closed` or `InMemoryOnly`."""
-        with self._lock:
-            return self._backend.forgotten_count()
+        """How many of the first events were forgotten. Raises `ClosedError` or `InMemoryOnly`."""
+        self._check_no_turn()
+        return self._told(lambda: self._backend.forgotten_count())
 
     def forget(self, events: int) -> None:
         """Forgets the first events, this many of those that are in memory, or all of them.
 
-        Raises `Closed` or `InMemoryOnly`.
+        Raises `ClosedError` or `InMemoryOnly`.
         """
         count = unsigned("the number of events", events, 64)
-        with self._lock:
-            self._backend.forget(count)
+        self._check_no_turn()
+        self._told(lambda: self._backend.forget(count))
 
     def follow(self, events: Iterable[Event]) -> None:
         """Makes events again, one after another, each as its worker: a store becomes what another was.
 
-        Raises `NotFollowed`, with how many were made, `Closed` or `InMemoryOnly`.
+        Raises `NotFollowedError`, with how many were made, `ClosedError` or `InMemoryOnly`.
         """
         all_of_them = list(events)
-        with self._lock:
-            self._backend.follow(all_of_them)
+        self._check_no_turn()
+        self._told(lambda: self._backend.follow(all_of_them))
 
     def renew(self) -> None:
         """Begins anew, with no event, at the states that are kept. Transactions count from 0 again.
 
-        Raises `StillOpen`, `NoMemory`, `Closed` or `InMemoryOnly`.
+        Raises `StillOpenError`, `NoMemory`, `ClosedError` or `InMemoryOnly`.
         """
-        with self._lock:
-            self._backend.renew()
+        self._check_no_turn()
+        self._told(self._backend.renew)
 
     # ---- the end
 
     def close(self) -> None:
         """Aborts what is open, and gives the memory back, or ends the epoch of the file. A second time does nothing.
 
-        Raises `ConnectionLost` where the program that serves a file didn't end in order; what was committed is in
-        the file.
+        Raises `ConnectionLost` where the program that serves a file didn't end in order, or was gone before; what
+        was committed is in the file.
         """
-        with self._lock:
-            finish = self._backend.close()
-        finished(finish)
+        self._check_no_turn()
+        try:
+            finished(self._told(self._backend.close))
+        except BaseException as error:
+            self._backend.interrupted(error)
+            raise
+
+    def __del__(self) -> None:
+        warn_of_store(self)
 
     def __enter__(self) -> "Store":
         return self
 
     def __exit__(self, kind: Optional[Class[BaseException]], value: Optional[BaseException], trace: Optional[TracebackType]) -> None:
-        self.close()
+        try:
+            self.close()
+        except ConnectionLost:
+            # what leaves the `with` may say it already, and more
+            if not isinstance(value, (ConnectionLost, OutcomeUnknown)):
+                raise
 
 
-_in_files: "weakref.WeakSet[Store]" = weakref.WeakSet()
+_stores: "weakref.WeakSet[Store]" = weakref.WeakSet()
 
 
 def _close_in_fork() -> None:
-    """A fork has a copy of each pipe, and would keep the children alive."""
-    for store in list(_in_files):
+    """A fork would sell what its parent sells, with a copy of each store and of each pipe."""
+    for store in list(_stores):
         store._after_fork()
 
 

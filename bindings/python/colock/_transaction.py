@@ -1,11 +1,12 @@
 """Transactions."""
 from types import TracebackType
-from typing import TYPE_CHECKING, Optional, Set
+from typing import TYPE_CHECKING, Callable, Optional, Set, cast
 from typing import Type as Class
 
-from ._errors import ColockError, Deadlock
+from ._backend import Asked, Finish
+from ._errors import DeadlockError, Error
 from ._library import unsigned
-from ._replies import Busy, Reply
+from ._replies import Busy, Operation, Reply
 from ._waiting import finished
 
 if TYPE_CHECKING:
@@ -16,18 +17,19 @@ class Transaction:
     """A transaction. A `with` commits it, or aborts it where an exception leaves it.
 
     Where it ended in the `with` already, nothing more is done; but where a deadlock ended it and nothing was said of
-    that, `Deadlock` is raised after the `with`, so that nobody takes it for committed. `Store.begin` makes it.
+    that, `DeadlockError` is raised after the `with`, so that nobody takes it for committed. `Store.begin` makes it.
     """
 
     __slots__ = ("_store", "_life", "_worker", "_number", "_age", "_touched", "_ended", "_deadlock", "__weakref__")
 
-    def __init__(self, store: "Store", life: int, worker: int, number: int, age: int) -> None:
-        self._store, self._life, self._worker, self._number, self._age = store, life, worker, number, age
+    def __init__(self, store: "Store", worker: int, age: int) -> None:
+        """One that hasn't begun, whose number is -1: it is there before, so that nothing begins that nobody has."""
+        self._store, self._life, self._worker, self._number, self._age = store, -1, worker, -1, age
         # the objects at which it has executed operations, under the lock
         self._touched: Set[int] = set()
         self._ended = False
         # the deadlock whose victim it was
-        self._deadlock: Optional[Deadlock] = None
+        self._deadlock: Optional[DeadlockError] = None
 
     @property
     def number(self) -> int:
@@ -46,63 +48,94 @@ class Transaction:
         """Calls the call of this name at an object.
 
         With `wait`, 0 or more seconds, it waits where another transaction is in the way, and isn't answered `Busy`.
-        It wakes where that one, or another one that executed something at the object, has ended or rolled back, and
-        tries again, until it is executed or illegal. It goes after an older transaction that waits at the object and
-        that it would hold up; without `wait` it is then answered `Busy`, too.
+        It sleeps until that one, or another one that executed something at the object, has ended or rolled back and it
+        may go, and is executed or illegal then. It goes after an older transaction that waits at the object and that it
+        would hold up; without `wait` it is then answered `Busy`, too.
 
-        Raises `NotOpen`, `NoObject`, `NoCall`, `HistoryFull`, `NoMemory` or `Closed`; of a store in a file
-        `EpochEnded` or `ConnectionLost`. With `wait` also `TimedOut` where the time is over, and nothing was
-        executed; `Deadlock` where transactions wait for each other in a circle and this is the youngest, which is
+        Raises `NotOpenError`, `NoObject`, `NoCall`, `HistoryFullError`, `NoMemory` or `ClosedError`; of a store in a file
+        `EpochEndedError` or `ConnectionLost`. With `wait` also `TimedOut` where the time is over, and nothing was
+        executed; `DeadlockError` where transactions wait for each other in a circle and this is the youngest, which is
         aborted then; and `ValueError` where `wait` is negative, inside of `Store.transact`, or where the
         transaction waits in another thread.
         """
         x, store = unsigned("the object", object, 32), self._store
-        if wait is None:
-            with store._lock:
-                reply = self._call_now(x, name) if store._sleepers else store._backend.call(self, x, name)
-                if reply.__class__ is Busy:
-                    store._counts.busy[x] += 1
-                return reply
-        call = store._backend.call_of(x, name)
-        if call is None:
-            with store._lock:
-                return store._backend.call(self, x, name)  # which raises
-        return store._waiting.call(self, x, call, wait)
+        try:
+            memory = store._memory
+            if wait is not None:
+                call = store._backend.call_of(x, name)
+                if call is not None:
+                    return store._waiting.call(self, x, call, wait)
+            if memory is not None:
+                with store._lock:
+                    if not store._sleepers:
+                        reply = memory.call(self, x, name)
+                        if reply.__class__ is Busy:
+                            store._counts.busy[x] += 1
+                        return reply
+            return store._waiting.at_once(x, lambda: self._call_now(x, name))
+        except BaseException as error:
+            store._backend.interrupted(error)
+            raise
+
+    def expect(self, object: int, name: str, reply: str, wait: Optional[float] = None) -> Operation:
+        """The operation of a call that is executed with this reply. As `call`.
+
+        Raises as `call`, and where nothing was executed `BusyError` or `IllegalError`. Where the reply is another one it
+        raises `UnexpectedError`: the operation was executed, and stays in the transaction.
+        """
+        return self.call(object, name, wait).expected(reply)
 
     def call_op(self, object: int, call: int, wait: Optional[float] = None) -> Reply:
         """Calls the call of this number, for which `Store.call_number` is asked once. As `call`."""
         x, c, store = unsigned("the object", object, 32), unsigned("the call", call, 64), self._store
-        if wait is not None and self._is_call(x, c):
-            return store._waiting.call(self, x, c, wait)
-        with store._lock:
-            is_alone = not store._sleepers or not self._is_call(x, c)
-            reply = store._backend.call_op(self, x, c) if is_alone else store._waiting.call_now(self, x, c)
-            if reply.__class__ is Busy:
-                store._counts.busy[x] += 1
-            return reply
+        try:
+            if wait is not None and self._is_call(x, c):
+                return store._waiting.call(self, x, c, wait)
+            if store._memory is not None:
+                with store._lock:
+                    if not store._sleepers:
+                        reply = store._memory.call_op(self, x, c)
+                        if reply.__class__ is Busy:
+                            store._counts.busy[x] += 1
+                        return reply
+            return store._waiting.at_once(x, lambda: self._call_op_now(x, c))
+        except BaseException as error:
+            store._backend.interrupted(error)
+            raise
 
     def would(self, object: int, name: str) -> Reply:
         """What `call` would be answered now, without `wait`. Nothing is executed, and it is no event. Raises as `call`."""
-        x, store = unsigned("the object", object, 32), self._store
-        call = store._backend.call_of(x, name)
-        with store._lock:
-            if call is None or not store._sleepers:
-                return store._backend.would(self, x, name)
-            return store._waiting.would_now(self, x, call)
+        x = unsigned("the object", object, 32)
+        return cast(Reply, self._store._told(lambda: self._would_now(x, name)))
 
     def would_op(self, object: int, call: int) -> Reply:
         """What `call_op` would be answered now, without `wait`. Raises as `call`."""
-        x, c, store = unsigned("the object", object, 32), unsigned("the call", call, 64), self._store
-        with store._lock:
-            if not store._sleepers or not self._is_call(x, c):
-                return store._backend.would_op(self, x, c)
-            return store._waiting.would_now(self, x, c)
+        x, c = unsigned("the object", object, 32), unsigned("the call", call, 64)
+        return cast(Reply, self._store._told(lambda: self._would_op_now(x, c)))
 
-    def _call_now(self, x: int, name: str) -> Reply:
-        """A call that doesn't wait, where somebody sleeps."""
+    def _call_now(self, x: int, name: str) -> Asked[Reply]:
+        """A call that doesn't wait, under the lock. Where somebody sleeps the gate is looked at."""
         store = self._store
-        call = store._backend.call_of(x, name)
+        call = store._backend.call_of(x, name) if store._sleepers else None
         return store._backend.call(self, x, name) if call is None else store._waiting.call_now(self, x, call)
+
+    def _call_op_now(self, x: int, call: int) -> Asked[Reply]:
+        """The same by its number."""
+        store = self._store
+        is_alone = not store._sleepers or not self._is_call(x, call)
+        return store._backend.call_op(self, x, call) if is_alone else store._waiting.call_now(self, x, call)
+
+    def _would_now(self, x: int, name: str) -> Asked[Reply]:
+        """What a call would be answered, under the lock. Where somebody sleeps the gate is looked at."""
+        store = self._store
+        call = store._backend.call_of(x, name) if store._sleepers else None
+        return store._backend.would(self, x, name) if call is None else store._waiting.would_now(self, x, call)
+
+    def _would_op_now(self, x: int, call: int) -> Asked[Reply]:
+        """The same by its number."""
+        store = self._store
+        is_alone = not store._sleepers or not self._is_call(x, call)
+        return store._backend.would_op(self, x, call) if is_alone else store._waiting.would_now(self, x, call)
 
     def _is_call(self, x: int, call: int) -> bool:
         """Whether the object has a call of this number."""
@@ -111,46 +144,57 @@ class Transaction:
 
     def rollback(self, operations: int) -> None:
         """Takes back its last operations, over all objects together. It stays open, and who waits for it or at one of its
-        objects looks anew.
+        objects may go.
 
-        Raises `NotOpen`, `BadRollback`, `HistoryFull`, `NoMemory` or `Closed`; of a store in a file `EpochEnded` or
+        Raises `NotOpenError`, `BadRollback`, `HistoryFullError`, `NoMemory` or `ClosedError`; of a store in a file `EpochEndedError` or
         `ConnectionLost`.
         """
-        count, store = unsigned("the number of operations", operations, 64), self._store
-        with store._lock:
-            finish = store._backend.rollback(self, count)
-        finished(finish)
+        count = unsigned("the number of operations", operations, 64)
+        self._do(lambda: self._store._backend.rollback(self, count))
 
     def commit(self) -> None:
         """Commits it. Of a store in a file it is durable after this.
 
-        Raises `NotOpen` or `Closed`; of a store in a file `EpochEnded`, `ConnectionLost` where it can't be
-        committed, or `OutcomeUnknown` where the program was lost before it answered.
+        Where a signal handler raises in it, `Store.committed` says what became of it, unless it is still open. Raises
+        `NotOpenError` or `ClosedError`; of a store in a file `EpochEndedError`, `ConnectionLost` where it can't be committed, or
+        `OutcomeUnknown` where the program was lost before it answered.
         """
-        store = self._store
-        with store._lock:
-            finish = store._backend.commit(self)
-        if finish is not None:
-            finish()
+        backend = self._store._backend
+        try:
+            with backend.lock:
+                finish = backend.commit(self)
+            if finish is not None:
+                finish()
+        except BaseException as error:
+            backend.interrupted(error)
+            raise
 
     def abort(self) -> None:
-        """Aborts it: nothing stays of its operations. Raises `NotOpen`, `Closed`, `EpochEnded` or `ConnectionLost`."""
-        store = self._store
-        with store._lock:
-            finish = store._backend.abort(self)
-        finished(finish)
+        """Aborts it: nothing stays of its operations. Raises `NotOpenError`, `ClosedError`, `EpochEndedError` or `ConnectionLost`."""
+        self._do(lambda: self._store._backend.abort(self))
+
+    def _do(self, begin: Callable[[], Finish]) -> None:
+        """Begins an end or a rollback under the lock, and finishes it without."""
+        backend = self._store._backend
+        try:
+            with backend.lock:
+                finish = begin()
+            finished(finish)
+        except BaseException as error:
+            backend.interrupted(error)
+            raise
 
     def _abort_quietly(self) -> None:
         """Aborts it where it is open, at an exception that says more than that it isn't."""
-        if self._ended:
+        if self._ended or self._number < 0:
             return
         try:
             self.abort()
-        except ColockError:
+        except Error:
             pass  # it has ended, or nobody is there who could abort it
 
     def _commit_at_end(self) -> None:
-        """Commits it where it is open. Raises the `Deadlock` that ended it, if one did."""
+        """Commits it where it is open. Raises the `DeadlockError` that ended it, if one did."""
         if self._deadlock is not None:
             raise self._deadlock
         if not self._ended:
@@ -160,10 +204,14 @@ class Transaction:
         return self
 
     def __exit__(self, kind: Optional[Class[BaseException]], value: Optional[BaseException], trace: Optional[TracebackType]) -> None:
-        if kind is not None:
-            self._abort_quietly()
-        else:
-            self._commit_at_end()
+        try:
+            if kind is None:
+                self._commit_at_end()
+                return
+        except BaseException:
+            self._abort_quietly()  # where the commit was interrupted before it was begun
+            raise
+        self._abort_quietly()
 
     def __repr__(self) -> str:
         return f"<colock.Transaction {self._number} of worker {self._worker}>"

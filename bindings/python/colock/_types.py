@@ -2,7 +2,9 @@
 import ctypes
 import enum
 import operator
+import os
 import threading
+import weakref
 from typing import Any, Callable, FrozenSet, Hashable, Iterable, List, NamedTuple, Optional, Sequence, Tuple, TypeVar, Union, cast
 
 from . import _library
@@ -195,6 +197,7 @@ class Type:
 
     def _make(self, source: Source, maker: str, kind: Kind, *parameters: Any) -> None:
         self._lock = threading.Lock()
+        _all_types.add(self)
         self._handle = _library.Handle()
         self._source = source
         self.labels = None
@@ -227,7 +230,7 @@ class Type:
     def step(self, state: int, operation: OperationName) -> Optional[int]:
         """The state to which an operation leads from a state; None where it isn't legal there.
 
-        It is a number, or a pair of a call and a reply. Raises `NoState`, `NoOperation` or `Closed`.
+        It is a number, or a pair of a call and a reply. Raises `NoState`, `NoOperation` or `ClosedError`.
         """
         s, k, to = unsigned("the state", state, 64), self._number_of(operation), ctypes.c_uint64()
         with self._lock:
@@ -241,7 +244,7 @@ class Type:
         """Whether an operation that is requested conflicts with one that another transaction holds.
 
         Of `Kind.ESCROW` none do, since it has no conflict table. Each is a place, or a pair of a call and a reply.
-        Raises `NoOperation`, also of one with an amount, or `Closed`.
+        Raises `NoOperation`, also of one with an amount, or `ClosedError`.
         """
         return self._conflicts(self._number_of(requested), self._number_of(held))
 
@@ -264,7 +267,7 @@ class Type:
 
         Amounts are of no account for that.
 
-        Raises `Closed` where it wasn't asked before.
+        Raises `ClosedError` where it wasn't asked before.
         """
         if self._pairs is None:
             self._pairs = frozenset(self._blocking_pairs())
@@ -309,7 +312,7 @@ class Type:
     def _compared(self) -> Tuple[Any, ...]:
         """What two types are compared by: name, kind, states, initial state, operations, steps and conflicts.
 
-        Raises `Closed` where it wasn't asked before.
+        Raises `ClosedError` where it wasn't asked before.
         """
         if self._all is None:
             numbers = range(len(self.operations))
@@ -333,7 +336,7 @@ class Type:
         return f"<colock.Type {self.name!r}, {self.kind.name}, {self.states} states, {len(self.operations)} operations>"
 
     def __str__(self) -> str:
-        """The grid of its conflicts, where it has a conflict table. Raises `Closed`."""
+        """The grid of its conflicts, where it has a conflict table. Raises `ClosedError`."""
         numbers = range(len(self.operations))
         held = [[q for q in numbers if self._conflicts(p, q)] for p in numbers]
         title = f"{self.name}, {self.kind.name.lower()}, {self.states} states"
@@ -366,3 +369,16 @@ def _told(tell: Callable[[Any, int, Any], int]) -> str:
     room, count = ctypes.create_string_buffer(_library.LONGEST_NAME), ctypes.c_uint64()
     done(tell(room, len(room), count))
     return room.raw[: count.value].decode("ascii")
+
+
+_all_types: "weakref.WeakSet[Type]" = weakref.WeakSet()
+
+
+def _free_in_fork() -> None:
+    """The threads that held the locks of types aren't in a fork."""
+    for of in list(_all_types):
+        of._lock = threading.Lock()
+
+
+if hasattr(os, "register_at_fork"):
+    os.register_at_fork(after_in_child=_free_in_fork)

@@ -1,14 +1,19 @@
 """Calls that wait, at a store of either backend."""
 import time
-from typing import TYPE_CHECKING, NamedTuple, Optional, Union
+from typing import TYPE_CHECKING, Callable, NamedTuple, NoReturn, Optional, Union, cast
 
-from ._backend import Backend, Finish
-from ._errors import Deadlock, TimedOut
-from ._graph import Sleeper
-from ._replies import Busy, Reply
+from ._backend import Asked, Backend, Finish, Steps
+from ._decisions import Asker
+from ._errors import DeadlockError, TimedOut, TooManyOpenError
+from ._operations import PLACES
+from ._replies import REPLIES, Busy, Reply
+from ._sleepers import Sleeper, Watch
 
 if TYPE_CHECKING:
     from ._transaction import Transaction
+
+# How long a sleeper looks at nothing. Nobody is rung where a transaction is let go.
+SECONDS_OF_NAP = 1.0
 
 
 class Ahead(NamedTuple):
@@ -22,136 +27,194 @@ class Waiting:
     """Who calls at a store while somebody sleeps, or may have to sleep itself."""
 
     def __init__(self, backend: Backend) -> None:
-        self._backend, self._graph, self._counts = backend, backend.graph, backend.counts
-        # how many turns of `transact` the thread that has the lock is in
-        self.turns = 0
+        self._backend, self._sleepers, self._counts = backend, backend.sleepers, backend.counts
 
-    # ---- calls that don't wait, where somebody sleeps
+    # ---- calls that don't wait
 
-    def call_now(self, t: "Transaction", x: int, call: int) -> Reply:
-        """A call that has passed the gate, under the lock."""
+    def at_once(self, x: int, ask: Callable[[], Asked[Reply]]) -> Reply:
+        """What a call is answered that doesn't wait. The lock isn't held."""
+        reply: Reply = self._backend.run(ask)  # type: ignore[assignment]
+        if reply.__class__ is Busy:
+            with self._backend.lock:
+                self._counts.busy[x] += 1
+        return reply
+
+    def call_now(self, t: "Transaction", x: int, call: int) -> Asked[Reply]:
+        """A call that has passed the gate, where somebody sleeps, under the lock."""
         self._backend.check(t)
-        ahead = self._graph.ahead(t._number, t._age, x, call)
+        ahead = self._at_gate(t, x, call)
         return self._backend.call_op(t, x, call) if ahead is None else Busy(ahead)
 
-    def would_now(self, t: "Transaction", x: int, call: int) -> Reply:
-        """What the call would be answered, under the lock."""
+    def would_now(self, t: "Transaction", x: int, call: int) -> Asked[Reply]:
+        """What the call would be answered, where somebody sleeps, under the lock."""
         self._backend.check(t)
-        ahead = self._graph.ahead(t._number, t._age, x, call)
+        ahead = self._at_gate(t, x, call)
         return self._backend.would_op(t, x, call) if ahead is None else Busy(ahead)
+
+    def _at_gate(self, t: "Transaction", x: int, call: int) -> Optional[int]:
+        return self._sleepers.at_gate(Asker(t._number, t._age, x, call % PLACES))
 
     # ---- calls that wait
 
     def call(self, t: "Transaction", x: int, call: int, wait: float) -> Reply:
-        """A call that waits this many seconds at most. The lock isn't held.
-
-        After each sleep all is looked at anew: the gate, whether the call would be free, and then the call itself.
-        """
+        """A call that waits this many seconds at most. The lock isn't held."""
         deadline = _deadline(wait)
-        sleeper: Optional[Sleeper] = None
-        slept = 0.0
+        sleeper = Sleeper(t._number, t._age, x, call)
         try:
-            while True:
-                with self._backend.lock:
-                    told = self._look(t, x, call, sleeper)
-                    if isinstance(told, Reply):
-                        return told
-                    if told is not None or sleeper is not None:
-                        self._check_time(deadline)
-                    if sleeper is None:
-                        sleeper = self._enter(t, x, call)
-                    if told is None:
-                        continue
-                    self._lie_down(t, sleeper, told)
-                slept += self._sleep(sleeper, deadline)
-                self._wake_up(t, sleeper)
-        finally:
-            if sleeper is not None:
-                self._get_up(sleeper, slept)
+            try:
+                return self._waited(t, sleeper, deadline)
+            finally:
+                self._leave(sleeper)
+        except BaseException:
+            self._leave(sleeper)  # also where the first time was interrupted
+            raise
 
-    def _look(self, t: "Transaction", x: int, call: int, sleeper: Optional[Sleeper]) -> Union[Reply, Ahead, None]:
-        """The answer of the call, or who is in its way; None where somebody let go while the answer was awaited."""
-        if self.turns:
+    def _waited(self, t: "Transaction", sleeper: Sleeper, deadline: float) -> Reply:
+        """After each sleep all is looked at anew: the gate, whether the call would be free, and then the call itself."""
+        reply = self._tried(t, sleeper, deadline, True)
+        while reply is None:
+            start = time.monotonic()
+            is_rung = self._slept(sleeper, deadline)
+            self._get_up(t, sleeper, is_rung, time.monotonic() - start)
+            reply = self._tried(t, sleeper, deadline, False)
+        return reply
+
+    def _slept(self, sleeper: Sleeper, deadline: float) -> bool:
+        """Sleeps until it is rung, or its time is over. Whether it was rung. What others let go open is aborted now and then."""
+        while True:
+            left = deadline - time.monotonic()
+            if sleeper.bell.sleep(min(left, SECONDS_OF_NAP)):
+                return True
+            if left <= SECONDS_OF_NAP:
+                return False
+            if self._backend.gone:
+                with self._backend.lock:
+                    self._backend.put_right()
+
+    def _tried(self, t: "Transaction", sleeper: Sleeper, deadline: float, is_first: bool) -> Optional[Reply]:
+        """The answer of the call; none where it has lain down. The lock isn't held."""
+        def ask() -> Asked[Optional[Reply]]:
+            return self._try(t, sleeper, deadline, is_first)
+
+        return cast(Optional[Reply], self._backend.run(ask))
+
+    def _try(self, t: "Transaction", sleeper: Sleeper, deadline: float, is_first: bool) -> Steps[Optional[Reply]]:
+        """The answer of the call; none where it has lain down."""
+        if self._backend.is_in_turn():
             raise ValueError("a call can't wait inside of `transact`")
+        while True:
+            told = yield from self._look(t, sleeper, is_first)
+            if isinstance(told, REPLIES):
+                return told
+            if told is not None or not is_first:
+                self._check_time(deadline)
+            self._check_alone(sleeper)
+            if told is not None:
+                self._lie_down(t, sleeper, told)
+                return None
+            self._sleepers.look_again(sleeper)
+            is_first = False
+
+    def _look(self, t: "Transaction", sleeper: Sleeper, is_first: bool) -> Steps[Union[Reply, Ahead, None]]:
+        """The answer of the call, or who is in its way; None where somebody let go while the answer was awaited."""
+        x, call = sleeper.asker.object, sleeper.call
         # the transaction may have ended while it slept
         self._backend.check(t)
-        ahead = self._graph.ahead(t._number, t._age, x, call)
+        ahead = self._sleepers.at_gate(sleeper.asker)
         if ahead is not None:
             return Ahead(ahead, True)
-        reply = self._ask(t, x, call, sleeper is None)
+        # only what is free is called again, so that a try is no event
+        reply = None if is_first else cast(Reply, (yield from self._backend.steps_to(lambda: self._backend.would_op(t, x, call))))
+        if not isinstance(reply, Busy):
+            reply = cast(Reply, (yield from self._backend.steps_to(lambda: self._backend.call_op(t, x, call))))
         if not isinstance(reply, Busy):
             return reply
         # or while the answer was awaited
         self._backend.check(t)
         return None if self._backend.is_stale(x, reply.blocker) else Ahead(reply.blocker, False)
 
-    def _ask(self, t: "Transaction", x: int, call: int, is_first: bool) -> Reply:
-        """Calls; but where it isn't the first time only what is free, so that a try is no event."""
-        if not is_first:
-            would = self._backend.would_op(t, x, call)
-            if isinstance(would, Busy):
-                return would
-        return self._backend.call_op(t, x, call)
-
-    def _enter(self, t: "Transaction", x: int, call: int) -> Sleeper:
-        """The call waits from now on."""
-        if t._number in self._graph.sleepers:
+    def _check_alone(self, sleeper: Sleeper) -> None:
+        """Raises `ValueError` where the transaction waits in another thread."""
+        if self._sleepers.calls.get(sleeper.asker.number, sleeper) is not sleeper:
             raise ValueError("the transaction waits already, in another thread")
-        sleeper = Sleeper(t._number, t._age, x, call)
-        self._graph.enter(sleeper)
-        return sleeper
 
     def _check_time(self, deadline: float) -> None:
         """Raises `TimedOut` where the time is over."""
         if time.monotonic() >= deadline:
-            self._counts.timeouts += 1
-            raise TimedOut(TimedOut.__doc__)
+            self._time_out()
+
+    def _time_out(self) -> NoReturn:
+        self._counts.timeouts += 1
+        raise TimedOut(TimedOut.__doc__)
 
     def _lie_down(self, t: "Transaction", sleeper: Sleeper, ahead: Ahead) -> None:
-        """Puts the edge in."""
-        self._graph.put_edge(sleeper, ahead.blocker, ahead.by_gate)
-        self._counts.busy[sleeper.object] += 1
+        """From now on it is woken where it may go."""
+        self._sleepers.lie_down(sleeper, ahead.blocker, ahead.by_gate)
+        self._counts.busy[sleeper.asker.object] += 1
         self._counts.waits += 1
         # who loses the connection marks it first and rings then, so one of the two sees the other
         self._backend.check(t)
 
-    def _sleep(self, sleeper: Sleeper, deadline: float) -> float:
-        """Sleeps outside the lock, and returns how long."""
-        start = time.monotonic()
-        sleeper.bell.sleep(deadline - start)
-        return time.monotonic() - start
-
-    def _wake_up(self, t: "Transaction", sleeper: Sleeper) -> None:
-        """Takes the edge out. The transaction of a victim is aborted, and `Deadlock` raised."""
+    def _get_up(self, t: "Transaction", sleeper: Sleeper, is_rung: bool, slept: float) -> None:
+        """A sleep is over. Raises `TimedOut` where nobody ended it, and of a victim `DeadlockError`, behind its abort."""
         with self._backend.lock:
-            sleeper.blocker, sleeper.by_gate = None, False
-            if not sleeper.is_victim:
+            self._counts.waited += slept
+            if sleeper.waited_for is None:
+                if not is_rung and sleeper.is_asleep:
+                    self._time_out()
                 return
             self._counts.deadlocks += 1
             finish = self._backend.abort(t)
-            t._deadlock = Deadlock(sleeper.waited_for)
+            t._deadlock = DeadlockError(sleeper.waited_for)
         finished(finish)
         raise t._deadlock
 
-    def _get_up(self, sleeper: Sleeper, slept: float) -> None:
-        """The call waits no more."""
-        with self._backend.lock:
-            self._graph.leave(sleeper)
-            self._counts.waited += slept
+    def _leave(self, sleeper: Sleeper) -> None:
+        """The call waits no more. A second time does nothing."""
+        if self._sleepers.calls.get(sleeper.asker.number) is sleeper:
+            with self._backend.lock:
+                self._sleepers.leave(sleeper)
 
     # ---- waiting for an end
 
     def await_end(self, life: int, number: int, seconds: float) -> None:
         """Waits until a transaction has ended, this many seconds at most. The lock isn't held."""
-        with self._backend.lock:
-            if not self._backend.is_open(life, number):
+        self._watch(number, seconds, lambda: self._backend.is_open(life, number))
+
+    def in_room(self, begin: Callable[[], None], seconds: float) -> None:
+        """Begins a transaction. Where too many are open it waits for an end, this many seconds at most, and then begins."""
+        deadline = time.monotonic() + seconds
+        while True:
+            ends = self._backend.ends
+            try:
+                begin()
                 return
-            bell = self._graph.watch(number)
+            except TooManyOpenError:
+                left = deadline - time.monotonic()
+                if left <= 0:
+                    raise
+            self._watch(None, left, lambda: self._backend.ends == ends and not self._backend.is_lost())
+
+    def _watch(self, number: Optional[int], seconds: float, is_to_come: Callable[[], bool]) -> None:
+        """Sleeps until a transaction ends, or any, where that is to come, this many seconds at most."""
+        watch = Watch()
         try:
-            bell.sleep(seconds)
-        finally:
-            with self._backend.lock:
-                self._graph.unwatch(number, bell)
+            try:
+                with self._backend.lock:
+                    self._sleepers.look_on(watch, number)
+                    # who loses the connection marks it first and rings then, so one of the two sees the other
+                    is_sleeping = is_to_come()
+                if is_sleeping:
+                    watch.bell.sleep(seconds)
+            finally:
+                self._look_away(watch)
+        except BaseException:
+            self._look_away(watch)  # also where the first time was interrupted
+            raise
+
+    def _look_away(self, watch: Watch) -> None:
+        with self._backend.lock:
+            self._sleepers.look_away(watch)
 
 
 def finished(finish: Finish) -> None:

@@ -1,7 +1,8 @@
 #!/usr/bin/env python3
-"""clients_bench.py [SECONDS]: how many transactions a second threads do. Lines `name value`, a value a second.
+"""clients_bench.py [SECONDS | herd]: how many transactions a second threads do. Lines `name value`, a value a second.
 
-Each part runs this many seconds (2). Without the program the parts over a child are left out.
+Each part runs this many seconds (2). With `herd` 10 threads, 100, 400 and 800 wait for one object, and each commits as
+soon as it has it. Without the program the parts over a child are left out.
 """
 import os
 import sys
@@ -15,6 +16,21 @@ from colock._opening import find_program
 
 THREADS = 16
 THINK = 0.001
+
+# How many threads wait in `herd`; how many hand-overs there are with each of these numbers; the stack of such a thread.
+HERDS = (10, 100, 400, 800)
+HAND_OVERS = 800
+STACK = 256 * 1024
+
+# A type of one call, which each other one keeps out.
+TOKEN = """type token
+states 1
+initial 0
+op pass ok
+step 0 0 0
+conflict undo 0 0
+end
+"""
 
 # A counter that never ends, whose ups don't hold each other up: takes and gives do.
 TALLY = """type tally
@@ -99,16 +115,59 @@ def told(name, value):
     return value
 
 
-def over_a_child(seconds):
+def program_of_children():
+    """The program that serves a store in a file, or None, with a word on standard error."""
     try:
-        program = find_program(None)
+        return find_program(None)
     except colock.CannotOpen as error:
         print(error, file=sys.stderr)
-        return
+        return None
+
+
+def over_a_child(seconds, program):
     for name, fast in (("child_commits", False), ("child_fast_commits", True)):
         with tempfile.TemporaryDirectory() as folder:
             with Store.open(os.path.join(folder, "bench.db"), [Type(TALLY)], create=True, program=program, fast=fast) as store:
                 told(name, measured(seconds, plain(store)))
+
+
+def handed_over(store, waiting):
+    """How many seconds it takes until all that wait for an object have had it, one after another."""
+    slept, ends = store.stats().waits, []
+
+    def wait():
+        with store.begin() as t:
+            t.call(0, "pass", wait=600).executed()
+        ends.append(time.perf_counter())
+
+    threads = [threading.Thread(target=wait) for _ in range(waiting)]
+    with store.begin() as holder:
+        holder.call(0, "pass").executed()
+        for thread in threads:
+            thread.start()
+        while store.stats().waits < slept + waiting:
+            think()
+        start = time.perf_counter()
+    for thread in threads:
+        thread.join()
+    return max(ends) - start
+
+
+def herd(store, name):
+    for waiting in HERDS:
+        seconds = sum(handed_over(store, waiting) for _ in range(HAND_OVERS // waiting))
+        told(f"{name}_{waiting}", HAND_OVERS / seconds)
+
+
+def herds():
+    threading.stack_size(STACK)
+    with Store([Type(TOKEN)], 100_000_000) as store:
+        herd(store, "herd_store")
+    program = program_of_children()
+    if program is not None:
+        with tempfile.TemporaryDirectory() as folder:
+            with Store.open(os.path.join(folder, "bench.db"), [Type(TOKEN)], create=True, program=program) as store:
+                herd(store, "herd_child_store")
 
 
 def one_thread(seconds):
@@ -124,8 +183,7 @@ def one_thread(seconds):
     return count / (time.perf_counter() - start)
 
 
-def main():
-    seconds = float(sys.argv[1]) if len(sys.argv) > 1 else 2.0
+def throughput(seconds):
     told("commands_of_one_thread", one_thread(seconds))
     lock = told("lock_commits", measured(seconds, with_a_lock()))
     with Store([Type(TALLY)], 100_000_000) as store:
@@ -134,7 +192,16 @@ def main():
         mixed = told("take_and_give_commits", measured(seconds, takes_and_gives(store)))
     print("up_over_lock", f"{ups / lock:.1f}")
     print("take_and_give_over_lock", f"{mixed / lock:.1f}")
-    over_a_child(seconds)
+    program = program_of_children()
+    if program is not None:
+        over_a_child(seconds, program)
+
+
+def main():
+    if sys.argv[1:] == ["herd"]:
+        herds()
+    else:
+        throughput(float(sys.argv[1]) if len(sys.argv) > 1 else 2.0)
 
 
 if __name__ == "__main__":

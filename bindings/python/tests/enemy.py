@@ -222,7 +222,7 @@ def waits(turn):
             turn.some(t)
             if turn.source.random() < 0.1:
                 raise GaveUp
-    except (colock.Deadlock, colock.TimedOut, GaveUp):
+    except (colock.DeadlockError, colock.TimedOut, GaveUp):
         return
     turn.note(t)
 
@@ -236,7 +236,7 @@ def goes_on(turn):
         except colock.TimedOut:
             if turn.source.random() < 0.3:
                 turn.roll_back(t)
-        except colock.Deadlock:
+        except colock.DeadlockError:
             return
     t.commit()
     turn.note(t)
@@ -247,7 +247,7 @@ def long_waits(turn):
     try:
         with turn.begin() as t:
             turn.some(t, 30)
-    except colock.Deadlock:
+    except colock.DeadlockError:
         return
     turn.note(t)
 
@@ -262,7 +262,7 @@ def tried(turn, wait):
 
     try:
         turn.store.retry(f, tries=turn.source.randint(1, 10), worker=turn.said_worker)
-    except (colock.WasBusy, colock.Deadlock, colock.TimedOut):
+    except (colock.BusyError, colock.DeadlockError, colock.TimedOut):
         return
     turn.note(begun[0])
 
@@ -280,7 +280,7 @@ def tried_without_waits(turn):
 
     try:
         turn.store.retry(f, tries=turn.source.randint(1, 5), worker=turn.said_worker)
-    except colock.WasBusy:
+    except colock.BusyError:
         return
     turn.note(begun[0])
 
@@ -337,9 +337,9 @@ def check(work, events):
 
 def check_rest(store, transactions):
     """Nobody is asleep, and nothing is open. Raises `Stuck`."""
-    graph = store._backend.graph
-    if store.open_count() or graph.sleepers or graph.watchers or graph._gates:
-        raise Stuck(f"{store.open_count()} are open, {len(graph.sleepers)} asleep, {len(graph.watchers)} watched")
+    sleepers = store._backend.sleepers
+    if store.open_count() or not sleepers.is_bare():
+        raise Stuck(f"{store.open_count()} are open, {len(sleepers.calls)} asleep, or something is left of those that were")
     if store.stats().commits == 0 and transactions > 100:
         raise Stuck("nothing was committed")
 

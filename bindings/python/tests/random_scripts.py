@@ -46,7 +46,7 @@ def command(store, begun, words):
         return
     number = int(words[1])
     if number >= len(begun):
-        raise colock.NotOpen
+        raise colock.NotOpenError
     if words[0] == "call":
         call(store, begun[number], int(words[2]), words[3])
     elif words[0] == "rollback":
@@ -75,8 +75,8 @@ def run(path, type_paths):
             refused = ""
             try:
                 command(store, begun, words)
-            except colock.ColockError as error:
-                name = type(error).__name__
+            except colock.Error as error:
+                name = type(error).__name__.replace("Error", "")
                 refused = f"# refused {REFUSALS.index(name) + 1} {name}\n"
             events = store.events(told)
             told += len(events)

@@ -9,6 +9,7 @@ import tempfile
 import threading
 import time
 import unittest
+import warnings
 from contextlib import closing
 
 import colock
@@ -90,12 +91,18 @@ def write_id(path, id):
         file.execute("INSERT INTO store VALUES (0, 3, ?, 5)", [bytes.fromhex(id)])
 
 
+def quietly():
+    """Tests let transactions go that are open: only those of the warnings hear of it."""
+    warnings.filterwarnings("ignore", "transaction .* is let go", ResourceWarning)
+
+
 class InMemory:
     """Stores in memory."""
 
     is_child = False
 
     def make(self, types, max_events=1_000_000):
+        quietly()
         store = colock.Store(types, max_events)
         self.addCleanup(store.close)
         return store
@@ -107,6 +114,7 @@ class OverChild:
     is_child = True
 
     def make(self, types, **options):
+        quietly()
         path = os.path.join(folder_of(self), "test.db")
         store = colock.Store.open(path, types, create=True, program=program(), **options)
         self.addCleanup(store.close)
@@ -151,6 +159,11 @@ def asleep(store, count):
     until(lambda: sum(store.stats().busy) >= count, f"sleep {count}")
 
 
+def behind(store, t, other):
+    """Waits until a transaction waits for another one."""
+    until(lambda: store._backend.sleepers.waits_for(t.number) == other.number, "the wait")
+
+
 class Timed:
     """How long something took."""
 
@@ -160,6 +173,14 @@ class Timed:
 
     def __exit__(self, *raised):
         self.seconds = time.monotonic() - self.start
+
+
+def closed(store):
+    """Closes a store whose program may be gone, or may not know how to end."""
+    try:
+        store.close()
+    except colock.ConnectionLost:
+        pass
 
 
 def pid_of(store):
@@ -227,13 +248,5 @@ class Fakes(unittest.TestCase):
     def open(self, body, limit=SOON, path="nothing.db", archive=None):
         """A store that this program serves."""
         store = colock.Store.open(path, program=self.fake(body), limit=limit, archive=archive)
-        self.addCleanup(self.closed, store)
+        self.addCleanup(closed, store)
         return store
-
-    @staticmethod
-    def closed(store):
-        """Closes a store whose program may not know how to end."""
-        try:
-            store.close()
-        except colock.ConnectionLost:
-            pass

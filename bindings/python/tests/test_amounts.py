@@ -11,27 +11,27 @@ import colock
 from colock import Busy, Event, EventKind, Kind, Operation, Type
 from colock._operations import number_of, parts_of
 
-TAKE_100 = Operation(0, "ok")
+TAKE_100 = Operation("take:100", "ok", 0)
 
 
 def take(amount):
-    return Operation(2, "ok", amount)
+    return Operation(f"take:{amount}", "ok", 2, amount)
 
 
 def short(amount):
-    return Operation(3, "short", amount)
+    return Operation(f"take:{amount}", "short", 3, amount)
 
 
 def give(amount):
-    return Operation(4, "ok", amount)
+    return Operation(f"give:{amount}", "ok", 4, amount)
 
 
 def full(amount):
-    return Operation(5, "full", amount)
+    return Operation(f"give:{amount}", "full", 5, amount)
 
 
 def value(amount):
-    return Operation(6, str(amount), amount)
+    return Operation("value", str(amount), 6, amount)
 
 
 NO_CALLS = ("take:0", "take:007", "take:10001", "take:4294967313", "take:any", "take:", "take", "take:+7", "take:\u0661", "give:any", "value:500", "500", "")
@@ -138,19 +138,20 @@ class AmountsInMemory(support.InMemory, Amounts, unittest.TestCase):
         t.commit()
         other.follow(store.events())
         self.assertEqual((other.events(), other.kept(0)), (store.events(), 486))
-        other.begin()
+        held = other.begin()
         illegal = [(2, 487), (6, 487), (2, 100), (2, 0), (2, None), (6, None), (0, 100)]
         for place, amount in illegal:
-            with self.assertRaises(colock.NotFollowed) as raised:
+            with self.assertRaises(colock.NotFollowedError) as raised:
                 other.follow([Event(EventKind.OP, 0, 1, 0, place, 0, amount)])
             self.assertEqual(raised.exception.made, 0)
         # a call without a reply is told by its place alone
-        self.assertRaises(colock.NotFollowed, other.follow, [Event(EventKind.BUSY, 0, 1, 0, 6, 0, 0)])
+        self.assertRaises(colock.NotFollowedError, other.follow, [Event(EventKind.BUSY, 0, 1, 0, 6, 0, 0)])
         other.follow([Event(EventKind.OP, 0, 1, 0, 2, 0, 486)])
         self.assertEqual(other.event_count(), 7)
         event = store.events()[1]
         for wrong in (event._replace(op=256), event._replace(amount=1 << 32), event._replace(amount=-1), event._replace(op=-1)):
             self.assertRaises(OverflowError, other.follow, [wrong])
+        held.abort()
 
     def test_it_is_exact(self):
         """A call is busy exactly where something that may still happen would make illegal what is open."""
@@ -235,8 +236,8 @@ class Words(unittest.TestCase):
             self.assertEqual((number_of(*parts), parts_of(number)), (number, parts))
 
     def test_operations(self):
-        self.assertEqual((str(TAKE_100), TAKE_100.number, TAKE_100.amount), ("Operation(place=0, reply='ok')", 0, None))
-        self.assertEqual((str(take(17)), take(17).number), ("Operation(place=2, reply='ok', amount=17)", 4610))
+        self.assertEqual((str(TAKE_100), TAKE_100.number, TAKE_100.amount), ("Operation('take:100', 'ok', place=0)", 0, None))
+        self.assertEqual((str(take(17)), take(17).number), ("Operation('take:17', 'ok', place=2, amount=17)", 4610))
         self.assertEqual((value(0).number, hash(take(17)) == hash(take(17)), take(17) == take(18)), (262, True, False))
 
 

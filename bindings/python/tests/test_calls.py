@@ -1,11 +1,13 @@
 """What holds of a store in memory and of one in a file: calls, and what isn't done."""
 import unittest
+from unittest import mock
 
+from executed import Executed
 import support
 from support import SOON, Run
 
 import colock
-from colock import Busy, Illegal, Operation, Type
+from colock import Busy, Illegal, Type, _child, _memory
 
 COUNTER = Type.counter(2, [1])
 
@@ -17,7 +19,7 @@ class Calls:
         store = self.make([COUNTER] * 2)
         t, u = store.begin(), store.begin()
         self.assertEqual((t.number, u.number), (0, 1))
-        self.assertEqual((t.would(0, "inc:1"), t.call(0, "inc:1")), (Operation(0, "ok"), Operation(0, "ok")))
+        self.assertEqual((t.would(0, "inc:1"), t.call(0, "inc:1")), (Executed(0, "ok"), Executed(0, "ok")))
         self.assertEqual((u.would_op(0, 1), u.call(0, "dec:1"), u.call_op(1, 1)), (Busy(0), Busy(0), Illegal()))
         t.rollback(1)
         self.assertEqual((store.kept(0), store.open_count(), store.event_count()), (0, 2, 6))
@@ -46,7 +48,7 @@ class Calls:
             self.assertRaises(colock.BadRollback, t.rollback, operations)
         t.commit()
         for gone in (t.commit, t.abort, lambda: t.rollback(1), lambda: t.call(0, "inc:1"), lambda: t.would(0, "inc:1"), lambda: t.call(0, "inc:1", wait=1)):
-            self.assertRaises(colock.NotOpen, gone)
+            self.assertRaises(colock.NotOpenError, gone)
 
     def test_numbers_are_not_cut(self):
         store = self.make([COUNTER] * 2)
@@ -81,6 +83,21 @@ class Calls:
             t.commit()
         self.assertEqual([str(event) for event in store.events()[-2:]], ["begin 0 3", "commit 0 3"])
 
+    def test_events_are_read_outside_the_lock(self):
+        store, asked = self.make([COUNTER]), []
+        store.begin().commit()
+        where, name = (_child, "read_event") if self.is_child else (_memory, "event_of")
+        read = getattr(where, name)
+
+        def slowly(words):
+            """Reads an event while another thread asks the store."""
+            asked.append(Run(store.kept, 0).result())
+            return read(words)
+
+        with mock.patch.object(where, name, slowly):
+            self.assertEqual([str(event) for event in store.events()], ["begin 0 0", "commit 0 0"])
+        self.assertEqual(asked, [0, 0])
+
     def test_use_after_close(self):
         with self.make([COUNTER]) as store:
             t = store.begin()
@@ -91,15 +108,15 @@ class Calls:
             lambda: t.would_op(0, 0), lambda: t.rollback(1), lambda: t.call(0, "inc:1", wait=1), lambda: store.committed("0.0"),
             lambda: store.retry(lambda t: None), lambda: store.transact(lambda t: None),
         ):
-            self.assertRaises(colock.Closed, act)
+            self.assertRaises(colock.ClosedError, act)
         self.assertEqual(store.stats().commits, 0)
 
     def test_replies_that_were_executed(self):
         store = self.make([COUNTER])
         t, u = store.begin(), store.begin()
-        self.assertRaises(colock.WasIllegal, t.call(0, "dec:1").executed)
-        self.assertEqual(t.call(0, "inc:1").executed(), Operation(0, "ok"))
-        with self.assertRaises(colock.WasBusy) as raised:
+        self.assertRaises(colock.IllegalError, t.call(0, "dec:1").executed)
+        self.assertEqual(t.call(0, "inc:1").executed(), Executed(0, "ok"))
+        with self.assertRaises(colock.BusyError) as raised:
             u.call(0, "dec:1").executed()
         self.assertEqual(raised.exception.blocker, 0)
 

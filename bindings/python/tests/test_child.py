@@ -3,17 +3,19 @@ import gc
 import os
 import shutil
 import signal
+import socket
 import subprocess
 import sys
 import time
 import unittest
 from unittest import mock
 
+from executed import Executed
 import support
 from support import FIVE, SOON, TWO, Run, Timed, asleep, folder_of, id_of, is_running, pid_of, program, until
 
 import colock
-from colock import Kind, Operation, Store, Type
+from colock import Kind, Store, Type
 
 COUNTER = Type.counter(1000, [1])
 # This many seconds an answer may take, where a test has none come: a program has to start in less.
@@ -28,8 +30,13 @@ class Files(unittest.TestCase):
     def open(self, *arguments, **options):
         """The store of this test's folder."""
         store = Store.open(self.path, *arguments, program=program(), **options)
-        self.addCleanup(store.close)
+        self.addCleanup(support.closed, store)
         return store
+
+    def kill(self, store):
+        """The program is killed, and it is seen."""
+        os.kill(pid_of(store), signal.SIGKILL)
+        until(lambda: store._backend._connection.lost is not None, "the loss")
 
     def up(self, store, count=1):
         """Counts object 0 up, each time in a transaction; their ids."""
@@ -71,9 +78,9 @@ class Opening(Files):
             self.assertEqual([of._compared() for of in made], [of._compared() for of in types])
             self.assertIs(made[0], made[8])
             with store.begin() as t:
-                self.assertEqual(t.call(4, "insert:-a"), Operation(0, "ok"))
-                self.assertEqual([t.call(6, "get"), t.call(6, "put")], [colock.Illegal(), Operation(0, "ok")])
-                self.assertEqual((t.call(12, "give:250"), t.call(13, "take:17")), (Operation(2, "ok"), Operation(2, "ok", 17)))
+                self.assertEqual(t.call(4, "insert:-a"), Executed(0, "ok"))
+                self.assertEqual([t.call(6, "get"), t.call(6, "put")], [colock.Illegal(), Executed(0, "ok")])
+                self.assertEqual((t.call(12, "give:250"), t.call(13, "take:17")), (Executed(2, "ok"), Executed(2, "ok", 17)))
             self.assertEqual([store.kept(x) for x in (9, 10, 11, 12, 13)], [3, 0, 2, 250, 483])
 
     def test_other_objects(self):
@@ -157,13 +164,36 @@ class Opening(Files):
                 events = store.events(1)
         self.assertEqual((len(events), str(events[0]), str(events[-1])), (101, "op 0 0 0 0", "commit 0 0"))
 
+    def test_a_close_between_two_answers(self):
+        store = self.open([Type(TWO)], create=True, fast=True, limit=LIMIT)
+        with store.begin() as t:
+            for _ in range(100):
+                t.call(0, "take")
+        connection = store._backend._connection
+        wait, pipe, strangers = connection.wait, connection._process.stdin.fileno(), []
+
+        def wait_and_close(slot):
+            """Behind the first answer another thread closes the store, and sockets get the numbers of its pipe."""
+            answer = wait(slot)
+            if slot.is_list and not strangers:
+                Run(store.close).result()
+                strangers.extend(end for _ in range(8) for end in socket.socketpair())
+            return answer
+
+        with mock.patch("colock._child.MOST_TOLD", 40), mock.patch.object(store._backend, "answer", wait_and_close):
+            self.assertRaises(colock.ClosedError, store.events)
+        self.assertIn(pipe, [end.fileno() for end in strangers])
+        for end in strangers:
+            self.addCleanup(end.close)
+            end.setblocking(False)
+            self.assertRaises(BlockingIOError, end.recv, 100)
+
 
 class Outcomes(Files):
     def killed(self, store):
         """The program is killed, and the store closed."""
-        os.kill(pid_of(store), signal.SIGKILL)
-        until(lambda: store._backend._connection.lost is not None, "the loss")
-        store.close()
+        self.kill(store)
+        support.closed(store)
 
     def test_the_life_before(self):
         store = self.open([COUNTER], create=True)
@@ -265,9 +295,8 @@ class Outcomes(Files):
                 run.result()
             self.assertEqual(raised.exception.id, t.id)
         self.assertRaises(colock.ConnectionLost, runs[2].result)
-        for act in (store.begin, lambda: store.kept(0), begun[0].commit, store.events, lambda: store.committed(ids[0]), lambda: begun[0].call(0, "inc:1")):
+        for act in (store.begin, lambda: store.kept(0), begun[0].commit, store.events, lambda: store.committed(ids[0]), lambda: begun[0].call(0, "inc:1"), store.close):
             self.assertRaises(colock.ConnectionLost, act)
-        store.close()
         with self.open() as store:
             # the program was stopped before it could read them
             self.assertEqual([store.committed(t.id) for t in begun], [False, False])
@@ -282,7 +311,7 @@ class Outcomes(Files):
                 told.append(t.id)
         except colock.OutcomeUnknown as error:
             unknown.append(error.id)
-        except (colock.ConnectionLost, colock.Closed):
+        except (colock.ConnectionLost, colock.ClosedError):
             pass  # the program is gone, and by then the store may be closed too
 
     @unittest.skipIf(support.QUICK, "it takes seconds")
@@ -359,6 +388,29 @@ class Losses(Files):
         self.assertFalse(is_running(pid_of(store)))
         self.assertEqual(store._backend._connection.lost, None)
 
+    def test_a_close_of_what_is_lost_says_so(self):
+        store = self.open([COUNTER], create=True)
+        self.up(store)
+        self.kill(store)
+        with self.assertRaises(colock.ConnectionLost) as raised:
+            store.close()
+        self.assertIn("SIGKILL", raised.exception.words)
+        store.close()
+
+    def test_a_with_of_what_is_lost_says_so(self):
+        for raised, told in [
+            (None, colock.ConnectionLost), (SystemExit(0), colock.ConnectionLost), (ValueError(), colock.ConnectionLost),
+            # what says it already, or more than it
+            (colock.OutcomeUnknown("1.0"), colock.OutcomeUnknown), (colock.ConnectionLost("so"), colock.ConnectionLost),
+        ]:
+            with self.assertRaises(told) as seen:
+                with self.open([COUNTER], create=True) as store:
+                    self.kill(store)
+                    if raised is not None:
+                        raise raised
+            if raised is not None:
+                self.assertIs(seen.exception if isinstance(raised, told) else seen.exception.__context__, raised)
+
 
 CLIENT = """
 import os, signal, sys, time
@@ -399,6 +451,19 @@ class Processes(Files):
         with self.open() as store:
             self.assertEqual(store.kept(0), 1)
 
+    def test_a_term_to_the_group(self):
+        client = self.client(
+            "def stop(*_):\n    raise SystemExit\n"
+            "signal.signal(signal.SIGTERM, stop)\n"
+            "try:\n    print('ready', flush=True)\n    time.sleep(60)\n"
+            "except SystemExit:\n    time.sleep(0.2)\n    t.commit()\n    store.close()\n    print('committed', flush=True)\n"
+        )
+        self.assertEqual(client.stdout.readline(), "ready\n")
+        os.killpg(client.pid, signal.SIGTERM)
+        self.assertEqual(client.stdout.readline(), "committed\n")
+        with self.open() as store:
+            self.assertEqual((store.kept(0), store.events()), (1, []))
+
     def test_ctrl_c_in_a_wait(self):
         client = self.client(
             "u = store.begin()\n"
@@ -417,7 +482,7 @@ class Processes(Files):
         client = self.client(
             "served = store._backend._connection._process.pid\n"
             "if os.fork():\n    os._exit(0)\n"
-            "try:\n    store.begin()\nexcept colock.Closed:\n    print('closed', served, flush=True)\n"
+            "try:\n    store.begin()\nexcept colock.ClosedError:\n    print('closed', served, flush=True)\n"
             "store.close()\nsys.stdin.read()\n"
         )
         words = client.stdout.readline().split()

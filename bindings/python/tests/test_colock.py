@@ -8,6 +8,7 @@ import sys
 import threading
 import unittest
 
+from executed import Executed
 from support import FIVE
 
 import colock
@@ -191,14 +192,14 @@ class Stores(unittest.TestCase):
             self.assertRaises(colock.BadMax, Store, [counter], limit)
         self.assertRaises(colock.TooManyObjects, Store, [counter] * 257, 9)
         with Store([counter] * 256, 9) as store, store.begin() as t:
-            self.assertEqual(t.call(255, "inc:1"), Operation(0, "ok"))
+            self.assertEqual(t.call(255, "inc:1"), Executed(0, "ok"))
             self.assertRaises(colock.NoObject, t.call, 256, "inc:1")
 
     def test_calls(self):
         store = counters(2)
         t, u = store.begin(3), store.begin(4)
         self.assertEqual((t.number, u.number), (0, 1))
-        self.assertEqual((t.would(0, "inc:1"), t.call(0, "inc:1")), (Operation(0, "ok"), Operation(0, "ok")))
+        self.assertEqual((t.would(0, "inc:1"), t.call(0, "inc:1")), (Executed(0, "ok"), Executed(0, "ok")))
         self.assertEqual((u.would_op(0, 1), u.call(0, "dec:1"), u.call_op(1, 1)), (Busy(0), Busy(0), Illegal()))
         for call in (t.call, t.would):
             self.assertRaises(colock.NoObject, call, 2, "inc:1")
@@ -215,13 +216,13 @@ class Stores(unittest.TestCase):
         t.rollback(1)
         self.assertEqual((store.kept(0), store.open_count()), (0, 2))
         self.assertRaises(colock.NoObject, store.kept, 2)
-        self.assertRaises(colock.StillOpen, store.renew)
+        self.assertRaises(colock.StillOpenError, store.renew)
         t.commit()
         u.abort()
         wanted = ["begin 3 0", "begin 4 1", "op 3 0 0 0", "busy 4 1 0 1 0", "none 4 1 1 1", "rollback 3 0 1", "commit 3 0", "abort 4 1"]
         self.assertEqual(list(map(str, store.events())), wanted)
         for gone in (t.commit, t.abort, lambda: t.rollback(1), lambda: t.call(0, "inc:1"), lambda: t.would(0, "inc:1")):
-            self.assertRaises(colock.NotOpen, gone)
+            self.assertRaises(colock.NotOpenError, gone)
 
     def test_with(self):
         store = counters()
@@ -242,7 +243,7 @@ class Stores(unittest.TestCase):
             with store.begin():
                 store.abort_all()
                 raise KeyError
-        with self.assertRaises(colock.NotOpen):
+        with self.assertRaises(colock.NotOpenError):
             with store.begin():
                 store.abort_all()
 
@@ -252,10 +253,10 @@ class Stores(unittest.TestCase):
         t = store.begin()
         counter.close()
         counter.close()
-        self.assertRaises(colock.Closed, counter.step, 0, 0)
-        self.assertRaises(colock.Closed, counter.conflicts, 0, 0)
-        self.assertRaises(colock.Closed, Store, [counter], 100)
-        self.assertEqual(t.call(0, "inc:1"), Operation(0, "ok"))
+        self.assertRaises(colock.ClosedError, counter.step, 0, 0)
+        self.assertRaises(colock.ClosedError, counter.conflicts, 0, 0)
+        self.assertRaises(colock.ClosedError, Store, [counter], 100)
+        self.assertEqual(t.call(0, "inc:1"), Executed(0, "ok"))
         store.close()
         store.close()
         for act in (
@@ -264,7 +265,7 @@ class Stores(unittest.TestCase):
             lambda: store.follow([]), lambda: t.call(0, "inc:1"), lambda: t.call_op(0, 0), lambda: t.would(0, "inc:1"),
             lambda: t.would_op(0, 0), lambda: t.rollback(1),
         ):
-            self.assertRaises(colock.Closed, act)
+            self.assertRaises(colock.ClosedError, act)
 
     def test_numbers_are_not_cut(self):
         store = counters(2)
@@ -299,7 +300,7 @@ class Stores(unittest.TestCase):
     def test_limits(self):
         store = counters(1, 1_000_000)
         begun = [store.begin() for _ in range(1024)]
-        self.assertRaises(colock.TooManyOpen, store.begin)
+        self.assertRaises(colock.TooManyOpenError, store.begin)
         begun[500].abort()
         self.assertEqual(store.begin().number, 1024)
         store.abort_all()
@@ -308,9 +309,9 @@ class Stores(unittest.TestCase):
         t = full.begin()
         t.call(0, "inc:1")
         t.call(0, "inc:1")
-        self.assertRaises(colock.HistoryFull, t.call, 0, "dec:1")
-        self.assertRaises(colock.HistoryFull, t.rollback, 1)
-        self.assertRaises(colock.HistoryFull, full.begin)
+        self.assertRaises(colock.HistoryFullError, t.call, 0, "dec:1")
+        self.assertRaises(colock.HistoryFullError, t.rollback, 1)
+        self.assertRaises(colock.HistoryFullError, full.begin)
         t.commit()
 
     def test_events(self):
@@ -326,10 +327,10 @@ class Stores(unittest.TestCase):
         other = counters()
         other.follow(events)
         self.assertEqual((other.kept(0), other.events()), (1, events))
-        with self.assertRaises(colock.NotFollowed) as raised:
+        with self.assertRaises(colock.NotFollowedError) as raised:
             counters().follow([events[0], events[1], events[4], events[4]])
         self.assertEqual(raised.exception.made, 3)
-        self.assertIsInstance(raised.exception.__cause__, colock.NotMade)
+        self.assertIsInstance(raised.exception.__cause__, colock.NotMadeError)
 
     def test_a_new_life(self):
         store = counters()
@@ -340,7 +341,7 @@ class Stores(unittest.TestCase):
         new = store.begin()
         self.assertEqual(new.number, 0)
         for act in (t.commit, t.abort, lambda: t.call(0, "inc:1"), lambda: t.would_op(0, 0)):
-            self.assertRaises(colock.NotOpen, act)
+            self.assertRaises(colock.NotOpenError, act)
         new.commit()
 
     def test_memory_comes_back(self):
@@ -392,7 +393,7 @@ class Threads(unittest.TestCase):
                 while True:
                     with store.begin() as t:
                         t.would(0, "inc:1")
-            except colock.Closed:
+            except colock.ClosedError:
                 closed.append(True)
 
         threads = [threading.Thread(target=work) for _ in range(4)]

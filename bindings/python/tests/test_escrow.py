@@ -5,14 +5,15 @@ import time
 import unittest
 
 import enemy
+from executed import Executed
 import support
 from support import FIVE, LONG, SOON, Run, asleep, folder_of, program
 
 import colock
 from colock import Busy, Illegal, Kind, Operation, Type
 
-GIVE, TAKE, SHORT = Operation(0, "ok"), Operation(1, "ok"), Operation(2, "short")
-UP, DOWN = Operation(0, "ok"), Operation(1, "ok")
+GIVE, TAKE, SHORT = Executed(0, "ok"), Executed(1, "ok"), Executed(2, "short")
+UP, DOWN = Executed(0, "ok"), Executed(1, "ok")
 
 
 class Numbers:
@@ -160,7 +161,7 @@ class Waits:
         self.assertEqual((t.call(0, "dec:1"), u.call(1, "dec:1")), (DOWN, DOWN))
         older = Run(t.call, 1, "dec:1", LONG)
         asleep(store, 1)
-        with self.assertRaises(colock.Deadlock) as raised:
+        with self.assertRaises(colock.DeadlockError) as raised:
             u.call(0, "dec:1", wait=LONG)
         self.assertEqual((raised.exception.blocker, older.result()), (t.number, DOWN))
         t.commit()
@@ -264,7 +265,7 @@ class LetsGo:
             give.commit()
             try:
                 giving.result().executed()
-            except colock.NotOpen:  # the commit was first
+            except colock.NotOpenError:  # the commit was first
                 self.caller(store, "inc:5").commit()
             waiting.result().executed()
             u.abort()
@@ -359,7 +360,7 @@ class EscrowInMemory(support.InMemory, Numbers, Waits, LetsGo, unittest.TestCase
     def test_it_begins_anew(self):
         store, t = self.number(1)
         t.call(0, "give:1")
-        self.assertRaises(colock.StillOpen, store.renew)
+        self.assertRaises(colock.StillOpenError, store.renew)
         t.commit()
         events = store.events()
         store.renew()

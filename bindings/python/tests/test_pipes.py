@@ -2,11 +2,12 @@
 import os
 import unittest
 
+from executed import Executed
 import support
 from support import LONG, SOON, Run, Timed, asleep, is_running, pid_of, until
 
 import colock
-from colock import Busy, Event, EventKind, Operation
+from colock import Busy, Event, EventKind
 from colock._operations import number_of
 
 # This many seconds an answer may take, where a test has none come: a program has to start in less.
@@ -31,8 +32,8 @@ class Amounts(support.Fakes):
         store = self.open(self.answering(told))
         t = store.begin()
         short = number_of(2, 501)
-        self.assertEqual((t.call(0, "take:17"), t.call_op(0, short), t.call(0, "value")), (Operation(2, "ok", 17), Operation(3, "short", 501), Operation(6, "483", 483)))
-        self.assertEqual((t.call(0, "take:100"), t.would(0, "give:3")), (Operation(0, "ok"), Busy(7)))
+        self.assertEqual((t.call(0, "take:17"), t.call_op(0, short), t.call(0, "value")), (Executed(2, "ok", 17), Executed(3, "short", 501), Executed(6, "483", 483)))
+        self.assertEqual((t.call(0, "take:100"), t.would(0, "give:3")), (Executed(0, "ok"), Busy(7)))
         # these aren't asked at all
         for name in ("take:0", "take:007", "take:10001", "take:any"):
             self.assertRaises(colock.NoCall, t.call, 0, name)
@@ -155,7 +156,7 @@ class Pipes(support.Fakes):
     def test_refusals(self):
         kinds = ["TooManyOpen", "HistoryFull", "NoMemory", "NoObject"]
         store = self.open(f"kinds = {kinds}\nfor tag, words in opened():\n    say(f'{{tag}} refused {{kinds.pop(0)}}\\n')")
-        for kind, act in [(colock.TooManyOpen, store.begin), (colock.HistoryFull, store.begin), (colock.NoMemory, store.begin), (colock.NoObject, lambda: store.kept(0))]:
+        for kind, act in [(colock.TooManyOpenError, store.begin), (colock.HistoryFullError, store.begin), (colock.NoMemory, store.begin), (colock.NoObject, lambda: store.kept(0))]:
             self.assertRaises(kind, act)
 
     def test_commits_that_arent_answered(self):
@@ -207,11 +208,11 @@ class Pipes(support.Fakes):
         waiting = Run(u.call, 0, "give", LONG)
         asleep(store, 2)
         v = store.begin()
-        self.assertRaises(colock.EpochEnded, waiting.result)
+        self.assertRaises(colock.EpochEndedError, waiting.result)
         for old in (t, u):
             for act in (old.commit, old.abort, lambda: old.call(0, "take"), lambda: old.rollback(1)):
-                self.assertRaises(colock.EpochEnded, act)
-        self.assertEqual((v.id, v.call(0, "take")), ("6.0", Operation(0, "ok")))
+                self.assertRaises(colock.EpochEndedError, act)
+        self.assertEqual((v.id, v.call(0, "take")), ("6.0", Executed(0, "ok")))
         v.commit()
         self.assertEqual((store.stats().aborts, store.stats().commits), (2, 1))
 
@@ -269,13 +270,13 @@ class Pipes(support.Fakes):
             body = f"count = 0\nfor tag, words in opened():\n    say(f'{{tag}} refused NotOpen\\n' if words[0] == '{verb}' else f'{{tag}} ok 5.{{count}}\\n')\n    count += 1"
             store = self.open(body)
             t, u = store.begin(), store.begin()
-            self.assertRaises(colock.EpochEnded, act, t)
-            self.assertRaises(colock.EpochEnded, u.call, 0, "take")
+            self.assertRaises(colock.EpochEndedError, act, t)
+            self.assertRaises(colock.EpochEndedError, u.call, 0, "take")
 
     def test_an_epoch_that_ends_is_tried_again(self):
         body = "answers = ['ok 5.0', 'refused NotOpen', 'ok 6.0', 'reply ok', 'ok']\nfor tag, words in opened():\n    say(f'{tag} {answers.pop(0) if answers else \"ok\"}\\n')"
         store, tried = self.open(body), []
-        self.assertEqual(store.retry(lambda t: (tried.append(t.id), t.call(0, "take"))[1]), Operation(0, "ok"))
+        self.assertEqual(store.retry(lambda t: (tried.append(t.id), t.call(0, "take"))[1]), Executed(0, "ok"))
         self.assertEqual(tried, ["5.0", "6.0"])
 
     def test_a_commit_wakes_before_it_is_durable(self):
@@ -293,7 +294,7 @@ class Pipes(support.Fakes):
         waiting = Run(u.call, 0, "give", LONG)
         asleep(store, 1)
         t.commit()
-        self.assertEqual((waiting.result(), store.stats().commits), (Operation(1, "ok"), 1))
+        self.assertEqual((waiting.result(), store.stats().commits), (Executed(1, "ok"), 1))
 
     def test_a_rollback_that_overtakes_an_answer(self):
         # the rollback is sent while the busy answer is on its way, so the answer is of before it
@@ -313,7 +314,16 @@ class Pipes(support.Fakes):
         waiting = Run(u.call, 0, "give", LONG)
         until(lambda: len(store._backend._connection._requests) == 1, "the call")
         t.rollback(1)
-        self.assertEqual((waiting.result(), store.stats().waits), (Operation(1, "ok"), 0))
+        self.assertEqual((waiting.result(), store.stats().waits), (Executed(1, "ok"), 0))
+
+    def test_a_blocker_that_isnt_open_here(self):
+        # the program holds what the client believes ended: the wait ends at its limit all the same
+        body = "for tag, words in opened():\n    say(f'{tag} ' + {'begin': 'ok 5.0', 'call': 'busy 5.9', 'would': 'busy 5.9'}.get(words[0], 'ok') + '\\n')"
+        t = self.open(body).begin()
+        with Timed() as timed:
+            self.assertRaises(colock.TimedOut, Run(t.call, 0, "take", 0.3).result, 5)
+        self.assertLess(timed.seconds, 5)
+        t.abort()
 
 
 if __name__ == "__main__":

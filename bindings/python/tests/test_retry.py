@@ -3,13 +3,14 @@ import math
 import time
 import unittest
 
+from executed import Executed
 import support
 from support import LONG, TWO, Run, asleep
 
 import colock
-from colock import Busy, Operation, Type
+from colock import Busy, Type
 
-TAKE, GIVE = Operation(0, "ok"), Operation(1, "ok")
+TAKE, GIVE = Executed(0, "ok"), Executed(1, "ok")
 COUNTER = Type.counter(2, [1])
 
 
@@ -32,7 +33,7 @@ class Retries:
             tried.append(u.number)
             u.call(0, "give").executed()
 
-        self.assertRaises(colock.WasBusy, store.retry, give, 3)
+        self.assertRaises(colock.BusyError, store.retry, give, 3)
         self.assertEqual((tried, store.stats().aborts, store.open_count()), ([1, 2, 3], 3, 1))
         self.assertRaises(colock.TimedOut, store.retry, lambda u: u.call(0, "give", wait=0.001), 2)
         for wrong in ({"tries": 0}, {"backoff": -1.0}, {"backoff": math.nan}):
@@ -60,7 +61,7 @@ class Retries:
             raise KeyError
 
         self.assertRaises(KeyError, store.retry, fail)
-        self.assertRaises(colock.WasIllegal, store.retry, lambda t: t.call(0, "dec:1").executed())
+        self.assertRaises(colock.IllegalError, store.retry, lambda t: t.call(0, "dec:1").executed())
         self.assertEqual((len(tried), store.kept(0), store.open_count()), (1, 0, 0))
 
     def test_the_first_age_is_kept(self):
@@ -72,14 +73,14 @@ class Retries:
                 # it begins after t, and before the second try
                 others.append(store.begin())
                 others[0].call(1, "take")
-                raise colock.WasBusy(0)
+                raise colock.BusyError(0)
             t.call(0, "take")
             others.append(Run(others[0].call, 0, "give", LONG))
             asleep(store, 1)
             return t.call(1, "give", wait=LONG)
 
         self.assertEqual(store.retry(f), GIVE)
-        self.assertRaises(colock.Deadlock, others[1].result)
+        self.assertRaises(colock.DeadlockError, others[1].result)
         self.assertEqual(len(tried), 2)
 
     def test_a_swallowed_deadlock_is_no_commit(self):
@@ -93,7 +94,7 @@ class Retries:
             if len(tried) == 1:
                 waiting = Run(older.call, 1, "give", LONG)
                 asleep(store, 1)
-                with self.assertRaises(colock.Deadlock):
+                with self.assertRaises(colock.DeadlockError):
                     t.call(0, "give", wait=LONG)
                 waiting.result()
                 older.commit()
@@ -120,7 +121,7 @@ class Retries:
         self.assertEqual((tried, store.stats().deadlocks), ([1], 1))
         t.commit()
         self.assertEqual((run.result(), len(tried)), (GIVE, 2))
-        self.assertEqual((dict(store._sleepers), dict(store._backend.graph.watchers)), ({}, {}))
+        self.assertTrue(store._backend.sleepers.is_bare())
 
     def test_transact(self):
         store = self.make([COUNTER])
@@ -130,7 +131,20 @@ class Retries:
         for wrong in (lambda t: t.call(0, "inc:1", wait=1), lambda t: t.call_op(0, 0, wait=0), lambda t: store.retry(lambda u: None)):
             self.assertRaises(ValueError, store.transact, wrong)
         self.assertEqual((store.kept(0), store.open_count()), (1, 0))
-        self.assertEqual(store.begin().call(0, "inc:1", wait=1), Operation(0, "ok"))
+        self.assertEqual(store.begin().call(0, "inc:1", wait=1), Executed(0, "ok"))
+
+    def test_a_turn_asks_nothing_else(self):
+        store = self.make([COUNTER])
+        for wrong in (
+            lambda t: store.transact(lambda u: None), lambda t: store.retry(lambda u: None), lambda t: store.begin(), lambda t: store.close(), lambda t: store.kept(0),
+            lambda t: store.open_count(), lambda t: store.events(), lambda t: store.event_count(), lambda t: store.committed(t.id),
+        ):
+            with self.assertRaises(ValueError) as raised:
+                store.transact(wrong)
+            self.assertIn("inside of `transact`", str(raised.exception))
+        # what is raised there and caught there does no harm, and another thread may ask as soon as the turn is over
+        self.assertEqual(store.transact(lambda t: (self.assertRaises(ValueError, store.begin), store.call_number(0, "inc:1"))[1]), 0)
+        self.assertEqual((Run(store.open_count).result(), store.stats().aborts), (0, 9))
 
     def test_nobody_comes_between(self):
         store = self.make([Type(TWO)])

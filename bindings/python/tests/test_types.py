@@ -1,6 +1,8 @@
 """Types of functions, conflicts by names, and the grid."""
 import unittest
 
+from executed import Executed
+
 import colock
 from colock import Kind, Type
 
@@ -100,7 +102,7 @@ class Numbers(unittest.TestCase):
         self.assertEqual((stock.labels, stock.initial, stock.states), ((5, 6, 7, 8, 9), 2, 5))
         self.assertEqual([stock.step(s, 0) for s in range(5)], [1, 2, 3, 4, None])
         with colock.Store([stock], 100) as store, store.begin() as t:
-            self.assertEqual((stock.labels[store.kept(0)], t.call(0, "dec:1")), (7, colock.Operation(1, "ok")))
+            self.assertEqual((stock.labels[store.kept(0)], t.call(0, "dec:1")), (7, Executed(1, "ok")))
         # as they are found an up moves 7 by one, and 8 by two, from place 1 to 3
         found = Type.from_steps("stock", 7, UP_AND_DOWN, step)
         self.assertEqual((found.labels, found.initial), ((7, 8, 6, 9, 5), 0))
@@ -198,7 +200,7 @@ class Names(unittest.TestCase):
         for kind in Kind:
             closed = Type.counter(5, [1], kind)
             closed.close()
-            self.assertRaises(colock.Closed, str, closed)
+            self.assertRaises(colock.ClosedError, str, closed)
 
 
 if __name__ == "__main__":

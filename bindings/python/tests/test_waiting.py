@@ -4,14 +4,16 @@ import math
 import threading
 import time
 import unittest
+from unittest import mock
 
+from executed import Executed
 import support
-from support import LONG, SOON, TWO, Run, Timed, asleep
+from support import LONG, SOON, TWO, Run, Timed, asleep, behind
 
 import colock
-from colock import Busy, Illegal, Kind, Operation, Stats, Type
+from colock import Busy, Illegal, Kind, Stats, Type
 
-TAKE, GIVE = Operation(0, "ok"), Operation(1, "ok")
+TAKE, GIVE = Executed(0, "ok"), Executed(1, "ok")
 COUNTER = Type.counter(2, [1])
 
 
@@ -39,7 +41,7 @@ class Waits:
         waiting = Run(u.call, 0, "give", LONG)
         asleep(store, 1)
         t.commit()
-        asleep(store, 2)
+        behind(store, u, v)
         v.commit()
         self.assertEqual(waiting.result(), GIVE)
         told = [str(event) for event in store.events()[5:]]
@@ -57,7 +59,7 @@ class Waits:
     def test_what_is_free_or_illegal_doesnt_wait(self):
         store = self.make([COUNTER])
         t = store.begin()
-        self.assertEqual((t.call(0, "dec:1", wait=LONG), t.call(0, "inc:1", wait=0)), (Illegal(), Operation(0, "ok")))
+        self.assertEqual((t.call(0, "dec:1", wait=LONG), t.call(0, "inc:1", wait=0)), (Illegal(), Executed(0, "ok")))
         self.assertEqual(store.stats().waits, 0)
 
     def test_illegal_behind_a_wait(self):
@@ -94,7 +96,7 @@ class Waits:
         asleep(store, 1)
         self.assertRaises(ValueError, u.call, 0, "give", 1)  # it waits already
         u.abort()
-        self.assertRaises(colock.NotOpen, waiting.result)
+        self.assertRaises(colock.NotOpenError, waiting.result)
         self.assertEqual(dict(store._sleepers), {})
 
     def test_close_wakes(self):
@@ -104,7 +106,7 @@ class Waits:
         waiting = Run(u.call, 0, "give", LONG)
         asleep(store, 1)
         store.close()
-        self.assertRaises(colock.Closed, waiting.result)
+        self.assertRaises(colock.ClosedError, waiting.result)
 
     def test_stats(self):
         store = self.make([Type(TWO)] * 2)
@@ -143,12 +145,12 @@ class Deadlocks:
             with Timed() as timed:
                 older = older or Run(begun[0].call, 1, "give", LONG)
                 younger = younger or Run(begun[1].call, 0, "give", LONG)
-                with self.assertRaises(colock.Deadlock) as raised:
+                with self.assertRaises(colock.DeadlockError) as raised:
                     younger.result()
                 self.assertEqual(older.result(), GIVE)
             self.assertLess(timed.seconds, 1)
             self.assertEqual(raised.exception.blocker, 0)
-            self.assertRaises(colock.NotOpen, begun[1].call, 0, "give")
+            self.assertRaises(colock.NotOpenError, begun[1].call, 0, "give")
             begun[0].commit()
             told = store.stats()
             self.assertEqual((told.deadlocks, told.commits, told.aborts), (1, 1, 1))
@@ -160,7 +162,7 @@ class Deadlocks:
             for x, t in enumerate(begun):
                 runs.append(Run(t.call, (x + 1) % 3, "give", LONG))
                 asleep(store, x + 1)
-            with self.assertRaises(colock.Deadlock) as raised:
+            with self.assertRaises(colock.DeadlockError) as raised:
                 runs[2].result()
             self.assertEqual(runs[1].result(), GIVE)
         self.assertLess(timed.seconds, 1)
@@ -173,7 +175,7 @@ class Deadlocks:
         store, begun = self.circle(2)
         older = Run(begun[0].call, 1, "give", LONG)
         asleep(store, 1)
-        with self.assertRaises(colock.Deadlock):
+        with self.assertRaises(colock.DeadlockError):
             with begun[1] as t:
                 t.call(0, "give", wait=LONG)
         self.assertEqual(older.result(), GIVE)
@@ -184,9 +186,9 @@ class Deadlocks:
         store, begun = self.circle(2)
         older = Run(begun[0].call, 1, "give", LONG)
         asleep(store, 1)
-        with self.assertRaises(colock.Deadlock):
+        with self.assertRaises(colock.DeadlockError):
             with begun[1] as t:
-                with contextlib.suppress(colock.Deadlock):
+                with contextlib.suppress(colock.DeadlockError):
                     t.call(0, "give", wait=LONG)
         self.assertEqual(older.result(), GIVE)
         self.assertEqual((store.stats().deadlocks, store.stats().aborts, store.stats().commits), (1, 1, 0))
@@ -213,7 +215,7 @@ class Gates:
 
     def test_without_the_gate_it_passes(self):
         store = self.make([Type(TWO)])
-        store._backend.graph.has_gate = False
+        store._backend.sleepers.take_gate_out()
         t, w, u = store.begin(), store.begin(), store.begin()
         t.call(0, "take")
         waiting = Run(w.call, 0, "give", LONG)
@@ -312,8 +314,29 @@ class Gates:
         self.assertEqual(self.takes_and_a_give(self.make([Type(TWO)]), 20, SOON), 20)
         # without the gate somebody always holds a take
         store = self.make([Type(TWO)])
-        store._backend.graph.has_gate = False
+        store._backend.sleepers.take_gate_out()
         self.assertLess(self.takes_and_a_give(store, 20, 1.0), 20)
+
+
+class HandOvers:
+    """An object goes from one that waits to the next."""
+
+    WAITING = 40
+
+    def test_nobody_is_woken_in_vain(self):
+        store = self.make([Type.counter(1000, [1], Kind.INTENTIONS)])  # an up keeps out each other one
+        holder, begun = store.begin(), [store.begin() for _ in range(self.WAITING)]
+        holder.call(0, "inc:1").executed()
+        runs = [Run(lambda t=t: (t.call(0, "inc:1", wait=LONG).executed(), t.commit())) for t in begun]
+        asleep(store, self.WAITING)
+        holder.commit()
+        for run in runs:
+            run.result()
+        self.assertEqual(store.kept(0), self.WAITING + 1)
+        # each has slept once before; over a child each asks by itself, as soon as it is the oldest
+        in_vain = store.stats().waits - self.WAITING
+        self.assertLessEqual(in_vain, 2 * self.WAITING if self.is_child else 0)
+        self.assertTrue(store._backend.sleepers.is_bare())
 
 
 class Deferred:
@@ -326,16 +349,16 @@ class Deferred:
         waiting = Run(u.call, 0, "inc:1", LONG)
         asleep(store, 1)
         t.commit()
-        self.assertEqual(waiting.result(), Operation(0, "ok"))
+        self.assertEqual(waiting.result(), Executed(0, "ok"))
         u.commit()
         self.assertEqual(store.kept(0), 2)
 
 
-class WaitsInMemory(support.InMemory, Waits, Deadlocks, Gates, Deferred, unittest.TestCase):
+class WaitsInMemory(support.InMemory, Waits, Deadlocks, Gates, HandOvers, Deferred, unittest.TestCase):
     """In memory."""
 
 
-class WaitsOverAChild(support.OverChild, Waits, Deadlocks, Gates, Deferred, unittest.TestCase):
+class WaitsOverAChild(support.OverChild, Waits, Deadlocks, Gates, HandOvers, Deferred, unittest.TestCase):
     """Over a child."""
 
 
@@ -350,10 +373,21 @@ class MemoryAlone(support.InMemory, unittest.TestCase):
         asleep(store, 1)
         store.abort_all()
         store.renew()
-        self.assertRaises(colock.NotOpen, waiting.result)
+        self.assertRaises(colock.NotOpenError, waiting.result)
         self.assertEqual((store.stats().aborts, dict(store._sleepers)), (2, {}))
         new = store.begin()
         self.assertEqual((new.id, new.call(0, "give", wait=LONG)), ("1.0", GIVE))
+
+    def test_who_is_woken_goes_before_who_ended(self):
+        store, slept = self.make([Type(TWO)]), []
+        t, u, v = store.begin(), store.begin(), store.begin()
+        t.call(0, "take")
+        waiting = Run(u.call, 0, "give", LONG)
+        asleep(store, 1)
+        with mock.patch("colock._memory.time.sleep", slept.append):
+            v.commit()
+            t.commit()
+        self.assertEqual((waiting.result(), slept), (GIVE, [0]))
 
     def test_events_that_are_followed_wake(self):
         store = self.make([Type(TWO)])
