@@ -1,4 +1,5 @@
-"""Times of the clients that wait: threads at one counter, in Rust and Python, over the library and over a child process."""
+"""Times of the clients that wait, in Rust and Python, over the library and over a child process: threads at one counter,
+and how long a hand-over takes where many wait for one object."""
 import os
 import subprocess
 import sys
@@ -12,6 +13,7 @@ BINDINGS = os.path.join(ROOT, "bindings")
 TURNS = 3
 SECONDS = "2"
 SYNCS = 2_000
+PYTHON = [sys.executable, os.path.join(BINDINGS, "python", "tests", "clients_bench.py")]
 
 
 def program_of_rust(folder):
@@ -37,8 +39,7 @@ def most(folder, commands):
     return best
 
 
-def of_rust(folder):
-    program = program_of_rust(os.path.join(folder, "target"))
+def of_rust(folder, program):
     parts = [[program, part, SECONDS] for part in ("think", "mixed", "turns")]
     best = most(folder, [*parts, [program, "child", SECONDS, os.path.join(folder, "rust.db")]])
     for name, number in best.items():
@@ -48,15 +49,34 @@ def of_rust(folder):
 
 
 def of_python(folder):
-    for name, number in most(folder, [[sys.executable, os.path.join(BINDINGS, "python", "tests", "clients_bench.py"), SECONDS]]).items():
+    for name, number in most(folder, [[*PYTHON, SECONDS]]).items():
         print(f"Python: {name} {number:,.1f}")
 
 
-def main():
+def of_herds(folder, program):
+    """The least time of a hand-over, by how many wait. The programs print how many there are in a second."""
+    parts = {"Rust": [[program, "herd"], [program, "herd", os.path.join(folder, "herd.db")]], "Python": [[*PYTHON, "herd"]]}
+    for language, commands in parts.items():
+        for name, number in most(folder, commands).items():
+            print(f"{language}: {name} {1e6 / number:,.1f} microseconds a hand-over", flush=True)
+
+
+def measure(has_commits):
     """Databases are beside this file, and not in memory."""
     with tempfile.TemporaryDirectory(dir=HERE) as folder:
         os.environ["COLOCK"] = programs.built("colock")
         loop = SYNCS / durable_times.seconds(durable_times.driver(folder), "loop", os.path.join(folder, "loop"), 16, SYNCS)[0]
-        print(f"{os.cpu_count()} processors, the most of {TURNS} turns; the disk's loop has {loop:,.0f} syncs a second", flush=True)
-        of_rust(folder)
-        of_python(folder)
+        print(f"{os.cpu_count()} processors, the best of {TURNS} turns; the disk's loop has {loop:,.0f} syncs a second", flush=True)
+        program = program_of_rust(os.path.join(folder, "target"))
+        if has_commits:
+            of_rust(folder, program)
+            of_python(folder)
+        of_herds(folder, program)
+
+
+def main():
+    measure(has_commits=True)
+
+
+def herds():
+    measure(has_commits=False)
