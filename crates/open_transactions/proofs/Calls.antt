@@ -6,6 +6,7 @@ use Rattle.std.proofs.lemmas.List.{get_or-set_same, length-map, length-set, leng
 use Rattle.std.proofs.Math.Seq.{map-set_same}
 use Rattle.open_transactions.specs.declared.open_transactions.OpenTransaction.{OpenTransaction}
 use Rattle.open_transactions.specs.Transactions.{Row, has_row, count_open, changed}
+use Rattle.open_transactions.specs.Index.{ended}
 use Rattle.open_transactions.specs.InSlots.{slot_of, looked}
 use Rattle.open_transactions.specs.Slots.{transaction_number, open_row, room_of, open_rows, rooms_of, AreSlots}
 use Rattle.open_transactions.proofs.Looked.{at}
@@ -21,21 +22,21 @@ module _ (slots : List OpenTransaction) (index : List ℕ) (known : AreSlots slo
   counted : count_open rows ≡ length slots
   counted = ap count_open (sym shown) ∙ known.counted
 
-  module _ (t k : ℕ) (opened : has_row rows t ≡ true) (read : k ≡ slot_of 65535 index t) where
+  module _ (t k : ℕ) (opened : has_row rows t ≡ true) (read : k ≡ slot_of ended index t) where
     -- the slot is written with the same number
     pub set-changes : (old new : OpenTransaction) (change : Row → Row) → old ≡ get_or slots k old → open_row new ≡ change (open_row old)
         → open_rows (set slots k new) index ≡ changed rows t change
     set-changes old new change old_is row_is =
-        set-shows transaction_number open_row slots index known.placed rows shown t k 65535 opened read new
+        set-shows transaction_number open_row slots index known.placed rows shown t k ended opened read new
         ∙ ap (set rows t)
-        (ap Some row_is ∙ ap (option_map change) (sym (slot-shows transaction_number open_row slots index known.placed rows shown t k 65535 opened read old old_is)))
+        (ap Some row_is ∙ ap (option_map change) (sym (slot-shows transaction_number open_row slots index known.placed rows shown t k ended opened read old old_is)))
 
     pub set-known : (old new : OpenTransaction) → old ≡ get_or slots k old → new.number ≡ old.number → AreSlots (set slots k new) index
     set-known old new old_is number_is = record {
       few = omega (arith, known.few, length-set slots k new);
-      placed = set-placed transaction_number open_row slots index known.placed rows shown t k 65535 opened read old new old_is number_is;
+      placed = set-placed transaction_number open_row slots index known.placed rows shown t k ended opened read old new old_is number_is;
       counted =
-          ap count_open (set-shows transaction_number open_row slots index known.placed rows shown t k 65535 opened read new)
+          ap count_open (set-shows transaction_number open_row slots index known.placed rows shown t k ended opened read new)
           ∙ count-same rows t (open_row new) opened ∙ counted ∙ sym (length-set slots k new);
       begun = known.begun;
     }
@@ -43,28 +44,28 @@ module _ (slots : List OpenTransaction) (index : List ℕ) (known : AreSlots slo
     -- the room of t is that of its slot
     pub set-room : (new : OpenTransaction) → get_or (rooms_of (set slots k new) index) t 0 ≡ room_of new
     set-room new =
-        at 65535 0 (map room_of (set slots k new)) index t (omega (arith, known.few, length-map (set slots k new) room_of, length-set slots k new))
+        at ended 0 (map room_of (set slots k new)) index t (omega (arith, known.few, length-map (set slots k new) room_of, length-set slots k new))
         ∙ ap (λ s. get_or (map room_of (set slots k new)) s 0) (sym read)
         ∙ ap (λ rooms. get_or rooms k 0) (map-set room_of slots k new)
         ∙ get_or-set_same (map room_of slots) k (room_of new) 0
-        (omega (arith, length-map slots room_of, slot-inside transaction_number open_row slots index known.placed rows shown t k 65535 opened read))
+        (omega (arith, length-map slots room_of, slot-inside transaction_number open_row slots index known.placed rows shown t k ended opened read))
 
     -- t ends
     pub end-known : (len : ℕ) → len ≡ length slots → (moved : OpenTransaction) → moved ≡ get_or slots (len - 1) moved → (removed : OpenTransaction)
-        → AreSlots (swap_remove slots k removed) (set (set index moved.number k) t 65535)
+        → AreSlots (swap_remove slots k removed) (set (set index moved.number k) t ended)
     end-known len len_is moved moved_read removed =
-        let shows = end-shows transaction_number open_row slots index known.placed rows shown t k 65535 opened read len len_is moved moved_read removed in
-        let fewer = end-fewer transaction_number open_row slots index known.placed rows shown t k 65535 opened read len len_is moved moved_read removed in
+        let shows = end-shows transaction_number open_row slots index known.placed rows shown t k ended opened read len len_is moved moved_read removed in
+        let fewer = end-fewer transaction_number open_row slots index known.placed rows shown t k ended opened read len len_is moved moved_read removed in
         record {
           few = omega (arith, known.few, fewer);
-          placed = end-placed transaction_number open_row slots index known.placed rows shown t k 65535 opened read len len_is moved moved_read removed;
+          placed = end-placed transaction_number open_row slots index known.placed rows shown t k ended opened read len len_is moved moved_read removed;
           counted = omega (arith, ap count_open shows, count-less rows t opened, counted, fewer);
-          begun = omega (arith, known.begun, length-set (set index moved.number k) t 65535, length-set index moved.number k);
+          begun = omega (arith, known.begun, length-set (set index moved.number k) t ended, length-set index moved.number k);
         }
 
   -- one more begins in slot k
-  module _ (k : ℕ) (k_is : k ≡ length slots) (few : count_open rows < 1024) (fits : length rows < 4294967295) (new : OpenTransaction) where
-    room : length slots < 1024
+  module _ (k : ℕ) (k_is : k ≡ length slots) (few : count_open rows < 65536) (fits : length rows < 4294967295) (new : OpenTransaction) where
+    room : length slots < 65536
     room = omega (arith, counted)
 
     pub begin-shown : open_rows (slots ++ new ∷ []) (index ++ k ∷ []) ≡ rows ++ Some (open_row new) ∷ []

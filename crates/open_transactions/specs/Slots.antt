@@ -2,6 +2,7 @@
 use Rattle.std.specs.Prelude.{◌≡◌, ℕ, ◌-◌, ◌≤◌, List, map, length, Option}
 use Rattle.open_transactions.specs.declared.open_transactions.OpenTransaction.{OpenTransaction}
 use Rattle.open_transactions.specs.Transactions.{Row, count_open}
+use Rattle.open_transactions.specs.Index.{ended}
 use Rattle.open_transactions.specs.InSlots.{looked, shown_rows, IsPlaced}
 
 -- the number of an open transaction
@@ -24,9 +25,9 @@ open_rows slots index = shown_rows open_row slots index
 abbrev pub rooms_of : List OpenTransaction → List ℕ → List ℕ
 rooms_of slots index = looked 0 (map room_of slots) index
 
--- what is known of each table of transactions: 65,535 is in place of a slot where one ended
+-- what is known of each table of transactions: at most 65,536 are open
 pub record AreSlots (slots : List OpenTransaction) (index : List ℕ) : Type 0 where
-  pub few : length slots ≤ 1024
-  pub placed : IsPlaced 65535 index (map transaction_number slots)
+  pub few : length slots ≤ 65536
+  pub placed : IsPlaced ended index (map transaction_number slots)
   pub counted : count_open (open_rows slots index) ≡ length slots
   pub begun : length index ≤ 4294967295

@@ -2,6 +2,7 @@ ghost use Rattle.std.specs.Prelude.{◌≡◌, ◌+◌, ◌<◌, ◌≤◌, ℕ,
 ghost use Rattle.smallvec.specs.SmallVec.{HasRoomFor};
 
 use crate::slot_index::{ENDED, SlotIndex};
+use object_index::ObjectIndex;
 use smallvec::SmallVec;
 use std::alloc::{AllocError, Global};
 use std::marker::Model;
@@ -11,10 +12,10 @@ use std::marker::Model;
 struct OpenTransaction {
     number: u32,
     worker: u8,
-    places: SmallVec<u8, 16>,
+    places: SmallVec<ObjectIndex, 8>,
 }
 
-/// The transactions of a store, numbered 0, 1, 2, .. as they begin. At most 1,024 are open at once.
+/// The transactions of a store, numbered 0, 1, 2, .. as they begin. At most 65,536 are open at once.
 ///
 /// Contracts see a row for each that began: its worker and the places of its operations where it is open, and
 /// nothing where it ended. They also see for how many begins and places there is room.
@@ -77,7 +78,7 @@ impl OpenTransactions {
     #[inline(always)]
     pub fn open_count(&self) -> u32
         ensures exact { result ≡ count_open self.now.rows }
-        ensures few { result ≤ 1024 }
+        ensures few { result ≤ 65536 }
     {
         self.slots.len() as u32
     }
@@ -101,7 +102,7 @@ impl OpenTransactions {
 
     /// The places of the operations of t that survive, in order of execution.
     #[inline(always)]
-    pub fn places(&self, t: u32) -> &[u8]
+    pub fn places(&self, t: u32) -> &[ObjectIndex]
         requires { has_row self.now.rows t ≡ true }
         ensures { result.now ≡ objects_of_row (row self.now.rows t) }
     {
@@ -123,14 +124,14 @@ impl OpenTransactions {
     #[inline(always)]
     pub fn begin(&mut self, worker: u8) -> u32
         requires room { 0 < self.old.room_to_begin }
-        requires few { count_open self.old.rows < 1024 }
+        requires few { count_open self.old.rows < 65536 }
         requires fits { length self.old.rows < 4294967295 }
         ensures number { result ≡ length self.old.rows }
         ensures rows { self.new.rows ≡ self.old.rows ++ Some (begun_by worker) ∷ [] }
         ensures count { count_open self.new.rows ≡ count_open self.old.rows + 1 }
     {
         let number = self.index.begun();
-        let slot = self.slots.len() as u16;
+        let slot = self.slots.len() as u32;
         let places = SmallVec::new(*self.slots.allocator());
         self.slots.push_reserved(OpenTransaction {
             number,
@@ -154,7 +155,7 @@ impl OpenTransactions {
 
     /// One more operation of t, at the place x. It takes no memory.
     #[inline(always)]
-    pub fn push_place(&mut self, t: u32, x: u8)
+    pub fn push_place(&mut self, t: u32, x: ObjectIndex)
         requires still_open { has_row self.old.rows t ≡ true }
         requires room { 0 < slice_index self.old.room_to_push t }
         ensures { self.new.rows ≡ changed self.old.rows t (pushed x) }
@@ -191,7 +192,7 @@ impl OpenTransactions {
 
 /// Makes room for one more place. Mostly there is room.
 #[inline(always)]
-fn reserve_one(places: &mut SmallVec<u8, 16>) -> Result<(), AllocError>
+fn reserve_one(places: &mut SmallVec<ObjectIndex, 8>) -> Result<(), AllocError>
     ensures items { places.new.items ≡ places.old.items }
     ensures ok { OnOk result (HasRoomFor places.new 1) }
 {

@@ -1,40 +1,40 @@
 ghost use Rattle.std.specs.Prelude.{◌≡◌, ◌≢◌, ◌+◌, ◌<◌, ◌≤◌, [], ◌∷◌, ◌++◌, ℕ, length, set, drop, vec_len, vec_capacity, OnOk, slice_index_or};
-ghost use Rattle.open_transactions.specs.Index.{HaveEndedInFront};
+ghost use Rattle.open_transactions.specs.Index.{ended, HaveEndedInFront};
 
 use std::alloc::{AllocError, Global};
 use std::marker::Model;
 
 /// In position of a slot: the transaction ended.
-pub const ENDED: u16 = u16::MAX;
+pub const ENDED: u32 = u32::MAX;
 
 // for how many more there is room at least where memory was taken, so that a small store takes it once
 const LEAST_ROOM: usize = 32;
 
 /// The slot of each transaction that began, by its number.
 ///
-/// It takes two bytes for each that began since the oldest open one, and for those before it, which ended, that aren't
+/// It takes four bytes for each that began since the oldest open one, and for those before it, which ended, that aren't
 /// cut off yet. Where there is no room, these are cut off if they are an eighth of all, and else memory doubles. So it
-/// has at most five bytes for each of the most that ever were since the oldest open one, and 64 more.
+/// has at most ten bytes for each of the most that ever were since the oldest open one, and 128 more.
 #[derive(Drop)]
 pub struct SlotIndex {
     // how many were cut off in front, which ended
     cut: u32,
     // the slot of each that isn't cut off
-    slots: Vec<u16>,
+    slots: Vec<u32>,
 }
 
 impl Model for SlotIndex {
     ghost use Rattle.std.specs.Prelude.{◌≤◌, ◌-◌, ◌++◌, length, replicate, vec_len, vec_capacity};
-    ghost use Rattle.open_transactions.specs.Index.{Index};
+    ghost use Rattle.open_transactions.specs.Index.{Index, ended};
 
     ghost Value = { Index };
 
     ghost view = { λ a. record {
-      slots = replicate a.cut 65535 ++ a.slots.items;
+      slots = replicate a.cut ended ++ a.slots.items;
       room = vec_capacity a.slots - vec_len a.slots;
     } };
 
-    ghost invariant = { λ a. length (replicate a.cut 65535 ++ a.slots.items) ≤ 4294967295 };
+    ghost invariant = { λ a. length (replicate a.cut ended ++ a.slots.items) ≤ 4294967295 };
 }
 
 impl SlotIndex {
@@ -61,16 +61,16 @@ impl SlotIndex {
     /// It looks at those that ended before it and aren't cut off yet, so that no end has to count them.
     pub fn oldest(&self) -> u32
         ensures within { result ≤ length self.now.slots }
-        ensures ended { (t : ℕ) → t < result → slice_index_or self.now.slots t 65535 ≡ 65535 }
-        ensures oldest { result < length self.now.slots → slice_index_or self.now.slots result 65535 ≢ 65535 }
+        ensures ended { (t : ℕ) → t < result → slice_index_or self.now.slots t ended ≡ ended }
+        ensures oldest { result < length self.now.slots → slice_index_or self.now.slots result ended ≢ ended }
     {
         self.cut + count_ended(&self.slots)
     }
 
     /// The slot of t, `ENDED` where it ended or never began.
     #[inline(always)]
-    pub fn slot(&self, t: u32) -> u16
-        ensures { result ≡ slice_index_or self.now.slots t 65535 }
+    pub fn slot(&self, t: u32) -> u32
+        ensures { result ≡ slice_index_or self.now.slots t ended }
     {
         // of one that was cut off this wraps to a position after the last
         let position = t.wrapping_sub(self.cut) as usize;
@@ -82,9 +82,9 @@ impl SlotIndex {
 
     /// The slot of t, which is open.
     #[inline(always)]
-    pub fn open_slot(&self, t: u32) -> u16
-        requires { slice_index_or self.now.slots t 65535 ≢ 65535 }
-        ensures { result ≡ slice_index_or self.now.slots t 65535 }
+    pub fn open_slot(&self, t: u32) -> u32
+        requires { slice_index_or self.now.slots t ended ≢ ended }
+        ensures { result ≡ slice_index_or self.now.slots t ended }
     {
         let position = (t - self.cut) as usize;
         self.slots[position]
@@ -121,10 +121,10 @@ impl SlotIndex {
 
     /// One more begins, with this slot. It takes no memory.
     #[inline(always)]
-    pub fn push_reserved(&mut self, slot: u16)
+    pub fn push_reserved(&mut self, slot: u32)
         requires room { 0 < self.old.room }
         requires fits { length self.old.slots < 4294967295 }
-        requires slot { slot ≢ 65535 }
+        requires slot { slot ≢ ended }
         ensures slots { self.new.slots ≡ self.old.slots ++ slot ∷ [] }
         ensures room { self.new.room + 1 ≡ self.old.room }
     {
@@ -133,9 +133,9 @@ impl SlotIndex {
 
     /// t, which is open, has another slot.
     #[inline(always)]
-    pub fn put(&mut self, t: u32, slot: u16)
-        requires still_open { slice_index_or self.old.slots t 65535 ≢ 65535 }
-        requires slot { slot ≢ 65535 }
+    pub fn put(&mut self, t: u32, slot: u32)
+        requires still_open { slice_index_or self.old.slots t ended ≢ ended }
+        requires slot { slot ≢ ended }
         ensures slots { self.new.slots ≡ set self.old.slots t slot }
         ensures room { self.new.room ≡ self.old.room }
     {
@@ -146,8 +146,8 @@ impl SlotIndex {
     /// t, which is open, ends. It takes no memory.
     #[inline(always)]
     pub fn end(&mut self, t: u32)
-        requires { slice_index_or self.old.slots t 65535 ≢ 65535 }
-        ensures { self.new.slots ≡ set self.old.slots t 65535 }
+        requires { slice_index_or self.old.slots t ended ≢ ended }
+        ensures { self.new.slots ≡ set self.old.slots t ended }
     {
         let position = (t - self.cut) as usize;
         self.slots[position] = ENDED;
@@ -155,7 +155,7 @@ impl SlotIndex {
 }
 
 /// How many ended before the oldest open one of these began.
-fn count_ended(slots: &[u16]) -> u32
+fn count_ended(slots: &[u32]) -> u32
     requires { length slots.now ≤ 4294967295 }
     ensures { HaveEndedInFront result slots.now }
 {
@@ -170,7 +170,7 @@ fn count_ended(slots: &[u16]) -> u32
 }
 
 /// Cuts off the first ones, as many as that. It takes no memory.
-fn cut_off(slots: &mut Vec<u16>, count: usize)
+fn cut_off(slots: &mut Vec<u32>, count: usize)
     requires { count ≤ vec_len slots.old }
     ensures rest { slots.new.items ≡ drop count slots.old.items }
     ensures capacity { vec_capacity slots.new ≡ vec_capacity slots.old }

@@ -13,6 +13,7 @@ use Rattle.object_trait.specs.Object.{Object}
 use Rattle.object_trait.specs.declared.event.Event.{Event}
 use Rattle.object_trait.specs.declared.event.EventKind.{EventKind}
 use Rattle.object_trait.specs.declared.event.EventKind.TheVariants as kind
+use Rattle.store_limits.specs.declared.limits.Limits.{Limits}
 use Rattle.serial_order.specs.Operations.{of}
 use Rattle.serial_order.specs.History.{summary, is_open}
 use Rattle.serial_order.specs.Machine.{May, IsRun}
@@ -82,17 +83,17 @@ rollback_range n most fine =
     (omega (arith, eqb-false n 0 h.0), ltb-false most n h.1)
 
 -- of a command that isn't refused
-event_follows : (objects : List Object) (most : ℕ) (H : List Event) (command : Command) → is_some (refusal objects most H command) ≡ false →
+event_follows : (objects : List Object) (limits : Limits) (H : List Event) (command : Command) → is_some (refusal objects limits H command) ≡ false →
     Comes objects H (event_of objects (summary H) command)
-event_follows objects most H Begin fine = record { happened = kind.Begin (summary H).begun; is = refl; follows = refl }
-event_follows objects most H (Call t x name) fine =
+event_follows objects limits H Begin fine = record { happened = kind.Begin (summary H).begun; is = refl; follows = refl }
+event_follows objects limits H (Call t x name) fine =
     let a = passed_open (is_open (summary H) t) NotOpen _ fine in
     let b = passed_open (is_some (slice_get objects x)) NoObject _ a.1 in
     let c = passed_open (is_some (call_at (slice_get objects x) name)) NoCall _ b.1 in
     call_follows objects H t x name a.0 (slice_get objects x) refl b.0 (call_at (slice_get objects x) name) refl c.0
-event_follows objects most H (Commit t) fine = record { happened = kind.Commit t; is = refl; follows = (passed_open (is_open (summary H) t) NotOpen _ fine).0 }
-event_follows objects most H (Abort t) fine = record { happened = kind.Abort t; is = refl; follows = (passed_open (is_open (summary H) t) NotOpen _ fine).0 }
-event_follows objects most H (Rollback t n) fine =
+event_follows objects limits H (Commit t) fine = record { happened = kind.Commit t; is = refl; follows = (passed_open (is_open (summary H) t) NotOpen _ fine).0 }
+event_follows objects limits H (Abort t) fine = record { happened = kind.Abort t; is = refl; follows = (passed_open (is_open (summary H) t) NotOpen _ fine).0 }
+event_follows objects limits H (Rollback t n) fine =
     let a = passed_open (is_open (summary H) t) NotOpen _ fine in
     let b = passed (n == 0 || nat_lt (length (of t (summary H).survives)) n) BadRollback _ a.1 in
     let range = rollback_range n (length (of t (summary H).survives)) b.0 in
@@ -102,23 +103,23 @@ event_follows objects most H (Rollback t n) fine =
 
 -- a command that isn't refused appends its event
 pub command_appends : CommandAppends
-command_appends = λ objects most H w command fine.
-    let accepted : is_some (refusal objects most H command) ≡ false = rw fine refl in
-    let comes = event_follows objects most H command accepted in
+command_appends = λ objects limits H w command fine.
+    let accepted : is_some (refusal objects limits H command) ≡ false = rw fine refl in
+    let comes = event_follows objects limits H command accepted in
     record { happened = comes.happened; is = comes.is; may_follow = comes.follows; appends = rw (accepted, comes.is) refl }
 
 -- and a refused one nothing
 pub refused_appends_nothing : RefusedAppendsNothing
-refused_appends_nothing = λ objects most H w command reason refused. rw refused refl
+refused_appends_nothing = λ objects limits H w command reason refused. rw refused refl
 
 -- a run goes on by a command, refused or not
-command_runs : RunGoesOn → (objects : List Object) (most : ℕ) (H : List Event) (w : ℕ) (command : Command) → IsRun objects H →
-    IsRun objects (after_command objects most H w command)
-command_runs goes_on objects most H w command runs =
-    elim (cases_Bool (is_some (refusal objects most H command))) [
+command_runs : RunGoesOn → (objects : List Object) (limits : Limits) (H : List Event) (w : ℕ) (command : Command) → IsRun objects H →
+    IsRun objects (after_command objects limits H w command)
+command_runs goes_on objects limits H w command runs =
+    elim (cases_Bool (is_some (refusal objects limits H command))) [
       | inl refused ↦ rw refused runs
       | inr fine ↦
-          let comes = event_follows objects most H command fine in
+          let comes = event_follows objects limits H command fine in
           rw (fine, comes.is) (goes_on objects H (record { worker = w; kind = comes.happened }) runs comes.follows)
     ]
 
@@ -128,41 +129,41 @@ either_runs objects true H K first second = first
 either_runs objects false H K first second = second
 
 -- so the history after commands from a place on
-commands_run : RunGoesOn → (objects : List Object) (most : ℕ) (memory_refused : ℕ → Bool) (place : ℕ) (H : List Event) (commands : List (ℕ × Command)) →
-    IsRun objects H → IsRun objects (replay_from objects most memory_refused place H commands)
-commands_run goes_on objects most memory_refused place H [] runs = runs
-commands_run goes_on objects most memory_refused place H (c ∷ commands) runs =
-    let after = after_command objects most H (c.0) (c.1) in
-    commands_run goes_on objects most memory_refused (suc place) (if memory_refused place then H else after) commands
-    (either_runs objects (memory_refused place) H after runs (command_runs goes_on objects most H (c.0) (c.1) runs))
+commands_run : RunGoesOn → (objects : List Object) (limits : Limits) (memory_refused : ℕ → Bool) (place : ℕ) (H : List Event) (commands : List (ℕ × Command)) →
+    IsRun objects H → IsRun objects (replay_from objects limits memory_refused place H commands)
+commands_run goes_on objects limits memory_refused place H [] runs = runs
+commands_run goes_on objects limits memory_refused place H (c ∷ commands) runs =
+    let after = after_command objects limits H (c.0) (c.1) in
+    commands_run goes_on objects limits memory_refused (suc place) (if memory_refused place then H else after) commands
+    (either_runs objects (memory_refused place) H after runs (command_runs goes_on objects limits H (c.0) (c.1) runs))
 
 -- the history after any commands is a run
 pub replay_runs : RunGoesOn → ReplayRuns
-replay_runs goes_on = λ objects most memory_refused H commands runs. commands_run goes_on objects most memory_refused 0 H commands runs
+replay_runs goes_on = λ objects limits memory_refused H commands runs. commands_run goes_on objects limits memory_refused 0 H commands runs
 
 -- ---- one list of commands after another
 
 -- where memory is refused at the same places from two places on, the history after commands is the same
-same_memory_refused : (objects : List Object) (most : ℕ) (memory_refused other : ℕ → Bool) (place from : ℕ) → ((i : ℕ) → memory_refused (place + i) ≡ other (from + i)) →
-    (H : List Event) (commands : List (ℕ × Command)) → replay_from objects most memory_refused place H commands ≡ replay_from objects most other from H commands
-same_memory_refused objects most memory_refused other place from same H [] = refl
-same_memory_refused objects most memory_refused other place from same H (c ∷ commands) =
+same_memory_refused : (objects : List Object) (limits : Limits) (memory_refused other : ℕ → Bool) (place from : ℕ) → ((i : ℕ) → memory_refused (place + i) ≡ other (from + i)) →
+    (H : List Event) (commands : List (ℕ × Command)) → replay_from objects limits memory_refused place H commands ≡ replay_from objects limits other from H commands
+same_memory_refused objects limits memory_refused other place from same H [] = refl
+same_memory_refused objects limits memory_refused other place from same H (c ∷ commands) =
     let here : memory_refused place ≡ other from = rw (add-zero place, add-zero from) at (same 0) in
     let later : (i : ℕ) → memory_refused (suc place + i) ≡ other (suc from + i) = λ i. rw (suc-add place i, suc-add from i, ← (add-suc place i), ← (add-suc from i)) (same (suc i)) in
-    rw here (same_memory_refused objects most memory_refused other (suc place) (suc from) later
-    (if other from then H else after_command objects most H (c.0) (c.1)) commands)
+    rw here (same_memory_refused objects limits memory_refused other (suc place) (suc from) later
+    (if other from then H else after_command objects limits H (c.0) (c.1)) commands)
 
 -- the history after two lists from a place on
-joined_from : (objects : List Object) (most : ℕ) (memory_refused : ℕ → Bool) (place : ℕ) (H : List Event) (first second : List (ℕ × Command)) →
-    replay_from objects most memory_refused place H (first ++ second) ≡ replay_from objects most memory_refused (place + length first) (replay_from objects most memory_refused place H first) second
-joined_from objects most memory_refused place H [] second = rw add-zero refl
-joined_from objects most memory_refused place H (c ∷ first) second =
+joined_from : (objects : List Object) (limits : Limits) (memory_refused : ℕ → Bool) (place : ℕ) (H : List Event) (first second : List (ℕ × Command)) →
+    replay_from objects limits memory_refused place H (first ++ second) ≡ replay_from objects limits memory_refused (place + length first) (replay_from objects limits memory_refused place H first) second
+joined_from objects limits memory_refused place H [] second = rw add-zero refl
+joined_from objects limits memory_refused place H (c ∷ first) second =
     rw (add-suc place (length first), ← (suc-add place (length first)))
-    (joined_from objects most memory_refused (suc place) (if memory_refused place then H else after_command objects most H (c.0) (c.1)) first second)
+    (joined_from objects limits memory_refused (suc place) (if memory_refused place then H else after_command objects limits H (c.0) (c.1)) first second)
 
 -- the replay of two lists
 pub replays_join : ReplaysJoin
-replays_join = λ objects most memory_refused H first second.
-    joined_from objects most memory_refused 0 H first second
-    ∙ same_memory_refused objects most memory_refused (λ i. memory_refused (length first + i)) (0 + length first) 0 (λ i. rw (zero-add (length first), zero-add i) refl)
-    (replay objects most memory_refused H first) second
+replays_join = λ objects limits memory_refused H first second.
+    joined_from objects limits memory_refused 0 H first second
+    ∙ same_memory_refused objects limits memory_refused (λ i. memory_refused (length first + i)) (0 + length first) 0 (λ i. rw (zero-add (length first), zero-add i) refl)
+    (replay objects limits memory_refused H first) second

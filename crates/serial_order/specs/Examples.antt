@@ -13,6 +13,7 @@ use Rattle.object_trait.specs.declared.event.Event.{Event}
 use Rattle.object_trait.specs.declared.event.EventKind.{EventKind}
 use Rattle.object_trait.specs.declared.event.EventKind.TheVariants as kind
 use Rattle.object_trait.specs.declared.event.EventKind.TheVariants.{Begin, Op, Commit, Abort, Rollback}
+use Rattle.store_limits.specs.declared.limits.Limits.{Limits}
 use Rattle.serial_order.specs.History.{Summary, summary}
 use Rattle.serial_order.specs.declared.command.Command.{Command}
 use Rattle.serial_order.specs.declared.command.Command.TheVariants as command
@@ -23,6 +24,10 @@ use Rattle.serial_order.specs.declared.entry.Entry.{Entry}
 -- these events, all by worker 0
 abbrev pub events : List EventKind → List Event
 events kinds = map (λ k. record { worker = 0; kind = k }) kinds
+
+-- the limits of a store in which one transaction is open at a time
+abbrev pub one_open : Limits
+one_open = record { events = 1000; «open» = 1; objects = 256 }
 
 -- an operation of a transaction at an object
 abbrev pub entry : ℕ → ℕ → ℕ → Entry

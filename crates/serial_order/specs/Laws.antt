@@ -12,6 +12,7 @@ use Rattle.object_trait.specs.Steps.{IsFresh, IsLegalFor, stopper, MayApply}
 use Rattle.object_trait.specs.declared.event.Event.{Event}
 use Rattle.object_trait.specs.declared.event.EventKind.{EventKind}
 use Rattle.object_trait.specs.declared.event.EventKind.TheVariants.{Op, Commit}
+use Rattle.store_limits.specs.declared.limits.Limits.{Limits}
 use Rattle.serial_order.specs.Operations.{is_by, ops}
 use Rattle.serial_order.specs.History.{surviving, summary, is_open, IsHistory}
 use Rattle.serial_order.specs.View.{view, is_legal_for}
@@ -56,34 +57,34 @@ AnswerMayFollow =
 -- the history after any commands is a run
 abbrev pub ReplayRuns : Type 0
 ReplayRuns =
-    (objects : List Object) (most : ℕ) (memory_refused : ℕ → Bool) (H : List Event) (commands : List (ℕ × Command))
-    → IsRun objects H → IsRun objects (replay objects most memory_refused H commands)
+    (objects : List Object) (limits : Limits) (memory_refused : ℕ → Bool) (H : List Event) (commands : List (ℕ × Command))
+    → IsRun objects H → IsRun objects (replay objects limits memory_refused H commands)
 
 -- the command appends one event, of this worker: it is the command's, and may follow
-pub record IsAppended (objects : List Object) (most : ℕ) (H : List Event) (w : ℕ) (command : Command) : Type 0 where
+pub record IsAppended (objects : List Object) (limits : Limits) (H : List Event) (w : ℕ) (command : Command) : Type 0 where
   pub happened : EventKind
   pub is : event_of objects (summary H) command ≡ Some happened
   pub may_follow : MayFollow objects H (record { worker = w; kind = happened })
-  pub appends : replay objects most (λ _. false) H ((w, command) ∷ []) ≡ H ++ (record { worker = w; kind = happened }) ∷ []
+  pub appends : replay objects limits (λ _. false) H ((w, command) ∷ []) ≡ H ++ (record { worker = w; kind = happened }) ∷ []
 
 -- where memory isn't refused, a command that isn't refused appends its event
 abbrev pub CommandAppends : Type 0
 CommandAppends =
-    (objects : List Object) (most : ℕ) (H : List Event) (w : ℕ) (command : Command)
-    → refusal objects most H command ≡ None → IsAppended objects most H w command
+    (objects : List Object) (limits : Limits) (H : List Event) (w : ℕ) (command : Command)
+    → refusal objects limits H command ≡ None → IsAppended objects limits H w command
 
 -- and a refused one nothing
 abbrev pub RefusedAppendsNothing : Type 0
 RefusedAppendsNothing =
-    (objects : List Object) (most : ℕ) (H : List Event) (w : ℕ) (command : Command) (reason : Refusal)
-    → refusal objects most H command ≡ Some reason → replay objects most (λ _. false) H ((w, command) ∷ []) ≡ H
+    (objects : List Object) (limits : Limits) (H : List Event) (w : ℕ) (command : Command) (reason : Refusal)
+    → refusal objects limits H command ≡ Some reason → replay objects limits (λ _. false) H ((w, command) ∷ []) ≡ H
 
 -- the replay of two lists is that of the second after that of the first, with places counted on
 abbrev pub ReplaysJoin : Type 0
 ReplaysJoin =
-    (objects : List Object) (most : ℕ) (memory_refused : ℕ → Bool) (H : List Event) (first second : List (ℕ × Command))
-    → replay objects most memory_refused H (first ++ second)
-    ≡ replay objects most (λ i. memory_refused (length first + i)) (replay objects most memory_refused H first) second
+    (objects : List Object) (limits : Limits) (memory_refused : ℕ → Bool) (H : List Event) (first second : List (ℕ × Command))
+    → replay objects limits memory_refused H (first ++ second)
+    ≡ replay objects limits (λ i. memory_refused (length first + i)) (replay objects limits memory_refused H first) second
 
 -- ---- update in place
 

@@ -20,7 +20,8 @@ ghost use Rattle.serial_order.specs.Replay.{open_count, refusal, replay};
 ghost use Rattle.serial_order.specs.After.{summary_next, is_open_after, AreBelow, CountsTo, beginners};
 ghost use Rattle.serial_order.specs.Held.{held_at, held_after, own_after};
 ghost use Rattle.serial_order.specs.Laws.{IsSerialAndKept};
-ghost use Rattle.serial_order.specs.Examples.{events, entry, seen_first, undo_one_way, undo_counter, deferred_counter, undo_semiqueue, undo_account, one_way_history, semiqueue_history, deferred_history, lock_history, two_objects_history, unlocked_history, refused_history, reader_history, half_history, half_deferred_history, up_and_back, number_object, number_history, short_history, three_of_five, takers_history};
+ghost use Rattle.store_limits.specs.Standard.{standard_with};
+ghost use Rattle.serial_order.specs.Examples.{events, one_open, entry, seen_first, undo_one_way, undo_counter, deferred_counter, undo_semiqueue, undo_account, one_way_history, semiqueue_history, deferred_history, lock_history, two_objects_history, unlocked_history, refused_history, reader_history, half_history, half_deferred_history, up_and_back, number_object, number_history, short_history, three_of_five, takers_history};
 ghost use Rattle.serial_order.specs.Epochs.{serial_over, types_after, types_at};
 ghost use Rattle.serial_order.specs.EpochExamples.{up, up_and_down_epochs};
 
@@ -196,39 +197,41 @@ pub fn a_reply_that_was_taken_back_is_not_replayed()
 
 /// The first reason that holds is given, from `NotOpen` on.
 pub fn a_refusal_is_the_first_that_holds()
-    ensures unopened { refusal (undo_counter ∷ []) 20 [] (Command.Commit 0) ≡ Some Refusal.NotOpen }
-    ensures ended { refusal (undo_counter ∷ []) 20 lock_history (Command.Call 1 5 (codes "inc:1")) ≡ Some Refusal.NotOpen }
-    ensures objectless { refusal (undo_counter ∷ []) 20 (take 3 lock_history) (Command.Call 0 1 (codes "inc:1")) ≡ Some Refusal.NoObject }
-    ensures nameless { refusal (undo_counter ∷ []) 20 (take 3 lock_history) (Command.Call 0 0 (codes "inc:2")) ≡ Some Refusal.NoCall }
+    ensures unopened { refusal (undo_counter ∷ []) (standard_with 20) [] (Command.Commit 0) ≡ Some Refusal.NotOpen }
+    ensures ended { refusal (undo_counter ∷ []) (standard_with 20) lock_history (Command.Call 1 5 (codes "inc:1")) ≡ Some Refusal.NotOpen }
+    ensures objectless { refusal (undo_counter ∷ []) (standard_with 20) (take 3 lock_history) (Command.Call 0 1 (codes "inc:1")) ≡ Some Refusal.NoObject }
+    ensures nameless { refusal (undo_counter ∷ []) (standard_with 20) (take 3 lock_history) (Command.Call 0 0 (codes "inc:2")) ≡ Some Refusal.NoCall }
 {}
 
 /// A rollback strikes from one operation to all that its transaction has.
 pub fn a_rollback_has_its_range()
-    ensures none { refusal (undo_counter ∷ []) 20 (take 3 lock_history) (Command.Rollback 0 0) ≡ Some Refusal.BadRollback }
-    ensures more { refusal (undo_counter ∷ []) 20 (take 3 lock_history) (Command.Rollback 0 2) ≡ Some Refusal.BadRollback }
-    ensures all { refusal (undo_counter ∷ []) 20 (take 3 lock_history) (Command.Rollback 0 1) ≡ None }
+    ensures none { refusal (undo_counter ∷ []) (standard_with 20) (take 3 lock_history) (Command.Rollback 0 0) ≡ Some Refusal.BadRollback }
+    ensures more { refusal (undo_counter ∷ []) (standard_with 20) (take 3 lock_history) (Command.Rollback 0 2) ≡ Some Refusal.BadRollback }
+    ensures all { refusal (undo_counter ∷ []) (standard_with 20) (take 3 lock_history) (Command.Rollback 0 1) ≡ None }
 {}
 
 /// After three events, with two open transactions, one more event needs room for six, a begin for
 /// seven, since it has its own end, and a commit for none.
 pub fn room_is_kept_for_the_ends()
-    ensures call { refusal (undo_counter ∷ []) 6 (take 3 lock_history) (Command.Call 0 0 (codes "inc:1")) ≡ None }
-    ensures full { refusal (undo_counter ∷ []) 5 (take 3 lock_history) (Command.Call 0 0 (codes "inc:1")) ≡ Some Refusal.HistoryFull }
-    ensures begin { refusal (undo_counter ∷ []) 7 (take 3 lock_history) Command.Begin ≡ None }
-    ensures full_to_begin { refusal (undo_counter ∷ []) 6 (take 3 lock_history) Command.Begin ≡ Some Refusal.HistoryFull }
-    ensures commit { refusal (undo_counter ∷ []) 0 (take 3 lock_history) (Command.Commit 0) ≡ None }
+    ensures call { refusal (undo_counter ∷ []) (standard_with 6) (take 3 lock_history) (Command.Call 0 0 (codes "inc:1")) ≡ None }
+    ensures full { refusal (undo_counter ∷ []) (standard_with 5) (take 3 lock_history) (Command.Call 0 0 (codes "inc:1")) ≡ Some Refusal.HistoryFull }
+    ensures begin { refusal (undo_counter ∷ []) (standard_with 7) (take 3 lock_history) Command.Begin ≡ None }
+    ensures full_to_begin { refusal (undo_counter ∷ []) (standard_with 6) (take 3 lock_history) Command.Begin ≡ Some Refusal.HistoryFull }
+    ensures commit { refusal (undo_counter ∷ []) (standard_with 0) (take 3 lock_history) (Command.Commit 0) ≡ None }
 {}
 
-/// No transaction begins where 1,024 are open.
-pub fn no_more_than_1024_are_open()
-    ensures { (H : List Event) → 1024 ≤ open_count (summary H) → refusal (undo_counter ∷ []) 5000 H Command.Begin ≡ Some Refusal.TooManyOpen }
+/// No transaction begins where as many are open as the store's limit is.
+pub fn no_more_are_open_than_the_limit()
+    ensures standard { (H : List Event) → 1024 ≤ open_count (summary H) → refusal (undo_counter ∷ []) (standard_with 5000) H Command.Begin ≡ Some Refusal.TooManyOpen }
+    ensures one { refusal (undo_counter ∷ []) one_open (take 1 lock_history) Command.Begin ≡ Some Refusal.TooManyOpen }
+    ensures none_yet { refusal (undo_counter ∷ []) one_open [] Command.Begin ≡ None }
 {}
 
 /// Commands become events, but for those that are refused, and those at which memory was refused.
 pub fn commands_are_replayed()
-    ensures all { replay (undo_counter ∷ []) 4 (λ _. false) [] up_and_back ≡ events (EventKind.Begin 0 ∷ EventKind.Op 0 0 0 ∷ EventKind.Rollback 0 1 ∷ EventKind.Commit 0 ∷ []) }
-    ensures full { replay (undo_counter ∷ []) 3 (λ _. false) [] up_and_back ≡ events (EventKind.Begin 0 ∷ EventKind.Op 0 0 0 ∷ EventKind.Commit 0 ∷ []) }
-    ensures memory_refused { replay (undo_counter ∷ []) 4 (λ place. place == 1) [] up_and_back ≡ events (EventKind.Begin 0 ∷ EventKind.Commit 0 ∷ []) }
+    ensures all { replay (undo_counter ∷ []) (standard_with 4) (λ _. false) [] up_and_back ≡ events (EventKind.Begin 0 ∷ EventKind.Op 0 0 0 ∷ EventKind.Rollback 0 1 ∷ EventKind.Commit 0 ∷ []) }
+    ensures full { replay (undo_counter ∷ []) (standard_with 3) (λ _. false) [] up_and_back ≡ events (EventKind.Begin 0 ∷ EventKind.Op 0 0 0 ∷ EventKind.Commit 0 ∷ []) }
+    ensures memory_refused { replay (undo_counter ∷ []) (standard_with 4) (λ place. place == 1) [] up_and_back ≡ events (EventKind.Begin 0 ∷ EventKind.Commit 0 ∷ []) }
 {}
 
 /// Events with numbers below this many objects, operations and events, and some that have others.

@@ -8,7 +8,7 @@ use Rattle.object_trait.specs.declared.event.Event.{Event}
 use Rattle.serial_order.specs.Operations.{of}
 use Rattle.serial_order.specs.History.{summary, is_open}
 use Rattle.serial_order.specs.Laws.{CommandAppends}
-use Rattle.type_table.specs.Limits.{most_open}
+use Rattle.store_limits.specs.declared.limits.Limits.{Limits}
 use Rattle.serial_order.specs.Replay.{open_count, is_history_full, call_at, refusal, after_command, replay_from}
 use Rattle.serial_order.specs.declared.command.Command.{Command}
 use Rattle.serial_order.specs.declared.command.Command.TheVariants.{Begin, Call, Commit, Abort, Rollback}
@@ -44,18 +44,18 @@ not_memory_refused : (test : Bool) (r : Refusal) (rest : Option Refusal) → is_
 not_memory_refused true r rest first behind = first
 not_memory_refused false r rest first behind = behind
 
-never-memory_refused : (objects : List Object) (most : ℕ) (H : List Event) (command : Command) → is_memory_refused (refusal objects most H command) ≡ false
-never-memory_refused objects most H Begin =
-    not_memory_refused (nat_le most_open (open_count (summary H))) TooManyOpen _ refl (not_memory_refused (is_history_full most H 2) HistoryFull None refl refl)
-never-memory_refused objects most H (Call t x name) =
+never-memory_refused : (objects : List Object) (limits : Limits) (H : List Event) (command : Command) → is_memory_refused (refusal objects limits H command) ≡ false
+never-memory_refused objects limits H Begin =
+    not_memory_refused (nat_le limits.«open» (open_count (summary H))) TooManyOpen _ refl (not_memory_refused (is_history_full limits H 2) HistoryFull None refl refl)
+never-memory_refused objects limits H (Call t x name) =
     not_memory_refused (not (is_open (summary H) t)) NotOpen _ refl
     (not_memory_refused (not (is_some (slice_get objects x))) NoObject _ refl
-    (not_memory_refused (not (is_some (call_at (slice_get objects x) name))) NoCall _ refl (not_memory_refused (is_history_full most H 1) HistoryFull None refl refl)))
-never-memory_refused objects most H (Commit t) = not_memory_refused (not (is_open (summary H) t)) NotOpen None refl refl
-never-memory_refused objects most H (Abort t) = not_memory_refused (not (is_open (summary H) t)) NotOpen None refl refl
-never-memory_refused objects most H (Rollback t n) =
+    (not_memory_refused (not (is_some (call_at (slice_get objects x) name))) NoCall _ refl (not_memory_refused (is_history_full limits H 1) HistoryFull None refl refl)))
+never-memory_refused objects limits H (Commit t) = not_memory_refused (not (is_open (summary H) t)) NotOpen None refl refl
+never-memory_refused objects limits H (Abort t) = not_memory_refused (not (is_open (summary H) t)) NotOpen None refl refl
+never-memory_refused objects limits H (Rollback t n) =
     not_memory_refused (not (is_open (summary H) t)) NotOpen _ refl
-    (not_memory_refused (n == 0 || nat_lt (length (of t (summary H).survives)) n) BadRollback _ refl (not_memory_refused (is_history_full most H 1) HistoryFull None refl refl))
+    (not_memory_refused (n == 0 || nat_lt (length (of t (summary H).survives)) n) BadRollback _ refl (not_memory_refused (is_history_full limits H 1) HistoryFull None refl refl))
 
 -- ---- one command
 
@@ -66,13 +66,13 @@ refused-result (Some r) = refl
 
 -- the store after a command, at which memory is refused or isn't
 abbrev next_store : Stored → Bool → AskedCommand → Stored
-next_store old memory_refused a = record old { history = if memory_refused then old.history else after_command (objects old) old.max old.history a.worker a.command }
+next_store old memory_refused a = record old { history = if memory_refused then old.history else after_command (objects old) old.limits old.history a.worker a.command }
 
 -- it is what the command left
 one-left : (old : Stored) (a : AskedCommand) → IsAskedAt old a → a.left ≡ next_store old (is_memory_refused a.reason) a
 one-left old a (inl steps) =
     let reason : a.reason ≡ refusal_of old a.command = sym (refused-result a.reason) ∙ steps.0 in
-    let memory_refused : is_memory_refused a.reason ≡ false = ap is_memory_refused reason ∙ never-memory_refused (objects old) old.max old.history a.command in
+    let memory_refused : is_memory_refused a.reason ≡ false = ap is_memory_refused reason ∙ never-memory_refused (objects old) old.limits old.history a.command in
     steps.1 ∙ ap (λ b. next_store old b a) (sym memory_refused)
 one-left old a (inr memory) =
     let reason : a.reason ≡ Some NoMemory = sym (refused-result a.reason) ∙ ap refusal_in memory.1 in
@@ -83,7 +83,7 @@ one-left old a (inr memory) =
 
 -- a store with the history that is the replay of some commands from a place on
 abbrev from_place : Stored → (ℕ → Bool) → ℕ → List (ℕ × Command) → Stored
-from_place old memory_refused n commands = record old { history = replay_from (objects old) old.max memory_refused n old.history commands }
+from_place old memory_refused n commands = record old { history = replay_from (objects old) old.limits memory_refused n old.history commands }
 
 -- memory was refused at the places of a list that begins at n
 abbrev MemoryRefusedFrom : (ℕ → Bool) → ℕ → List AskedCommand → Type 0
@@ -128,8 +128,8 @@ pub answer-is-defined : CommandAppends → AnswerIsDefined
 answer-is-defined appends = λ old new w t x c name answer step named told.
     elim step [
       | inl steps ↦
-          let its = appends (objects old) old.max old.history w (Call t x name) (sym steps.0) in
-          let history : after_command (objects old) old.max old.history w (Call t x name) ≡ old.history ++ (record { worker = w; kind = as_event t x c answer }) ∷ [] =
+          let its = appends (objects old) old.limits old.history w (Call t x name) (sym steps.0) in
+          let history : after_command (objects old) old.limits old.history w (Call t x name) ≡ old.history ++ (record { worker = w; kind = as_event t x c answer }) ∷ [] =
           ap (λ (s : Stored). s.history) (sym steps.1 ∙ told) in
           its.is ∙ ap Some (same-kind old.history (record { worker = w; kind = its.happened }) (record { worker = w; kind = as_event t x c answer }) (sym its.appends ∙ history))
       | inr memory_refused ↦ absurd (let never : Ok answer ≡ Err NoMemory = memory_refused.1 in cc)

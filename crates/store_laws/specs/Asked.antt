@@ -55,11 +55,11 @@ memory_refused_in (a ∷ asked) (suc place) = memory_refused_in asked place
 
 -- a store with the history that is the replay of the first n commands
 abbrev pub replayed : Stored → List AskedCommand → ℕ → Stored
-replayed old asked n = record old { history = replay (objects old) old.max (memory_refused_in asked) old.history (take n (commands_of asked)) }
+replayed old asked n = record old { history = replay (objects old) old.limits (memory_refused_in asked) old.history (take n (commands_of asked)) }
 
 -- the store after all commands has the history of their replay, and each command was answered at the replay of those before it
 pub record LeavesReplay (old : Stored) (asked : List AskedCommand) : Type 0 where
-  pub all : store_left_by old asked ≡ record old { history = replay (objects old) old.max (memory_refused_in asked) old.history (commands_of asked) }
+  pub all : store_left_by old asked ≡ record old { history = replay (objects old) old.limits (memory_refused_in asked) old.history (commands_of asked) }
   pub each : (i : ℕ) (a : AskedCommand) → slice_get asked i ≡ Some a → IsAskedAt (replayed old asked i) a
 
 -- ---- statements of laws

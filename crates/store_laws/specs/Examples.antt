@@ -1,4 +1,5 @@
 -- Small stores, worked by hand.
+use Rattle.store_limits.specs.Standard.{standard_with}
 use Rattle.std.specs.Prelude.{ℕ, List, [], ◌∷◌, take, Option, Some, None, codes}
 use Rattle.type_table.specs.declared.kind.Kind.TheVariants.{Undo, Intentions}
 use Rattle.table_checker.specs.Checked.{Checked, IsChecked}
@@ -73,7 +74,7 @@ one_back =
 
 -- the two counters with this history, and room for four events
 abbrev pub stored : List Event → Stored
-stored H = record { types = undo_counter_type ∷ deferred_counter_type ∷ []; history = H; max = 4; forgotten = 0 }
+stored H = record { types = undo_counter_type ∷ deferred_counter_type ∷ []; history = H; limits = standard_with 4; forgotten = 0 }
 
 -- worker 7 asked a command, which left this history
 abbrev pub by_worker : Command → Option Refusal → List Event → AskedCommand

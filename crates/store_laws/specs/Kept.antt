@@ -1,4 +1,5 @@
 -- What a store keeps beside its history, and how it agrees with it.
+use Rattle.store_limits.specs.declared.limits.Limits.{Limits}
 use Rattle.std.specs.Prelude.{◌≡◌, ℕ, ◌+◌, ◌≤◌, List, map, length, Option, Some, is_some, slice_get}
 use Rattle.table_checker.specs.Checked.{IsChecked}
 use Rattle.object_trait.specs.Object.{Object, object_of}
@@ -55,7 +56,7 @@ pub record IsKept (k : Keeping) (H : List Event) : Type 0 where
   pub transactions : (t : ℕ) (row : Option Row) → slice_get k.rows t ≡ Some row → IsKeptRow row t H
 
 -- and the history has room for the ends of open transactions, in its vector and by its limit
-pub record IsStore (k : Keeping) (H : List Event) (capacity max : ℕ) : Type 0 where
+pub record IsStore (k : Keeping) (H : List Event) (capacity : ℕ) (limits : Limits) : Type 0 where
   pub kept : IsKept k H
   pub reserved : length H + open_count (summary H) ≤ capacity
-  pub limited : length H + open_count (summary H) ≤ max
+  pub limited : length H + open_count (summary H) ≤ limits.events

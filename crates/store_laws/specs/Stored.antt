@@ -1,5 +1,6 @@
 -- What a store means to its callers, and what its calls do.
 use Rattle.std.specs.Prelude.{◌≡◌, ℕ, List, map, ◌⊎◌, Option, Some, None, Result, Ok, Err}
+use Rattle.store_limits.specs.declared.limits.Limits.{Limits}
 use Rattle.table_checker.specs.Checked.{Checked}
 use Rattle.object_trait.specs.Object.{Object, object_of}
 use Rattle.object_trait.specs.Meaning.{Meaning}
@@ -9,12 +10,12 @@ use Rattle.serial_order.specs.declared.command.Command.{Command}
 use Rattle.serial_order.specs.declared.refusal.Refusal.{Refusal}
 use Rattle.serial_order.specs.declared.refusal.Refusal.TheVariants.{NoMemory}
 
--- the objects' types, the whole history, the most events that it may have, and how many of its first events were forgotten: the others
+-- the objects' types, the whole history, its limits, and how many of its first events were forgotten: the others
 -- are in memory
 pub record Stored : Type 0 where
   pub types : List Checked
   pub history : List Event
-  pub max : ℕ
+  pub limits : Limits
   pub forgotten : ℕ
 
 -- the types of objects of these meanings
@@ -25,11 +26,11 @@ abbrev pub objects : Stored → List Object
 objects s = map object_of s.types
 
 abbrev pub refusal_of : Stored → Command → Option Refusal
-refusal_of s command = refusal (objects s) s.max s.history command
+refusal_of s command = refusal (objects s) s.limits s.history command
 
 -- after a worker's command: a refusal changes nothing, and nothing but the history changes
 abbrev pub stored_after : Stored → ℕ → Command → Stored
-stored_after s w command = record s { history = after_command (objects s) s.max s.history w command }
+stored_after s w command = record s { history = after_command (objects s) s.limits s.history w command }
 
 -- why a call was refused
 abbrev pub refusal_in : {T : Type 0} → Result T Refusal → Option Refusal

@@ -5,6 +5,7 @@ ghost use Rattle.std.specs.Prelude.{◌≡◌, ℕ, [], ◌∷◌, Some, None, O
 ghost use Rattle.type_table.specs.Operation.{operation_at};
 ghost use Rattle.serial_order.specs.Replay.{replay};
 ghost use Rattle.store_laws.specs.Stored.{objects, refusal_of, stored_after, Steps, MayStep};
+ghost use Rattle.store_limits.specs.Standard.{standard_with};
 ghost use Rattle.store_laws.specs.Kept.{IsKeptRow, IsKept, IsStore};
 ghost use Rattle.store_laws.specs.Moves.{KeptRowsMove, Moves};
 ghost use Rattle.store_laws.specs.Words.{as_event};
@@ -77,9 +78,9 @@ pub fn a_rollback_takes_the_last_places()
 
 /// Room is reserved for the end of each open transaction, in the vector and by the limit.
 pub fn room_is_reserved_for_the_ends()
-    ensures enough { IsKept counters_begun (take 1 one_up) → IsStore counters_begun (take 1 one_up) 2 2 }
-    ensures small { IsStore counters_begun (take 1 one_up) 1 2 → ⊥ }
-    ensures limited { IsStore counters_begun (take 1 one_up) 2 1 → ⊥ }
+    ensures enough { IsKept counters_begun (take 1 one_up) → IsStore counters_begun (take 1 one_up) 2 (standard_with 2) }
+    ensures small { IsStore counters_begun (take 1 one_up) 1 (standard_with 2) → ⊥ }
+    ensures limited { IsStore counters_begun (take 1 one_up) 2 (standard_with 1) → ⊥ }
 {}
 
 /// What a call does: its event, by its worker, and nothing where it is refused.
@@ -121,7 +122,7 @@ pub fn the_last_places()
 pub fn asked_commands_are_replayed()
     ensures asked { AreAsked (stored []) up_and_again }
     ensures left { store_left_by (stored []) up_and_again ≡ stored one_up }
-    ensures history { replay (objects (stored [])) 4 (memory_refused_in up_and_again) [] (commands_of up_and_again) ≡ one_up }
+    ensures history { replay (objects (stored [])) (standard_with 4) (memory_refused_in up_and_again) [] (commands_of up_and_again) ≡ one_up }
     ensures first { replayed (stored []) up_and_again 2 ≡ stored (take 1 one_up) }
     ensures other_reason { AreAsked (stored []) (by_worker Command.Begin (Some Refusal.TooManyOpen) [] ∷ []) → ⊥ }
 {}
