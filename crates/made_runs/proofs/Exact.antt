@@ -16,12 +16,14 @@ use Rattle.serial_order.proofs.Pairs.{each-all}
 use Rattle.dynamic_atomicity.specs.Converse.{executed_by, breaking, BreaksAreEnough, UndoBreaksAreEnough}
 use Rattle.dynamic_atomicity.specs.Dynamic.{CoveredIsAtomic, CommitOrderKeeps}
 use Rattle.dynamic_atomicity.specs.Witnessed.{WitnessBreaks}
+use Rattle.store_limits.specs.Standard.{standard_with}
+use Rattle.store_limits.specs.declared.limits.Limits.{Limits}
 use Rattle.made_runs.specs.Made.{IsMadeByCommands, HasOneReply, IsToldBy, HasRoomForRun}
 use Rattle.made_runs.specs.Laws.{RunsAreMade, StoreCoverIsExact, StoreUndoIsExact, StoreMakesWitness}
 
 -- what commands make is a run
-pub made_is_run : ReplayRuns → (objects : List Object) (most : ℕ) (H : List Event) → IsMadeByCommands objects most H → IsRun objects H
-made_is_run replays objects most H (commands, is) = subst (IsRun objects) is (replays objects most (λ _. false) [] commands tt)
+pub made_is_run : ReplayRuns → (objects : List Object) (limits : Limits) (H : List Event) → IsMadeByCommands objects limits H → IsRun objects H
+made_is_run replays objects limits H (commands, is) = subst (IsRun objects) is (replays objects limits (λ _. false) [] commands tt)
 
 -- ---- the runs that break
 
@@ -37,9 +39,13 @@ begins-breaking x first second w p q r =
     let start = begins-by x 0 w (Commit 0 ∷ Begin 1 ∷ Begin 2 ∷ Op q 1 x ∷ Op p 2 x ∷ Commit first ∷ Commit second ∷ Begin 3 ∷ (executed_by x 3 r ++ Commit 3 ∷ [])) in
     omega (arith, start, end)
 
--- so there is room where that is for the events
+-- limits with as many events as its commands need
+abbrev room_of : (x first second : ℕ) (w : List ℕ) (p q : ℕ) (r : List ℕ) → Limits
+room_of x first second w p q r = standard_with (length (breaking x first second w p q r) + length (breaking x first second w p q r) + 2)
+
+-- so there is room
 breaking-room : (x first second : ℕ) (w : List ℕ) (p q : ℕ) (r : List ℕ)
-    → HasRoomForRun (length (breaking x first second w p q r) + length (breaking x first second w p q r) + 2) (breaking x first second w p q r)
+    → HasRoomForRun (room_of x first second w p q r) (breaking x first second w p q r)
 breaking-room x first second w p q r = record { open_at_once = let few = begins-breaking x first second w p q r in omega (arith, few); events = omega arith }
 
 module _ (objects : List Object) (x : ℕ) (o : Object) (there : slice_get objects x ≡ Some o) (once : HasOneReply o.table) where
@@ -58,29 +64,29 @@ module _ (objects : List Object) (x : ℕ) (o : Object) (there : slice_get objec
 
   -- commands make it
   breaking-made : RunsAreMade → (first second : ℕ) (w : List ℕ) (p q : ℕ) (r : List ℕ) → IsRun objects (breaking x first second w p q r)
-      → IsMadeByCommands objects (length (breaking x first second w p q r) + length (breaking x first second w p q r) + 2) (breaking x first second w p q r)
+      → IsMadeByCommands objects (room_of x first second w p q r) (breaking x first second w p q r)
   breaking-made make first second w p q r runs = make objects _ (breaking x first second w p q r) runs (breaking-told first second w p q r) (breaking-room x first second w p q r)
 
 -- ---- the laws
 
 pub store_cover_is_exact : ReplayRuns → RunsAreMade → CoveredIsAtomic → BreaksAreEnough → StoreCoverIsExact
 store_cover_is_exact replays make atomic breaks objects x o way there named once is reached = (
-  (λ covered most H made ts order keeps. (atomic objects H x o (made_is_run replays objects most H made) there covered ts order keeps).legal),
+  (λ covered limits H made ts order keeps. (atomic objects H x o (made_is_run replays objects limits H made) there covered ts order keeps).legal),
   (λ admits. breaks objects x o way there named is reached (λ first second w p q r runs.
-      admits _ (breaking x first second w p q r) (breaking-made objects x o there once make first second w p q r runs))),
+      admits (room_of x first second w p q r) (breaking x first second w p q r) (breaking-made objects x o there once make first second w p q r runs))),
 )
 
 pub store_undo_is_exact : ReplayRuns → RunsAreMade → CoveredIsAtomic → CommitOrderKeeps → UndoBreaksAreEnough → StoreUndoIsExact
 store_undo_is_exact replays make atomic keeps breaks objects x o there named once undo reached = (
-  (λ covered most H made.
-      let runs = made_is_run replays objects most H made in
+  (λ covered limits H made.
+      let runs = made_is_run replays objects limits H made in
       let order = keeps objects H runs in
       (atomic objects H x o runs there covered (commits H) order.0 (order.1 x)).legal),
-  (λ legal. breaks objects x o there named undo reached (λ w p q r runs. legal _ (breaking x 2 1 w p q r) (breaking-made objects x o there once make 2 1 w p q r runs))),
+  (λ legal. breaks objects x o there named undo reached (λ w p q r runs. legal (room_of x 2 1 w p q r) (breaking x 2 1 w p q r) (breaking-made objects x o there once make 2 1 w p q r runs))),
 )
 
 pub store_makes_witness : RunsAreMade → WitnessBreaks → StoreMakesWitness
-store_makes_witness make breaks = λ objects x o kind p q most w there named once is free witness room.
+store_makes_witness make breaks = λ objects x o kind p q limits w there named once is free witness room.
     let broken = breaks objects x o kind p q w there named is free witness in
-    make objects most (breaking x (first_commit kind w.held_first) (second_commit kind w.held_first) (lead_of w) p q (tell_of w)) broken.is_run
+    make objects limits (breaking x (first_commit kind w.held_first) (second_commit kind w.held_first) (lead_of w) p q (tell_of w)) broken.is_run
     (breaking-told objects x o there once (first_commit kind w.held_first) (second_commit kind w.held_first) (lead_of w) p q (tell_of w)) room

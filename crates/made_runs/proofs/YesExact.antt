@@ -31,7 +31,7 @@ module _ (replays : ReplayRuns) (within : StepsWithin) (covers : CoverIsExact) (
   exact_by objects x file way there named once table certified reach said =
       let o : Object = object_of (record { kind = of_table way; file = file }) in
       let reached = reached_by within file way table certified reach in (
-        (λ checked most H made ts order keeps. said.0 checked H (made_is_run replays objects most H made) ts order keeps),
+        (λ checked limits H made ts order keeps. said.0 checked H (made_is_run replays objects limits H made) ts order keeps),
         (λ admits. said.1 ((covers objects x o way there named refl reached).0 ((stores objects x o way there named once refl reached).1 admits))),
       )
 

@@ -19,18 +19,19 @@ use Rattle.serial_order.specs.Serial.{surviving_at, serial_at}
 use Rattle.dynamic_atomicity.specs.Dynamic.{IsOrderOf, KeepsObjectPrecedes}
 use Rattle.dynamic_atomicity.specs.Converse.{IsComplete, IsReachable, IsReached, StepsHaveOps}
 use Rattle.dynamic_atomicity.specs.Witnessed.{witness_history}
+use Rattle.store_limits.specs.declared.limits.Limits.{Limits}
 use Rattle.made_runs.specs.Made.{IsMadeByCommands, IsToldBy, HasOneReply, HasRoomForRun}
 
 -- each run is made by commands, where its events are told by the objects' states, and there is room
 abbrev pub RunsAreMade : Type 0
 RunsAreMade =
-    (objects : List Object) (most : ℕ) (H : List Event) → IsRun objects H → AllByRecursion (λ e. IsToldBy objects e.kind) H → HasRoomForRun most H
-    → IsMadeByCommands objects most H
+    (objects : List Object) (limits : Limits) (H : List Event) → IsRun objects H → AllByRecursion (λ e. IsToldBy objects e.kind) H → HasRoomForRun limits H
+    → IsMadeByCommands objects limits H
 
 -- in each history that commands make, each order that keeps what precedes at x is legal there
 abbrev pub StoreAdmitsLegalOnly : List Object → ℕ → Object → Type 0
 StoreAdmitsLegalOnly objects x o =
-    (most : ℕ) (H : List Event) → IsMadeByCommands objects most H → (ts : List ℕ) → IsOrderOf (commits H) ts → KeepsObjectPrecedes x H ts
+    (limits : Limits) (H : List Event) → IsMadeByCommands objects limits H → (ts : List ℕ) → IsOrderOf (commits H) ts → KeepsObjectPrecedes x H ts
     → IsLegal o.table (Some o.table.initial) (ops (serial ts (surviving_at x H)))
 
 -- where the state says the reply, a conflict table is enough exactly where the store makes legal orders only
@@ -44,7 +45,7 @@ abbrev pub StoreUndoIsExact : Type 0
 StoreUndoIsExact =
     (objects : List Object) (x : ℕ) (o : Object) → slice_get objects x ≡ Some o → StepsHaveOps o.table → HasOneReply o.table → o.kind ≡ Undo
     → IsReached o
-    → IsCovered o ↔ ((most : ℕ) (H : List Event) → IsMadeByCommands objects most H → IsLegal o.table (Some o.table.initial) (ops (serial_at x H)))
+    → IsCovered o ↔ ((limits : Limits) (H : List Event) → IsMadeByCommands objects limits H → IsLegal o.table (Some o.table.initial) (ops (serial_at x H)))
 
 -- so for the checker's yes: over a set of states that are all reached, and a relation that is complete
 abbrev pub StoreYesIsExact : Type 0
@@ -56,6 +57,6 @@ StoreYesIsExact =
 -- the run that a witness of a missing pair gives is one that the store makes, where it has room
 abbrev pub StoreMakesWitness : Type 0
 StoreMakesWitness =
-    (objects : List Object) (x : ℕ) (o : Object) (kind : TableKind) (p q most : ℕ) (w : Witness) → slice_get objects x ≡ Some o → StepsHaveOps o.table
-    → HasOneReply o.table → o.kind ≡ of_table kind → o.conflicts p q ≡ false → IsWitness kind o.table p q w → HasRoomForRun most (witness_history x kind p q w)
-    → IsMadeByCommands objects most (witness_history x kind p q w)
+    (objects : List Object) (x : ℕ) (o : Object) (kind : TableKind) (p q : ℕ) (limits : Limits) (w : Witness) → slice_get objects x ≡ Some o → StepsHaveOps o.table
+    → HasOneReply o.table → o.kind ≡ of_table kind → o.conflicts p q ≡ false → IsWitness kind o.table p q w → HasRoomForRun limits (witness_history x kind p q w)
+    → IsMadeByCommands objects limits (witness_history x kind p q w)

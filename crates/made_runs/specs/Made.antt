@@ -1,6 +1,6 @@
 -- Histories that commands make, with the answers that a store gives.
 use Rattle.std.specs.Prelude.{◌≡◌, ℕ, ◌+◌, ◌≤◌, List, [], length, true, false, Some, IsSome, slice_get}
-use Rattle.type_table.specs.Limits.{most_open}
+use Rattle.store_limits.specs.declared.limits.Limits.{Limits}
 use Rattle.type_table.specs.Table.{Table, next, is_same_call}
 use Rattle.object_trait.specs.Object.{Object}
 use Rattle.object_trait.specs.declared.event.Event.{Event}
@@ -11,9 +11,9 @@ use Rattle.serial_order.specs.History.{begins}
 use Rattle.serial_order.specs.Replay.{replay}
 use Rattle.serial_order.specs.declared.command.Command.{Command}
 
--- commands make the history at these objects, where it may have so many events, and memory isn't refused
-abbrev pub IsMadeByCommands : List Object → ℕ → List Event → Type 0
-IsMadeByCommands objects most H = (commands : List (ℕ × Command)) × (replay objects most (λ _. false) [] commands ≡ H)
+-- commands make the history at these objects, where a store has these limits, and memory isn't refused
+abbrev pub IsMadeByCommands : List Object → Limits → List Event → Type 0
+IsMadeByCommands objects limits H = (commands : List (ℕ × Command)) × (replay objects limits (λ _. false) [] commands ≡ H)
 
 -- of each call at most one operation is legal in a state: the state says the reply
 abbrev pub HasOneReply : Table → Type 0
@@ -27,6 +27,6 @@ IsToldBy objects (kind.None t x c) = ⊥
 IsToldBy objects _ = Unit {0}
 
 -- no command for it is refused for want of room
-pub record HasRoomForRun (most : ℕ) (H : List Event) : Type 0 where
-  pub open_at_once : begins H ≤ most_open
-  pub events : length H + length H + 2 ≤ most
+pub record HasRoomForRun (limits : Limits) (H : List Event) : Type 0 where
+  pub open_at_once : begins H ≤ limits.«open»
+  pub events : length H + length H + 2 ≤ limits.events

@@ -10,6 +10,7 @@ ghost use Rattle.serial_order.specs.Serial.{IsSerial};
 ghost use Rattle.serial_order.specs.Examples.{semiqueue_of_two, small_account, undo_counter};
 ghost use Rattle.dynamic_atomicity.specs.Converse.{breaking, IsReached, StepsHaveOps};
 ghost use Rattle.dynamic_atomicity.specs.OrderExamples.{loose_account, loose_counter, paired_counter};
+ghost use Rattle.store_limits.specs.Standard.{standard_with};
 ghost use Rattle.made_runs.specs.Made.{HasOneReply, HasRoomForRun, IsMadeByCommands, IsToldBy};
 ghost use Rattle.made_runs.specs.Laws.{StoreAdmitsLegalOnly};
 ghost use Rattle.made_runs.specs.Examples.{balance_and_deposit};
@@ -22,9 +23,9 @@ use type_table::steps_within;
 /// one that commands make.
 pub fn commands_break_a_loose_account()
     ensures one_reply { HasOneReply small_account }
-    ensures replayed { replay (undo_counter ∷ loose_account ∷ []) 30 (λ _. false) [] balance_and_deposit ≡ breaking 1 2 1 [] 0 1 [] }
-    ensures made { IsMadeByCommands (undo_counter ∷ loose_account ∷ []) 30 (breaking 1 2 1 [] 0 1 []) }
-    ensures room { HasRoomForRun 30 (breaking 1 2 1 [] 0 1 []) }
+    ensures replayed { replay (undo_counter ∷ loose_account ∷ []) (standard_with 30) (λ _. false) [] balance_and_deposit ≡ breaking 1 2 1 [] 0 1 [] }
+    ensures made { IsMadeByCommands (undo_counter ∷ loose_account ∷ []) (standard_with 30) (breaking 1 2 1 [] 0 1 []) }
+    ensures room { HasRoomForRun (standard_with 30) (breaking 1 2 1 [] 0 1 []) }
     ensures illegal { IsSerial (undo_counter ∷ loose_account ∷ []) (breaking 1 2 1 [] 0 1 []) → ⊥ }
 {
     steps_within();

@@ -1,9 +1,9 @@
 -- How often each place is among some, and what is left of it once the place was visited.
-use Rattle.std.proofs.Common.{◌≡◌, ℕ, ◌+◌, ◌<◌, ◌≤◌, Bool, true, not, cond, ◌==◌, List, [], ◌∷◌, length, take, set, get_or, filter, Some, refl, sym, ap, subst, ◌∙◌, inl, inr, length-take, get_or-set_same, get_or-set_other, arith}
+use Rattle.std.proofs.Common.{All, ◌≡◌, ℕ, ◌+◌, ◌<◌, ◌≤◌, Bool, true, false, not, cond, ◌==◌, List, [], ◌∷◌, length, take, set, get_or, filter, Some, refl, sym, ap, subst, ◌∙◌, inl, inr, length-take, get_or-set_same, get_or-set_other, arith}
 use Rattle.std.specs.Prelude.{slice_get}
 use Rattle.std.specs.List.{list_any}
-use Rattle.std.proofs.lemmas.Bool.{cases_Bool, cases_eq, false≢true, eq-eqb, ne_eqb}
-use Rattle.std.proofs.lemmas.List.{take_all}
+use Rattle.std.proofs.lemmas.Bool.{cases_Bool, cases_eq, false≢true, or_left, eq-eqb, ne_eqb}
+use Rattle.std.proofs.lemmas.List.{take_all, get_or_default}
 use Rattle.std.proofs.lemmas.List.Filters.{length-filter_both, length-filter_more}
 use Rattle.std.proofs.lemmas.Option.{slice_get-get_or, get_or_from_slice_get}
 use Rattle.object_calls.specs.Ends.{is_at, times_in}
@@ -24,9 +24,18 @@ some_counted test (x ∷ xs) some =
       | inr fails ↦ rw fails (some_counted test xs (rw fails at some))
     ]
 
-module _ (places counts : List ℕ) (i : ℕ) (i_in : i < length places) (h : (x : ℕ) → x < 256 → get_or counts x 0 ≡ times_in x (take i places)) where
+-- and what isn't, isn't
+none_counted : (test : ℕ → Bool) (xs : List ℕ) → list_any test xs ≡ false → length (filter test xs) ≡ 0
+none_counted test [] none = refl
+none_counted test (x ∷ xs) none =
+    elim (cases_Bool (test x)) [
+      | inl passes ↦ absurd (false≢true (sym none ∙ or_left (test x) (list_any test xs) passes))
+      | inr fails ↦ rw fails (none_counted test xs (rw fails at none))
+    ]
+
+module _ (n : ℕ) (places counts : List ℕ) (i : ℕ) (i_in : i < length places) (h : (x : ℕ) → x < n → get_or counts x 0 ≡ times_in x (take i places)) where
   -- one place more is counted
-  pub counts_more : get_or places i 0 < length counts → (x : ℕ) → x < 256 → get_or (set counts (get_or places i 0) (get_or counts (get_or places i 0) 0 + 1)) x 0 ≡ times_in x (take (i + 1) places)
+  pub counts_more : get_or places i 0 < length counts → (x : ℕ) → x < n → get_or (set counts (get_or places i 0) (get_or counts (get_or places i 0) 0 + 1)) x 0 ≡ times_in x (take (i + 1) places)
   counts_more y_in x low =
       let y : ℕ = get_or places i 0 in
       let one : times_in x (take (i + 1) places) ≡ times_in x (take i places) + cond (y == x) 1 0 = length-filter_more (λ z. z == x) places i 0 i_in in
@@ -43,25 +52,25 @@ module _ (places counts : List ℕ) (i : ℕ) (i_in : i < length places) (h : (x
       ]
 
   -- and its count isn't more than the places so far
-  pub counts_fit : (x : ℕ) → x < 256 → get_or counts x 0 ≤ i
+  pub counts_fit : (x : ℕ) → x < n → get_or counts x 0 ≤ i
   counts_fit x low = omega (arith, h x low, count_at-bound x (take i places), length-take i places)
 
 -- all are counted
-pub counts_all : (places counts : List ℕ) → 256 ≤ length counts → ((x : ℕ) → x < 256 → get_or counts x 0 ≡ times_in x (take (length places) places)) → (x : ℕ) → x < 256 → slice_get counts x ≡ Some (times_in x places)
-counts_all places counts long h x low =
+pub counts_all : (n : ℕ) (places counts : List ℕ) → length counts ≡ n → ((x : ℕ) → x < n → get_or counts x 0 ≡ times_in x (take (length places) places)) → (x : ℕ) → x < n → slice_get counts x ≡ Some (times_in x places)
+counts_all n places counts long h x low =
     slice_get-get_or counts x 0 (omega (arith, long, low)) ∙ ap Some (h x low ∙ ap (times_in x) (take_all (length places) places (omega arith)))
 
 -- ---- visits
 
 -- of a place that was visited nothing is left, of another its whole count
-pub record AreLeft (places : List ℕ) (i : ℕ) (counts : List ℕ) : Type 0 where
-  pub visited : (x : ℕ) → x < 256 → is_at (take i places) x → get_or counts x 0 ≡ 0
-  pub others : (x : ℕ) → x < 256 → (is_at (take i places) x → ⊥) → get_or counts x 0 ≡ times_in x places
+pub record AreLeft (n : ℕ) (places : List ℕ) (i : ℕ) (counts : List ℕ) : Type 0 where
+  pub visited : (x : ℕ) → x < n → is_at (take i places) x → get_or counts x 0 ≡ 0
+  pub others : (x : ℕ) → x < n → (is_at (take i places) x → ⊥) → get_or counts x 0 ≡ times_in x places
 
-pub left_whole : (places counts : List ℕ) → ((x : ℕ) → x < 256 → slice_get counts x ≡ Some (times_in x places)) → AreLeft places 0 counts
-left_whole places counts whole = record { visited = λ x low at. absurd (false≢true at); others = λ x low isnt. get_or_from_slice_get counts x (times_in x places) 0 (whole x low) }
+pub left_whole : (n : ℕ) (places counts : List ℕ) → ((x : ℕ) → x < n → slice_get counts x ≡ Some (times_in x places)) → AreLeft n places 0 counts
+left_whole n places counts whole = record { visited = λ x low at. absurd (false≢true at); others = λ x low isnt. get_or_from_slice_get counts x (times_in x places) 0 (whole x low) }
 
-module _ (places : List ℕ) (i : ℕ) (i_in : i < length places) (counts : List ℕ) (h : AreLeft places i counts) (y_low : get_or places i 0 < 256) where
+module _ (n : ℕ) (places : List ℕ) (i : ℕ) (i_in : i < length places) (counts : List ℕ) (h : AreLeft n places i counts) (y_low : get_or places i 0 < n) where
   -- where something is left it is the first visit
   pub first_count : 0 < get_or counts (get_or places i 0) 0 → is_at (take i places) (get_or places i 0) → ⊥
   first_count some at = omega (arith, some, h.visited (get_or places i 0) y_low at)
@@ -78,7 +87,7 @@ module _ (places : List ℕ) (i : ℕ) (i_in : i < length places) (counts : List
             absurd (omega (arith, none, whole, some))
       ]
 
-  pub left_again : is_at (take i places) (get_or places i 0) → AreLeft places (i + 1) counts
+  pub left_again : is_at (take i places) (get_or places i 0) → AreLeft n places (i + 1) counts
   left_again before =
       record {
         visited = λ x low at.
@@ -90,7 +99,7 @@ module _ (places : List ℕ) (i : ℕ) (i_in : i < length places) (counts : List
         others = λ x low isnt. h.others x low (λ at. isnt (visited_with places i i_in x at));
       }
 
-  pub left_now : get_or places i 0 < length counts → AreLeft places (i + 1) (set counts (get_or places i 0) 0)
+  pub left_now : get_or places i 0 < length counts → AreLeft n places (i + 1) (set counts (get_or places i 0) 0)
   left_now y_in =
       let y : ℕ = get_or places i 0 in
       record {
@@ -107,3 +116,14 @@ module _ (places : List ℕ) (i : ℕ) (i_in : i < length places) (counts : List
             get_or-set_other counts y x 0 0 (λ same. isnt (subst (λ z. is_at (take (i + 1) places) z) (sym same) (visited_now places i i_in)))
             ∙ h.others x low (λ at. isnt (visited_with places i i_in x at));
       }
+
+-- once all were visited nothing is left
+pub left_none : (n : ℕ) (places counts : List ℕ) → length counts ≡ n → AreLeft n places (length places) counts → All (λ count. count ≡ 0) counts
+left_none n places counts long h x d x_in = get_or_default counts x d 0 x_in ∙ none x (omega (arith, long, x_in)) where
+  none : (x : ℕ) → x < n → get_or counts x 0 ≡ 0
+  none x low =
+      let whole : take (length places) places ≡ places = take_all (length places) places (omega arith) in
+      elim (cases_Bool (list_any (λ z. z == x) places)) [
+        | inl at ↦ h.visited x low (subst (λ zs. is_at zs x) (sym whole) at)
+        | inr isnt ↦ h.others x low (λ at. false≢true (sym isnt ∙ subst (λ zs. is_at zs x) whole at)) ∙ none_counted (λ z. z == x) places isnt
+      ]

@@ -4,9 +4,8 @@ pub mod Tabled
 pub mod Examples
 pub mod Places
 pub mod Changes
-pub mod Ended
 pub mod Counts
-pub mod Struck
+pub mod Visited
 pub mod Bits
 pub mod NumberCalls
 pub mod LookUps
@@ -15,3 +14,4 @@ pub mod Held
 pub mod AnswerSearch
 pub mod OneAnswer
 pub mod WithoutReply
+pub mod Holding

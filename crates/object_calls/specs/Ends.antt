@@ -1,5 +1,5 @@
 -- What the end of a transaction, and a rollback, do to the objects at some places, and to no others.
-use Rattle.std.specs.Prelude.{◌≡◌, ◌≤◌, ℕ, true, ◌==◌, List, length, filter, Some, slice_get}
+use Rattle.std.specs.Prelude.{◌≡◌, ◌≤◌, ℕ, true, ◌==◌, List, length, filter, All, Some, slice_get}
 use Rattle.std.specs.List.{list_any}
 use Rattle.object_trait.specs.Meaning.{Meaning, open_of}
 use Rattle.object_trait.specs.Steps.{IsCommit, IsAbort}
@@ -12,6 +12,10 @@ is_at places x = list_any (λ y. y == x) places ≡ true
 
 abbrev pub times_in : ℕ → List ℕ → ℕ
 times_in x places = length (filter (λ y. y == x) places)
+
+-- no place is counted
+abbrev pub AreZero : List ℕ → Type 0
+AreZero counts = All (λ count. count ≡ 0) counts
 
 -- at these places something is changed, and nothing at any other
 pub record ChangesAt {A : Type 0} (places : List ℕ) (change : ℕ → A → A → Type 0) (old new : List A) : Type 0 where

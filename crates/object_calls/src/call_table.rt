@@ -1,6 +1,6 @@
 //! The calls of a type, and how one of them is found.
 
-ghost use Rattle.std.specs.Prelude.{◌≡◌, All, ◌≤◌, ◌<◌, ◌++◌, [], ◌∷◌, ℕ, List, length, Some, IsSome, IfOk, IfSome, OnOk};
+ghost use Rattle.std.specs.Prelude.{◌≡◌, true, All, ◌≤◌, ◌<◌, ◌++◌, [], ◌∷◌, ℕ, List, length, Some, IsSome, IfOk, IfSome, OnOk};
 ghost use Rattle.type_table.specs.Table.{first_op};
 ghost use Rattle.std.specs.Option.{option_map};
 ghost use Rattle.declared_types.specs.Declarations.{table_of};
@@ -8,18 +8,19 @@ ghost use Rattle.object_calls.specs.Calls.{by_name, by_number, IsCall, IsNamedCa
 ghost use Rattle.number_types.specs.Operations.{number_table};
 ghost use Rattle.object_calls.specs.Collected.{call_index, AreCallsOf};
 
-use crate::call::{Call, NamedCall};
+use crate::call::{Call, NamedCall, are_same};
 use crate::number_calls::{call_by_name, call_by_number};
 use declared_types::{Declaration, DeclaredType};
 use number_types::NumberFile;
 use std::alloc::{AllocError, Global};
 use std::marker::Model;
+use std::sync::Arc;
 use type_table::{Name, Operation, TypeTable};
 
-/// The calls of a type, each once.
+/// The calls of a type, each once. Tables may share them.
 #[derive(Drop)]
 pub struct CallTable {
-    calls: Vec<NamedCall>,
+    calls: Arc<Vec<NamedCall>>,
 }
 
 impl Model for CallTable {
@@ -28,7 +29,7 @@ impl Model for CallTable {
 
     ghost Value = { List NamedCall };
 
-    ghost view = { λ a. a.calls.items };
+    ghost view = { λ a. a.calls.value.items };
 }
 
 impl CallTable {
@@ -57,7 +58,7 @@ impl CallTable {
         for k in 0..count {
             add_operation(&mut calls, ops[usize::from(k)].call, k)?;
         }
-        Ok(CallTable { calls })
+        CallTable::holding(alloc, calls)
     }
 
     /// Those of a number that its lines name.
@@ -68,7 +69,39 @@ impl CallTable {
         for row in number.rows() {
             add_named(&mut calls, number, row.call)?;
         }
+        CallTable::holding(alloc, calls)
+    }
+
+    /// A table of these calls.
+    fn holding(alloc: Global, calls: Vec<NamedCall>) -> Result<CallTable, AllocError>
+        ensures { IfOk result (λ its. its ≡ calls.items) }
+    {
+        let calls = Arc::new(alloc, calls)?;
         Ok(CallTable { calls })
+    }
+
+    /// The same calls, held once with those of another table, where these are the same.
+    ///
+    /// # Errors
+    ///
+    /// Memory was refused.
+    pub fn shared_with(self, other: Option<&CallTable>) -> Result<CallTable, AllocError>
+        ensures { IfOk result (λ its. its ≡ self) }
+    {
+        match other {
+            Some(other) if other.has_those_of(&self) => {
+                let calls = Arc::clone(&other.calls)?;
+                Ok(CallTable { calls })
+            }
+            _ => Ok(self),
+        }
+    }
+
+    /// Whether the calls are the same. A no says nothing.
+    fn has_those_of(&self, other: &CallTable) -> bool
+        ensures { result ≡ true → self.now ≡ other.now }
+    {
+        are_same(self.calls.as_slice(), other.calls.as_slice())
     }
 
     /// The call with this name of the type that is declared so.

@@ -8,6 +8,7 @@ mod call_table;
 mod end;
 mod lowest;
 mod number_calls;
+mod place_counts;
 mod strike;
 mod unreplied;
 
@@ -15,6 +16,7 @@ pub use answer::{Answer, busy_with, choose};
 pub use call::{Call, NamedCall};
 pub use call_table::CallTable;
 pub use end::{End, end_at};
+pub use place_counts::PlaceCounts;
 pub use strike::strike_at;
 pub use unreplied::call_unreplied;
 

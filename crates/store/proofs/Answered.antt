@@ -1,4 +1,5 @@
 -- A call at an object: its answer, and what that changes.
+use Rattle.store_limits.specs.declared.limits.Limits.{Limits}
 use Rattle.std.proofs.Common.{◌≡◌, ℕ, ◌+◌, ◌<◌, ◌≤◌, Bool, true, false, not, nat_le, List, [], ◌∷◌, ◌++◌, length, map, set, get_or, Option, Some, Ok, Err, slice_get, refl, sym, ap, subst, ◌∙◌, inl, inr, arith}
 use Rattle.std.specs.Option.{option_map}
 use Rattle.std.proofs.lemmas.Bool.Decides.{nat_tests}
@@ -35,7 +36,7 @@ use Rattle.store_laws.specs.Words.{as_event, AnswersAsDefined}
 use Rattle.store_laws.specs.Events.{room_taken, QuietMoves, OpMoves, TypesStay, RoomAfter}
 use Rattle.store_laws.proofs.Objects.{object-at}
 use Rattle.store.specs.Calls.{AnswersCall}
-use Rattle.store.specs.Executed.{IsExecuted, ExecutesAnswer}
+use Rattle.store.specs.Executed.{ExecutesAnswer}
 use Rattle.store.specs.Whole.{IsWholeStore}
 use Rattle.store.proofs.Pasts.{past-test}
 use Rattle.store.proofs.Stored.{stored, shown, event-whole}
@@ -68,8 +69,8 @@ pub record IsGiven (ms : List Meaning) (rows : List (Option Row)) (H : List Even
   pub is_call : IsCall m.checked.file.table call
   pub defined : call_event (slice_get (objects_of ms) x) (summary H) x t (Some call.first) ≡ Some (as_event t x call.first a)
 
-module _ (ms : List Meaning) (rows : List (Option Row)) (H : List Event) (max forgotten : ℕ) (s : Stored) (x : ℕ) (call : Call)
-    (same : shown (keeping ms rows) H max forgotten ≡ s) (known : IsThere s x call) where
+module _ (ms : List Meaning) (rows : List (Option Row)) (H : List Event) (limits : Limits) (forgotten : ℕ) (s : Stored) (x : ℕ) (call : Call)
+    (same : shown (keeping ms rows) H limits forgotten ≡ s) (known : IsThere s x call) where
   -- the object that the caller knows
   known-at : slice_get (objects_of ms) x ≡ Some known.0
   known-at = subst (λ (z : Stored). slice_get (objects z) x ≡ Some known.0) (sym same) known.1
@@ -110,19 +111,19 @@ module _ (ms : List Meaning) (rows : List (Option Row)) (H : List Event) (max fo
       (found.0, given-at t a found.0 kept going found.1 defined)
 
 -- so for objects that mean it
-pub called-of : {A : Type 0} (meaning : A → Meaning) (objects : List A) (rows : List (Option Row)) (H : List Event) (max forgotten : ℕ) (s : Stored) (t x : ℕ) (call : Call)
-    (o : A) → shown (keeping (map meaning objects) rows) H max forgotten ≡ s → IsKept (keeping (map meaning objects) rows) H
+pub called-of : {A : Type 0} (meaning : A → Meaning) (objects : List A) (rows : List (Option Row)) (H : List Event) (limits : Limits) (forgotten : ℕ) (s : Stored) (t x : ℕ) (call : Call)
+    (o : A) → shown (keeping (map meaning objects) rows) H limits forgotten ≡ s → IsKept (keeping (map meaning objects) rows) H
     → is_open (summary s.history) t ≡ true → IsThere s x call → o ≡ get_or objects x o
     → IsCalled (map meaning objects) rows H t x call (meaning o)
-called-of meaning objects rows H max forgotten s t x call o same kept going known is_object =
+called-of meaning objects rows H limits forgotten s t x call o same kept going known is_object =
     let ms = map meaning objects in
-    called-at ms rows H max forgotten s x call same known t (meaning o) kept going
-    (seen-at meaning objects x o (called-inside ms rows H max forgotten s x call same known (length objects) (length-map objects meaning)) is_object)
+    called-at ms rows H limits forgotten s x call same known t (meaning o) kept going
+    (seen-at meaning objects x o (called-inside ms rows H limits forgotten s x call same known (length objects) (length-map objects meaning)) is_object)
 
 -- whose transaction has a row
-pub still-open : RowsSayWhoIsOpen → (ms : List Meaning) (rows : List (Option Row)) (H : List Event) (max forgotten : ℕ) (s : Stored) (t : ℕ)
-    → shown (keeping ms rows) H max forgotten ≡ s → IsKept (keeping ms rows) H → is_open (summary s.history) t ≡ true → table.has_row rows t ≡ true
-still-open says ms rows H max forgotten s t same kept going =
+pub still-open : RowsSayWhoIsOpen → (ms : List Meaning) (rows : List (Option Row)) (H : List Event) (limits : Limits) (forgotten : ℕ) (s : Stored) (t : ℕ)
+    → shown (keeping ms rows) H limits forgotten ≡ s → IsKept (keeping ms rows) H → is_open (summary s.history) t ≡ true → table.has_row rows t ≡ true
+still-open says ms rows H limits forgotten s t same kept going =
     sym (open-alike says ms rows H t kept) ∙ subst (λ (z : Stored). is_open (summary z.history) t ≡ true) (sym same) going
 
 -- and of the least of its operations
@@ -132,21 +133,21 @@ call-least least o call is = least o (call_of o.table call.first) call.first is.
 -- ---- room for its event
 
 -- what the test of room said
-pub room-tested : RowsAreCounted → (ms : List Meaning) (rows : List (Option Row)) (past Hm K : List Event) (forgotten opened max : ℕ) (has said : Bool)
-    → IsKept (keeping ms rows) (past ++ Hm) → opened ≡ count_open rows → forgotten ≡ length past → K ≡ Hm → has ≡ nat_le (forgotten + length K + opened + 1) max → has ≡ said
-    → is_history_full max (past ++ Hm) 1 ≡ not said
-room-tested counted ms rows past Hm K forgotten opened max has said kept exact many same test says =
+pub room-tested : RowsAreCounted → (ms : List Meaning) (rows : List (Option Row)) (past Hm K : List Event) (forgotten opened : ℕ) (limits : Limits) (has said : Bool)
+    → IsKept (keeping ms rows) (past ++ Hm) → opened ≡ count_open rows → forgotten ≡ length past → K ≡ Hm → has ≡ nat_le (forgotten + length K + opened + 1) limits.events → has ≡ said
+    → is_history_full limits (past ++ Hm) 1 ≡ not said
+room-tested counted ms rows past Hm K forgotten opened limits has said kept exact many same test says =
     let H = past ++ Hm in
     let counts : opened ≡ open_count (summary H) = exact ∙ sym (counted (keeping ms rows) H kept) in
-    let told : nat_le (length H + opened + 1) max ≡ said = past-test past K Hm forgotten opened 1 max has said many test same says in
-    elim said as (λ b. nat_le (length H + opened + 1) max ≡ b → is_history_full max H 1 ≡ not b) [
-      | true ↦ full-else H opened 1 max counts
-      | false ↦ full-then H opened 1 max counts
+    let told : nat_le (length H + opened + 1) limits.events ≡ said = past-test past K Hm forgotten opened 1 limits.events has said many test same says in
+    elim said as (λ b. nat_le (length H + opened + 1) limits.events ≡ b → is_history_full limits H 1 ≡ not b) [
+      | true ↦ full-else H opened 1 limits counts
+      | false ↦ full-then H opened 1 limits counts
     ] told
 
 -- where it isn't full there is room
-pub room-left : (H : List Event) (max : ℕ) → is_history_full max H 1 ≡ false → length H + open_count (summary H) + 1 ≤ max
-room-left H max room = grind (arith, nat_tests, room)
+pub room-left : (H : List Event) (limits : Limits) → is_history_full limits H 1 ≡ false → length H + open_count (summary H) + 1 ≤ limits.events
+room-left H limits room = grind (arith, nat_tests, room)
 
 -- ---- its answer
 
@@ -178,12 +179,12 @@ module _ {ms : List Meaning} {rows : List (Option Row)} {H : List Event} {t x : 
       (follow (objects_of ms) H x (object m) w t call.first (object-at ms x m given.there) given.going (call-least least (object m) call given.is_call))
 
   -- so that a reply may be executed
-  pub reply-may : FirstOpIsLeast → AnswerMayFollow → MachineMayApply → LogsAreCounted → (k max : ℕ) → a ≡ answer.Reply k → is_history_full max H 1 ≡ false → max ≤ 4294967295
+  pub reply-may : FirstOpIsLeast → AnswerMayFollow → MachineMayApply → LogsAreCounted → (k : ℕ) (limits : Limits) → a ≡ answer.Reply k → is_history_full limits H 1 ≡ false → limits.events ≤ 4294967295
       → MayApply m t k
-  reply-may least follow machine counted k max replies room fits =
+  reply-may least follow machine counted k limits replies room fits =
       let represents = (given.kept.objects x m given.there).represents in
       let log = (counted m x H represents).short in
-      let limited = room-left H max room in
+      let limited = room-left H limits room in
       machine (objects_of ms) H 0 t x k m given.kept.run
       (subst (λ b. MayFollow (objects_of ms) H (record { worker = 0; kind = as_event t x call.first b })) replies (answer-follows least follow 0))
       (object-at ms x m given.there) represents (omega (arith, log, limited, fits))
@@ -221,39 +222,39 @@ module _ (quiet : QuietMoves) (op : OpMoves) (types : TypesStay) (ms now : List 
     (w t x c : ℕ) (a : Answer) (kept : IsKept (keeping ms rows) H) (going : table.has_row rows t ≡ true) (done : ExecutesAnswer a t x ms now rows left)
     (appended : after ≡ H ++ (record { worker = w; kind = as_event t x c a }) ∷ []) where
   -- what is kept
-  pub answer-whole : StaysKept → RoomAfter → RowsAreCounted → (calls : List (List NamedCall)) (room more max opened : ℕ) → IsWholeStore ms calls rows H room max
-      → MayFollow (objects_of ms) H (record { worker = w; kind = as_event t x c a }) → opened ≡ count_open rows → max ≤ 4294967295
-      → length H + opened + 1 ≤ more → is_history_full max H 1 ≡ false → IsWholeStore now calls left after more max
-  answer-whole stays room_after counted calls room more max opened whole may exact fits reserved free =
+  pub answer-whole : StaysKept → RoomAfter → RowsAreCounted → (calls : List (List NamedCall)) (room more : ℕ) (limits : Limits) (opened : ℕ) {places : ℕ} → IsWholeStore ms calls rows H room limits places
+      → MayFollow (objects_of ms) H (record { worker = w; kind = as_event t x c a }) → opened ≡ count_open rows → limits.events ≤ 4294967295
+      → length H + opened + 1 ≤ more → is_history_full limits H 1 ≡ false → IsWholeStore now calls left after more limits places
+  answer-whole stays room_after counted calls room more limits opened whole may exact fits reserved free =
       let takes_one = answer-takes t x c a in
       let counts : open_count (summary H) ≡ count_open rows = counted (keeping ms rows) H kept in
-      let limited = room-left H max free in
-      event-whole stays room_after types ms now calls rows left H after (record { worker = w; kind = as_event t x c a }) room more max whole may
+      let limited = room-left H limits free in
+      event-whole stays room_after types ms now calls rows left H after (record { worker = w; kind = as_event t x c a }) room more limits whole may
       (answer-moved quiet op ms now rows left H w t x c a kept going done) appended (omega (arith, limited, fits))
       (omega (arith, reserved, counts, exact, takes_one)) (omega (arith, limited, takes_one))
 
   -- what comes of it
-  pub answer-comes : (max forgotten : ℕ) (s : Stored) → shown (keeping ms rows) H max forgotten ≡ s → is_history_full max H 1 ≡ false
-      → call_event (slice_get (objects_of ms) x) (summary H) x t (Some c) ≡ Some (as_event t x c a) → AnswersCall s w t x c (Ok a) (shown (keeping now left) after max forgotten)
-  answer-comes max forgotten s same room defined =
+  pub answer-comes : (limits : Limits) (forgotten : ℕ) (s : Stored) → shown (keeping ms rows) H limits forgotten ≡ s → is_history_full limits H 1 ≡ false
+      → call_event (slice_get (objects_of ms) x) (summary H) x t (Some c) ≡ Some (as_event t x c a) → AnswersCall s w t x c (Ok a) (shown (keeping now left) after limits forgotten)
+  answer-comes limits forgotten s same room defined =
       let same_types : types_of now ≡ types_of ms =
       types (keeping ms rows) (keeping now left) H (record { worker = w; kind = as_event t x c a })
       (answer-moved quiet op ms now rows left H w t x c a kept going done) in
-      subst (λ (z : Stored). AnswersCall z w t x c (Ok a) (shown (keeping now left) after max forgotten)) same
-      (room, defined, ap (λ ts. stored ts after max forgotten) same_types ∙ ap (λ K. stored (types_of ms) K max forgotten) appended)
+      subst (λ (z : Stored). AnswersCall z w t x c (Ok a) (shown (keeping now left) after limits forgotten)) same
+      (room, defined, ap (λ ts. stored ts after limits forgotten) same_types ∙ ap (λ K. stored (types_of ms) K limits forgotten) appended)
 
 -- ---- where nothing comes of it
 
-module _ (ms : List Meaning) (rows : List (Option Row)) (H : List Event) (max forgotten : ℕ) (s : Stored) (w t x c : ℕ)
-    (same : shown (keeping ms rows) H max forgotten ≡ s) where
+module _ (ms : List Meaning) (rows : List (Option Row)) (H : List Event) (limits : Limits) (forgotten : ℕ) (s : Stored) (w t x c : ℕ)
+    (same : shown (keeping ms rows) H limits forgotten ≡ s) where
   -- there is no room for the event
-  pub full-comes : is_history_full max H 1 ≡ true → AnswersCall s w t x c (Err HistoryFull) s
-  full-comes full = (refl, inl (subst (λ (z : Stored). is_history_full z.max z.history 1 ≡ true) same full, refl))
+  pub full-comes : is_history_full limits H 1 ≡ true → AnswersCall s w t x c (Err HistoryFull) s
+  full-comes full = (refl, inl (subst (λ (z : Stored). is_history_full z.limits z.history 1 ≡ true) same full, refl))
 
   -- memory was refused
-  pub memory_refused-comes : (now : List Meaning) (left : List (Option Row)) (after : List Event) → now ≡ ms → after ≡ H → is_history_full max H 1 ≡ false
-      → AnswersCall s w t x c (Err NoMemory) (shown (keeping now left) after max forgotten)
+  pub memory_refused-comes : (now : List Meaning) (left : List (Option Row)) (after : List Event) → now ≡ ms → after ≡ H → is_history_full limits H 1 ≡ false
+      → AnswersCall s w t x c (Err NoMemory) (shown (keeping now left) after limits forgotten)
   memory_refused-comes now left after unchanged stays room = (
-    ap (λ ns. stored (types_of ns) after max forgotten) unchanged ∙ ap (λ K. stored (types_of ms) K max forgotten) stays ∙ same,
-    inr (subst (λ (z : Stored). is_history_full z.max z.history 1 ≡ false) same room, refl),
+    ap (λ ns. stored (types_of ns) after limits forgotten) unchanged ∙ ap (λ K. stored (types_of ms) K limits forgotten) stays ∙ same,
+    inr (subst (λ (z : Stored). is_history_full z.limits z.history 1 ≡ false) same room, refl),
   )

@@ -1,4 +1,5 @@
 -- The beginning of a store.
+use Rattle.store_limits.specs.declared.limits.Limits.{Limits}
 use Rattle.std.proofs.Common.{◌≡◌, ℕ, ◌+◌, ◌<◌, ◌≤◌, Bool, true, false, List, [], ◌∷◌, ◌++◌, map, length, get_or, Option, Some, slice_get, refl, sym, ap, subst, ◌∙◌, inl, inr, arith}
 use Rattle.std.specs.Option.{option_map}
 use Rattle.std.proofs.lemmas.List.{length-map, length-append}
@@ -14,6 +15,8 @@ use Rattle.open_transactions.specs.Transactions.{Row}
 use Rattle.store_laws.specs.Stored.{types_of}
 use Rattle.store_laws.specs.Kept.{keeping, IsKept}
 use Rattle.store_laws.specs.Before.{NewIsKept}
+use Rattle.store_limits.specs.Standard.{are_limits, most_of_each}
+use Rattle.std.proofs.lemmas.Bool.Decides.{nat_tests}
 use Rattle.store.specs.Ends.{MayBegin}
 use Rattle.store.specs.Whole.{HasCalls, IsWholeStore}
 
@@ -82,11 +85,20 @@ module _ (ms : List Meaning) (calls : List (List NamedCall)) (capacity i : ℕ) 
 
 -- ---- a new store
 
+-- its limits are no greater than may be
+pub record AreMost (limits : Limits) : Type 0 where
+  pub numbered : limits.objects ≤ most_of_each
+  pub slotted : limits.«open» ≤ most_of_each
+
+pub most-of-each : (greatest : ℕ) (limits : Limits) → are_limits greatest limits ≡ true → AreMost limits
+most-of-each greatest limits are = record { numbered = grind (arith, nat_tests, are); slotted = grind (arith, nat_tests, are) }
+
 -- it is whole, with the empty history
-pub new-whole : NewIsKept → (greatest : ℕ) (ms : List Meaning) (calls : List (List NamedCall)) (rows : List (Option Row)) (H : List Event) (capacity max : ℕ)
-    → MayBegin greatest ms max → AreChecked (types_of ms) → HasCalls (types_of ms) calls → rows ≡ [] → H ≡ []
-    → IsWholeStore ms calls rows H capacity max
-new-whole is_kept greatest ms calls rows H capacity max may checked known none nothing =
+pub new-whole : NewIsKept → (greatest : ℕ) (ms : List Meaning) (calls : List (List NamedCall)) (rows : List (Option Row)) (H : List Event) (capacity : ℕ) (limits : Limits) (places : ℕ)
+    → MayBegin greatest ms limits → AreChecked (types_of ms) → HasCalls (types_of ms) calls → length ms ≤ places → rows ≡ [] → H ≡ []
+    → IsWholeStore ms calls rows H capacity limits places
+new-whole is_kept greatest ms calls rows H capacity limits places may checked known placed none nothing =
+    let are = most-of-each greatest limits may.limit in
     let kept : IsKept (keeping ms rows) [] =
     is_kept (keeping ms rows) (record {
       checked = λ x m there. checked x m.checked (slice_get-map (λ (n : Meaning). n.checked) ms x ∙ ap (option_map (λ (n : Meaning). n.checked)) there);
@@ -94,9 +106,9 @@ new-whole is_kept greatest ms calls rows H capacity max may checked known none n
       rows = none;
     })
     in
-    subst (λ K. IsWholeStore ms calls rows K capacity max) (sym nothing)
+    subst (λ K. IsWholeStore ms calls rows K capacity limits places) (sym nothing)
     (record {
       store = record { kept = kept; reserved = omega arith; limited = omega arith };
-      few = may.few;
+      within = record { few = may.few; numbered = are.numbered; slotted = are.slotted; placed = placed };
       known = known;
     })

@@ -1,4 +1,5 @@
 -- A call at an object.
+use Rattle.store_limits.specs.declared.limits.Limits.{Limits}
 use Rattle.std.proofs.Common.{◌≡◌, ℕ, true, false, List, Option, Some, None, slice_get, refl, subst}
 use Rattle.object_trait.specs.Meaning.{Meaning}
 use Rattle.object_trait.specs.declared.event.Event.{Event}
@@ -18,7 +19,7 @@ use Rattle.store.proofs.Opens.{open-alike}
 
 -- ---- what callers see
 
-module _ (ms : List Meaning) (rows : List (Option Row)) (H : List Event) (max forgotten : ℕ) (s : Stored) (same : shown (keeping ms rows) H max forgotten ≡ s) where
+module _ (ms : List Meaning) (rows : List (Option Row)) (H : List Event) (limits : Limits) (forgotten : ℕ) (s : Stored) (same : shown (keeping ms rows) H limits forgotten ≡ s) where
   -- whether a transaction is open
   pub open-shown : RowsSayWhoIsOpen → (t : ℕ) → IsKept (keeping ms rows) H → is_open (summary s.history) t ≡ table.has_row rows t
   open-shown says t kept = subst (λ (z : Stored). is_open (summary z.history) t ≡ table.has_row rows t) same (open-alike says ms rows H t kept)

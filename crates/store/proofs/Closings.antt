@@ -1,4 +1,5 @@
 -- The end of a store: the aborts of its open transactions, and what they leave.
+use Rattle.store_limits.specs.declared.limits.Limits.{Limits}
 use Rattle.std.proofs.Common.{◌≡◌, ℕ, zero, suc, ◌+◌, ◌<◌, ◌≤◌, ◌==◌, Bool, true, false, not, ◌&&◌, List, [], ◌∷◌, ◌++◌, map, filter, cond, if◌then◌else◌, length, Option, Some, None, is_some, slice_get, slice_index_or, refl, sym, ap, subst, ◌∙◌, inl, inr, append-nil, append_assoc, add-one, arith}
 use Rattle.std.specs.List.{range_with_len}
 use Rattle.std.proofs.lemmas.Bool.{cases_Bool, cases_eq, cases_lt, eq-eqb, ne_eqb, le-ltb, and_left, and_right, not_from_true, false≢true}
@@ -30,12 +31,12 @@ use Rattle.store.proofs.Opens.{some-of, open-alike}
 -- ---- what callers see
 
 -- what is kept agrees with the history that they see
-pub kept-shown : (k : Keeping) (H : List Event) (max forgotten : ℕ) (s : Stored) → shown k H max forgotten ≡ s → IsKept k H → IsKept k s.history
-kept-shown k H max forgotten s same kept = subst (λ K. IsKept k K) (ap (λ (z : Stored). z.history) same) kept
+pub kept-shown : (k : Keeping) (H : List Event) (limits : Limits) (forgotten : ℕ) (s : Stored) → shown k H limits forgotten ≡ s → IsKept k H → IsKept k s.history
+kept-shown k H limits forgotten s same kept = subst (λ K. IsKept k K) (ap (λ (z : Stored). z.history) same) kept
 
 -- which is a run at the objects that they see
-pub run-shown : (k : Keeping) (H : List Event) (max forgotten : ℕ) (s : Stored) → shown k H max forgotten ≡ s → IsKept k H → IsRun (objects s) s.history
-run-shown k H max forgotten s same kept = subst (λ (z : Stored). IsRun (objects z) z.history) same kept.run
+pub run-shown : (k : Keeping) (H : List Event) (limits : Limits) (forgotten : ℕ) (s : Stored) → shown k H limits forgotten ≡ s → IsKept k H → IsRun (objects s) s.history
+run-shown k H limits forgotten s same kept = subst (λ (z : Stored). IsRun (objects z) z.history) same kept.run
 
 -- ---- one abort
 
@@ -246,12 +247,12 @@ closed-all goes_on now in_run opens began those s k K n kept run many is =
 
 -- and of a store as it is, where the rows of all say that they ended
 pub closed-already : RunGoesOn → SummaryAfter → TransactionsInRun → OpensAfter → BeginnersAfter → RowsSayWhoIsOpen → (ms : List Meaning)
-    (rows : List (Option Row)) (K : List Event) (max forgotten n : ℕ) (s : Stored) → shown (keeping ms rows) K max forgotten ≡ s → IsKept (keeping ms rows) K
+    (rows : List (Option Row)) (K : List Event) (limits : Limits) (forgotten n : ℕ) (s : Stored) → shown (keeping ms rows) K limits forgotten ≡ s → IsKept (keeping ms rows) K
     → n ≡ length rows → ((t : ℕ) → t < n → table.has_row rows t ≡ false) → IsClosed [] s s.history
-closed-already goes_on now in_run opens began says ms rows K max forgotten n s same its many ended =
+closed-already goes_on now in_run opens began says ms rows K limits forgotten n s same its many ended =
     let k = keeping ms rows in
-    let kept = kept-shown k K max forgotten s same its in
-    closed-all goes_on now in_run opens began [] s k s.history n kept (run-shown k K max forgotten s same its) many
+    let kept = kept-shown k K limits forgotten s same its in
+    closed-all goes_on now in_run opens began [] s k s.history n kept (run-shown k K limits forgotten s same its) many
     (ap (λ (z : Stored). z.history) (closed-none says [] ms rows s n kept ended))
 
 -- where none is open, each object is handed out with no open entry

@@ -1,4 +1,5 @@
 -- The end of a transaction.
+use Rattle.store_limits.specs.declared.limits.Limits.{Limits}
 use Rattle.std.proofs.Common.{◌≡◌, ℕ, ◌+◌, ◌<◌, ◌≤◌, Bool, true, not, List, [], ◌∷◌, ◌++◌, length, set, Option, Some, None, Ok, refl, sym, ap, subst, ◌∙◌, arith}
 use Rattle.std.specs.Prelude.{if◌then◌else◌}
 use Rattle.object_trait.specs.Object.{Object}
@@ -27,10 +28,10 @@ use Rattle.store.proofs.Opens.{its-row, row-places, open-alike}
 -- ---- either end
 
 -- a transaction that isn't open has none
-pub end-refusal : (how : End) (objects : List Object) (most : ℕ) (H : List Event) (t : ℕ) (going : Bool) → is_open (summary H) t ≡ going
-    → refusal objects most H (end_command how t) ≡ (if not going then Some NotOpen else None)
-end-refusal end.Commit objects most H t going same = ap (λ b. if not b then Some NotOpen else None) same
-end-refusal end.Abort objects most H t going same = ap (λ b. if not b then Some NotOpen else None) same
+pub end-refusal : (how : End) (objects : List Object) (limits : Limits) (H : List Event) (t : ℕ) (going : Bool) → is_open (summary H) t ≡ going
+    → refusal objects limits H (end_command how t) ≡ (if not going then Some NotOpen else None)
+end-refusal end.Commit objects limits H t going same = ap (λ b. if not b then Some NotOpen else None) same
+end-refusal end.Abort objects limits H t going same = ap (λ b. if not b then Some NotOpen else None) same
 
 -- one that is open may end
 end-may : (how : End) (objects : List Object) (H : List Event) (w t : ℕ) → is_open (summary H) t ≡ true → MayFollow objects H (record { worker = w; kind = end_event how t })
@@ -49,12 +50,12 @@ end-takes end.Abort t = refl
 -- ---- what it does
 
 -- where one is open, the history has room for one event more
-pub end-room : RowsAreCounted → (ms : List Meaning) (rows : List (Option Row)) (H : List Event) (room max left : ℕ)
-    → IsStore (keeping ms rows) H room max → left + 1 ≡ count_open rows → (length H < room) × (length H < max)
-end-room counted ms rows H room max left store one =
+pub end-room : RowsAreCounted → (ms : List Meaning) (rows : List (Option Row)) (H : List Event) (room : ℕ) (limits : Limits) (left : ℕ)
+    → IsStore (keeping ms rows) H room limits → left + 1 ≡ count_open rows → (length H < room) × (length H < limits.events)
+end-room counted ms rows H room limits left store one =
     let counts : open_count (summary H) ≡ count_open rows = counted (keeping ms rows) H store.kept in
     let reserved : length H + count_open rows ≤ room = subst (λ n. length H + n ≤ room) counts store.reserved in
-    let limited : length H + count_open rows ≤ max = subst (λ n. length H + n ≤ max) counts store.limited in
+    let limited : length H + count_open rows ≤ limits.events = subst (λ n. length H + n ≤ limits.events) counts store.limited in
     (omega (arith, reserved, one), omega (arith, limited, one))
 
 -- each object where it has operations is as after its end, and it has no row
@@ -75,21 +76,21 @@ module _ (how : End) (moves : EndMoves) (says : RowsSayWhoIsOpen) (ms ms_now : L
       gone
 
   -- the store stays whole
-  pub end-whole : StaysKept → RoomAfter → TypesStay → RowsAreCounted → (calls : List (List NamedCall)) (room more max : ℕ) → IsWholeStore ms calls rows H room max
-      → room ≤ more → max ≤ 4294967295 → count_open now + 1 ≡ count_open rows → IsWholeStore ms_now calls now after more max
-  end-whole stays room_after types counted calls room more max whole grown fits one =
-      let low = (end-room counted ms rows H room max (count_open now) whole.store one).1 in
+  pub end-whole : StaysKept → RoomAfter → TypesStay → RowsAreCounted → (calls : List (List NamedCall)) (room more : ℕ) (limits : Limits) {places : ℕ} → IsWholeStore ms calls rows H room limits places
+      → room ≤ more → limits.events ≤ 4294967295 → count_open now + 1 ≡ count_open rows → IsWholeStore ms_now calls now after more limits places
+  end-whole stays room_after types counted calls room more limits whole grown fits one =
+      let low = (end-room counted ms rows H room limits (count_open now) whole.store one).1 in
       let reserved = whole.store.reserved in
       let limited = whole.store.limited in
       let free : room_taken (end_event how t) ≡ 0 = end-takes how t in
-      event-whole stays room_after types ms ms_now calls rows now H after (record { worker = w; kind = end_event how t }) room more max whole
+      event-whole stays room_after types ms ms_now calls rows now H after (record { worker = w; kind = end_event how t }) room more limits whole
       (end-may how (objects_of ms) H w t opened) end-moved appended (omega (arith, low, fits))
       (subst (λ n. length H + open_count (summary H) + n ≤ more) (sym free) (omega (arith, reserved, grown)))
-      (subst (λ n. length H + open_count (summary H) + n ≤ max) (sym free) (omega (arith, limited)))
+      (subst (λ n. length H + open_count (summary H) + n ≤ limits.events) (sym free) (omega (arith, limited)))
 
   -- and callers see the event
-  pub end-shown : TypesStay → (T : Type 0) (x : T) (max forgotten : ℕ) (s : Stored) → shown (keeping ms rows) H max forgotten ≡ s
-      → Steps {T = T} s w (end_command how t) (Ok x) (shown (keeping ms_now now) after max forgotten)
-  end-shown types T x max forgotten s same =
-      event-shown types T (keeping ms rows) (keeping ms_now now) H after w max forgotten (end_event how t) (end_command how t) x s same end-moved appended
-      (end-refusal how (objects_of ms) max H t true opened) (end-makes how (objects_of ms) (summary H) t)
+  pub end-shown : TypesStay → (T : Type 0) (x : T) (limits : Limits) (forgotten : ℕ) (s : Stored) → shown (keeping ms rows) H limits forgotten ≡ s
+      → Steps {T = T} s w (end_command how t) (Ok x) (shown (keeping ms_now now) after limits forgotten)
+  end-shown types T x limits forgotten s same =
+      event-shown types T (keeping ms rows) (keeping ms_now now) H after w limits forgotten (end_event how t) (end_command how t) x s same end-moved appended
+      (end-refusal how (objects_of ms) limits H t true opened) (end-makes how (objects_of ms) (summary H) t)

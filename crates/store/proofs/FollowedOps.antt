@@ -1,5 +1,5 @@
 -- Which command makes an operation.
-use Rattle.std.proofs.Common.{◌≡◌, ℕ, zero, suc, ◌<◌, Bool, true, false, List, [], ◌∷◌, ◌++◌, length, get_or, Option, Some, None, Result, Ok, Err, slice_get, inl, inr, refl, sym, ap, subst, ◌∙◌}
+use Rattle.std.proofs.Common.{◌≡◌, ℕ, zero, suc, Bool, true, false, List, [], ◌∷◌, ◌++◌, length, get_or, Option, Some, None, Result, Ok, Err, slice_get, inl, inr, refl, sym, ap, subst, ◌∙◌}
 use Rattle.std.specs.Prelude.{if◌then◌else◌, nat_lt, not, is_some, IfOk, OnErr}
 use Rattle.std.specs.List.{position}
 use Rattle.std.specs.Str.{bytes_eq}
@@ -219,7 +219,7 @@ refusal-with s t x found =
     if not (is_open (summary s.history) t) then Some refusal.NotOpen
     else (if not (is_some (slice_get (objects s) x)) then Some refusal.NoObject
     else (if not (is_some found) then Some refusal.NoCall
-    else (if is_history_full s.max s.history 1 then Some refusal.HistoryFull else None)))
+    else (if is_history_full s.limits s.history 1 then Some refusal.HistoryFull else None)))
 
 -- of two calls that are there one is refused where the other is
 refused-alike : (s : Stored) (t x c d : ℕ) (name other : List ℕ) → call_at (slice_get (objects s) x) name ≡ Some c → call_at (slice_get (objects s) x) other ≡ Some d

@@ -1,4 +1,5 @@
 -- What a history and the kept states of a store owe the serial order.
+use Rattle.store_limits.specs.declared.limits.Limits.{Limits}
 use Rattle.std.proofs.Common.{◌≡◌, ℕ, ◌<◌, ◌^◌, List, map, Option, Some, slice_get, sym, ap, subst, ◌∙◌}
 use Rattle.std.specs.Option.{option_map}
 use Rattle.std.proofs.lemmas.List.{map-append}
@@ -47,8 +48,8 @@ in-place along Escrow o base log x C V state represents is undo = cc
 
 -- ---- a store
 
-module _ (headline : CheckedHeadline) (ms : List Meaning) (rows : List (Option Row)) (H : List Event) (max forgotten : ℕ) (kept : IsKept (keeping ms rows) H)
-    (s : Stored) (same : shown (keeping ms rows) H max forgotten ≡ s) where
+module _ (headline : CheckedHeadline) (ms : List Meaning) (rows : List (Option Row)) (H : List Event) (limits : Limits) (forgotten : ℕ) (kept : IsKept (keeping ms rows) H)
+    (s : Stored) (same : shown (keeping ms rows) H limits forgotten ≡ s) where
   -- the checker said yes for each of its types
   accepted : AreChecked (types_of ms)
   accepted x c there =

@@ -1,12 +1,12 @@
 -- Objects as callers see them, and the calls of their operations.
-use Rattle.std.proofs.Common.{◌≡◌, ℕ, ◌<◌, ◌≤◌, true, false, nat_lt, List, [], length, map, get_or, Option, Some, None, is_some, slice_get, refl, sym, ap, subst, ◌∙◌, arith}
+use Rattle.store_limits.specs.declared.limits.Limits.{Limits}
+use Rattle.std.proofs.Common.{◌≡◌, ℕ, ◌≤◌, true, false, nat_lt, List, [], length, map, get_or, Option, Some, None, slice_get, sym, ap, subst, ◌∙◌}
 use Rattle.std.proofs.lemmas.Bool.{ltb-true, ltb-false}
 use Rattle.std.proofs.lemmas.List.{length-map}
 use Rattle.std.specs.Option.{option_map}
 use Rattle.std.proofs.lemmas.Option.{slice_get_past, slice_get-map, get_or_from_slice_get}
 use Rattle.type_table.specs.Table.{Table, call_of}
 use Rattle.type_table.specs.declared.op.Op.{Op}
-use Rattle.table_checker.specs.Checked.{Checked}
 use Rattle.object_trait.specs.Object.{object_of}
 use Rattle.object_trait.specs.Meaning.{Meaning, object}
 use Rattle.object_trait.specs.declared.event.Event.{Event}
@@ -23,16 +23,16 @@ call-name T k op is =
     get_or_from_slice_get (map (λ (o : Op). o.call) T.ops) k op.call [] (slice_get-map (λ (o : Op). o.call) T.ops k ∙ ap (option_map (λ (o : Op). o.call)) is)
 
 -- the object of a meaning, as callers see it
-pub object-shown : (ms : List Meaning) (rows : List (Option Row)) (H : List Event) (max forgotten : ℕ) (s : Stored) (x : ℕ) (m : Meaning)
-    → shown (keeping ms rows) H max forgotten ≡ s → slice_get ms x ≡ Some m → slice_get (objects s) x ≡ Some (object m)
-object-shown ms rows H max forgotten s x m same there = subst (λ (z : Stored). slice_get (objects z) x ≡ Some (object m)) same (object-at ms x m there)
+pub object-shown : (ms : List Meaning) (rows : List (Option Row)) (H : List Event) (limits : Limits) (forgotten : ℕ) (s : Stored) (x : ℕ) (m : Meaning)
+    → shown (keeping ms rows) H limits forgotten ≡ s → slice_get ms x ≡ Some m → slice_get (objects s) x ≡ Some (object m)
+object-shown ms rows H limits forgotten s x m same there = subst (λ (z : Stored). slice_get (objects z) x ≡ Some (object m)) same (object-at ms x m there)
 
-module _ {A : Type 0} (meaning : A → Meaning) (items now : List A) (rows : List (Option Row)) (H : List Event) (max forgotten : ℕ) (s : Stored) (x : ℕ)
-    (same : shown (keeping (map meaning items) rows) H max forgotten ≡ s) (read : now ≡ items) where
+module _ {A : Type 0} (meaning : A → Meaning) (items now : List A) (rows : List (Option Row)) (H : List Event) (limits : Limits) (forgotten : ℕ) (s : Stored) (x : ℕ)
+    (same : shown (keeping (map meaning items) rows) H limits forgotten ≡ s) (read : now ≡ items) where
   -- what is found at a place is an object of the store
   pub object-found : (a : A) → true ≡ nat_lt x (length now) → a ≡ get_or now x a → slice_get (objects s) x ≡ Some (object (meaning a))
   object-found a inside found =
-      object-shown (map meaning items) rows H max forgotten s x (meaning a) same
+      object-shown (map meaning items) rows H limits forgotten s x (meaning a) same
       (image-in meaning items now x a read (ltb-true x (length now) (sym inside)) found)
 
   -- and where nothing is there is none

@@ -1,5 +1,5 @@
 -- What a store makes is made again.
-use Rattle.std.proofs.Common.{◌≡◌, ℕ, zero, suc, ◌+◌, ◌<◌, ◌≤◌, Bool, true, false, not, List, [], ◌∷◌, ◌++◌, if◌then◌else◌, Option, Some, None, is_some, inl, inr, refl, sym, ap, subst, ◌∙◌, append-nil, append_assoc, add-one, arith}
+use Rattle.std.proofs.Common.{◌≡◌, ℕ, zero, suc, Bool, true, false, not, List, [], ◌∷◌, ◌++◌, if◌then◌else◌, Option, Some, None, is_some, inl, inr, refl, sym, ap, subst, ◌∙◌, append-nil, add-one, arith}
 use Rattle.std.proofs.lemmas.Bool.{cases_Bool}
 use Rattle.object_trait.specs.declared.event.Event.{Event}
 use Rattle.object_trait.specs.declared.event.EventKind.{EventKind}
@@ -42,10 +42,10 @@ either-made s true H K first second = first
 either-made s false H K first second = second
 
 replayed-own : (s : Stored) (memory_refused : ℕ → Bool) (place : ℕ) (H : List Event) (commands : List (ℕ × Command)) → AreMade (at_beginning s) H
-    → AreMade (at_beginning s) (replay_from (objects s) s.max memory_refused place H commands)
+    → AreMade (at_beginning s) (replay_from (objects s) s.limits memory_refused place H commands)
 replayed-own s memory_refused place H [] made = made
 replayed-own s memory_refused place H (c ∷ commands) made =
-    let next = after_command (objects s) s.max H c.0 c.1 in
+    let next = after_command (objects s) s.limits H c.0 c.1 in
     replayed-own s memory_refused (suc place) (if memory_refused place then H else next) commands
     (either-made (at_beginning s) (memory_refused place) H next made (steps-own (record s { history = H }) c.0 c.1 made))
 

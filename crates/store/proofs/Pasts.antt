@@ -1,4 +1,5 @@
 -- Events that were forgotten, and those in memory after them.
+use Rattle.store_limits.specs.declared.limits.Limits.{Limits}
 use Rattle.std.proofs.Common.{◌≡◌, ℕ, ◌+◌, ◌≤◌, min, Bool, nat_le, List, [], ◌∷◌, ◌++◌, length, take, drop, Option, sym, ap, subst, ◌∙◌, arith}
 use Rattle.std.proofs.lemmas.List.{length-append, length-take-le, append_assoc, drop_at, take-append-drop}
 use Rattle.table_checker.specs.Checked.{Checked}
@@ -23,16 +24,16 @@ pub past-drop : (past K : List Event) (forgotten : ℕ) → forgotten ≡ length
 past-drop past K forgotten many = drop_at past K forgotten (sym many)
 
 -- the test of room is one of all events
-pub past-test : (past K H : List Event) (forgotten opened further max : ℕ) (answer told : Bool) → forgotten ≡ length past
+pub past-test : (past K H : List Event) (forgotten opened further : ℕ) (max : ℕ) (answer told : Bool) → forgotten ≡ length past
     → answer ≡ nat_le (forgotten + length K + opened + further) max → K ≡ H → answer ≡ told
     → nat_le (length (past ++ H) + opened + further) max ≡ told
 past-test past K H forgotten opened further max answer told many says same test =
     ap (λ n. nat_le (n + opened + further) max) (past-length past H forgotten many ∙ ap (λ J. forgotten + length J) (sym same)) ∙ sym says ∙ test
 
 -- and so of a store as its callers see it
-pub drop-shown : (types : List Checked) (past K : List Event) (max forgotten : ℕ) (s : Stored) (tail : List Event) → forgotten ≡ length past → stored types (past ++ K) max forgotten ≡ s
+pub drop-shown : (types : List Checked) (past K : List Event) (limits : Limits) (forgotten : ℕ) (s : Stored) (tail : List Event) → forgotten ≡ length past → stored types (past ++ K) limits forgotten ≡ s
     → tail ≡ K → tail ≡ drop s.forgotten s.history
-drop-shown types past K max forgotten s tail many same is = subst (λ (z : Stored). tail ≡ drop z.forgotten z.history) same (is ∙ sym (past-drop past K forgotten many))
+drop-shown types past K limits forgotten s tail many same is = subst (λ (z : Stored). tail ≡ drop z.forgotten z.history) same (is ∙ sym (past-drop past K forgotten many))
 
 -- ---- the first n of those in memory are let go of
 
@@ -54,19 +55,19 @@ module _ (past K read gone left : List Event) (n : ℕ) (added : gone ≡ past +
       ∙ sym (ap length taken)
 
 -- what is kept agrees with the same events, where there is at least as much room
-pub same-whole : (ms : List Meaning) (calls : List (List NamedCall)) (rows : List (Option Row)) (H after : List Event) (room more max : ℕ)
-    → IsWholeStore ms calls rows H room max → after ≡ H → room ≤ more → IsWholeStore ms calls rows after more max
-same-whole ms calls rows H after room more max whole same wider =
-    subst (λ J. IsWholeStore ms calls rows J more max) (sym same) (record {
+pub same-whole : (ms : List Meaning) (calls : List (List NamedCall)) (rows : List (Option Row)) (H after : List Event) (room more : ℕ) (limits : Limits) (places : ℕ)
+    → IsWholeStore ms calls rows H room limits places → after ≡ H → room ≤ more → IsWholeStore ms calls rows after more limits places
+same-whole ms calls rows H after room more limits places whole same wider =
+    subst (λ J. IsWholeStore ms calls rows J more limits places) (sym same) (record {
       store = record { kept = whole.store.kept; reserved = omega (arith, whole.store.reserved, wider); limited = whole.store.limited };
-      few = whole.few;
+      within = whole.within;
       known = whole.known;
     })
 
 -- as callers see it
-pub gone-shown : (types : List Checked) (H after : List Event) (max forgotten more n : ℕ) (s : Stored) → stored types H max forgotten ≡ s → after ≡ H
+pub gone-shown : (types : List Checked) (H after : List Event) (limits : Limits) (forgotten more n : ℕ) (s : Stored) → stored types H limits forgotten ≡ s → after ≡ H
     → more ≡ min (forgotten + n) (length H)
-    → stored types after max more ≡ (record { types = s.types; history = s.history; max = s.max; forgotten = min (s.forgotten + n) (length s.history) })
-gone-shown types H after max forgotten more n s same stays is =
-    subst (λ (z : Stored). stored types after max more ≡ (record { types = z.types; history = z.history; max = z.max; forgotten = min (z.forgotten + n) (length z.history) })) same
-    (ap (λ J. stored types J max more) stays ∙ ap (λ f. stored types H max f) is)
+    → stored types after limits more ≡ (record { types = s.types; history = s.history; limits = s.limits; forgotten = min (s.forgotten + n) (length s.history) })
+gone-shown types H after limits forgotten more n s same stays is =
+    subst (λ (z : Stored). stored types after limits more ≡ (record { types = z.types; history = z.history; limits = z.limits; forgotten = min (z.forgotten + n) (length z.history) })) same
+    (ap (λ J. stored types J limits more) stays ∙ ap (λ f. stored types H limits f) is)

@@ -1,4 +1,5 @@
 -- A store that begins anew at the states of its objects.
+use Rattle.store_limits.specs.declared.limits.Limits.{Limits}
 use Rattle.std.proofs.Common.{◌≡◌, ℕ, zero, suc, ◌+◌, ◌^◌, ◌<◌, ◌≤◌, List, [], ◌∷◌, ◌++◌, length, false, Option, Some, slice_get, refl, sym, ap, subst, ◌∙◌, inl, inr, arith}
 use Rattle.std.proofs.lemmas.List.{length-append, length-map}
 use Rattle.std.proofs.lemmas.Option.{none-some, same_Some, slice_get_within}
@@ -93,32 +94,32 @@ module _ (ms : List Meaning) (rows : List (Option Row)) (K : List Event) (kept :
       subst IsChecked found.2 (kept.objects x found.0 found.1).checked
 
   -- each state is the one that is kept there
-  are-kept : CheckedHeadline → RunsAlong → (now : List Meaning) (max forgotten : ℕ) (its : AreKept ms now) (x s : ℕ) → slice_get its.kept x ≡ Some s
-      → IsKeptState (shown (keeping ms rows) K max forgotten) x s
-  are-kept headline along now max forgotten its x s here =
+  are-kept : CheckedHeadline → RunsAlong → (now : List Meaning) (limits : Limits) (forgotten : ℕ) (its : AreKept ms now) (x s : ℕ) → slice_get its.kept x ≡ Some s
+      → IsKeptState (shown (keeping ms rows) K limits forgotten) x s
+  are-kept headline along now limits forgotten its x s here =
       let low : x < length ms = omega (arith, its.as_many, slice_get_within its.kept x s here) in
       let found = element_at ms x low in
       let is = its.states x found.0 s found.1 here in
-      kept-shown headline ms rows K max forgotten kept (shown (keeping ms rows) K max forgotten) refl along x s found.0 found.1 is.0 is.1
+      kept-shown headline ms rows K limits forgotten kept (shown (keeping ms rows) K limits forgotten) refl along x s found.0 found.1 is.0 is.1
 
   -- its history is an epoch, and the new one is of the types at the kept states
-  pub renews-shown : CheckedHeadline → RunsAlong → ClosedIsEpoch → (now : List Meaning) (max forgotten : ℕ) (new : Stored) → ((t : ℕ) → is_open (summary K) t ≡ false) → AreRenewed ms now
-      → new ≡ stored (types_of now) [] max 0 → Renews (shown (keeping ms rows) K max forgotten) new
-  renews-shown headline along closed now max forgotten new none all made =
+  pub renews-shown : CheckedHeadline → RunsAlong → ClosedIsEpoch → (now : List Meaning) (limits : Limits) (forgotten : ℕ) (new : Stored) → ((t : ℕ) → is_open (summary K) t ≡ false) → AreRenewed ms now
+      → new ≡ stored (types_of now) [] limits 0 → Renews (shown (keeping ms rows) K limits forgotten) new
+  renews-shown headline along closed now limits forgotten new none all made =
       let its = kept-of ms now all in
       record {
         kept = its.kept;
         as_many = its.as_many ∙ sym (length-map ms (λ (m : Meaning). m.checked));
-        states = are-kept headline along now max forgotten its;
+        states = are-kept headline along now limits forgotten its;
         epoch = closed ms (record { history = K; kept = its.kept }) accepted kept.run none
             (λ x m there. let o = kept.objects x m there in (o.sound, o.represents)) (λ x m s there here. (its.states x m s there here).0);
-        is = made ∙ ap (λ ts. stored ts [] max 0) its.types;
+        is = made ∙ ap (λ ts. stored ts [] limits 0) its.types;
       }
 
 -- and so as its callers see it
-pub renews : CheckedHeadline → RunsAlong → ClosedIsEpoch → (ms now : List Meaning) (rows : List (Option Row)) (K : List Event) (max forgotten : ℕ) (s new : Stored)
-    → shown (keeping ms rows) K max forgotten ≡ s → IsKept (keeping ms rows) K → ((t : ℕ) → is_open (summary s.history) t ≡ false) → AreRenewed ms now
-    → new ≡ stored (types_of now) [] max 0 → Renews s new
-renews headline along closed ms now rows K max forgotten s new same kept none all made =
+pub renews : CheckedHeadline → RunsAlong → ClosedIsEpoch → (ms now : List Meaning) (rows : List (Option Row)) (K : List Event) (limits : Limits) (forgotten : ℕ) (s new : Stored)
+    → shown (keeping ms rows) K limits forgotten ≡ s → IsKept (keeping ms rows) K → ((t : ℕ) → is_open (summary s.history) t ≡ false) → AreRenewed ms now
+    → new ≡ stored (types_of now) [] limits 0 → Renews s new
+renews headline along closed ms now rows K limits forgotten s new same kept none all made =
     subst (λ (z : Stored). Renews z new) same
-    (renews-shown ms rows K kept headline along closed now max forgotten new (subst (λ (z : Stored). (t : ℕ) → is_open (summary z.history) t ≡ false) (sym same) none) all made)
+    (renews-shown ms rows K kept headline along closed now limits forgotten new (subst (λ (z : Stored). (t : ℕ) → is_open (summary z.history) t ≡ false) (sym same) none) all made)

@@ -1,4 +1,5 @@
 -- A rollback.
+use Rattle.store_limits.specs.declared.limits.Limits.{Limits}
 use Rattle.std.proofs.Common.{◌≡◌, ℕ, ◌+◌, ◌-◌, ◌<◌, ◌≤◌, Bool, true, false, not, ◌||◌, ◌==◌, nat_lt, nat_le, ◌⊎◌, List, [], ◌∷◌, ◌++◌, length, take, drop, set, Option, Some, None, Ok, option_map, refl, sym, ap, subst, ◌∙◌, inl, inr, arith}
 use Rattle.std.specs.Prelude.{if◌then◌else◌}
 use Rattle.std.proofs.lemmas.Bool.Decides.{nat_tests}
@@ -32,13 +33,13 @@ use Rattle.store.proofs.Opens.{its-row, row-places, open-alike, places-counted}
 -- ---- whether it is refused
 
 -- by three tests, in this order
-rollback-refusal : (objects : List Object) (most : ℕ) (H : List Event) (t n : ℕ) (going bad full : Bool) → is_open (summary H) t ≡ going
-    → (n == 0 || nat_lt (length (of t (summary H).survives)) n) ≡ bad → is_history_full most H 1 ≡ full
-    → refusal objects most H (command.Rollback t n)
+rollback-refusal : (objects : List Object) (limits : Limits) (H : List Event) (t n : ℕ) (going bad full : Bool) → is_open (summary H) t ≡ going
+    → (n == 0 || nat_lt (length (of t (summary H).survives)) n) ≡ bad → is_history_full limits H 1 ≡ full
+    → refusal objects limits H (command.Rollback t n)
     ≡ (if not going then Some NotOpen else (if bad then Some BadRollback else (if full then Some HistoryFull else None)))
-rollback-refusal objects most H t n going bad full open_is bad_is full_is =
-    ap (λ b. if not b then Some NotOpen else (if n == 0 || nat_lt (length (of t (summary H).survives)) n then Some BadRollback else (if is_history_full most H 1 then Some HistoryFull else None))) open_is
-    ∙ ap (λ b. if not going then Some NotOpen else (if b then Some BadRollback else (if is_history_full most H 1 then Some HistoryFull else None))) bad_is
+rollback-refusal objects limits H t n going bad full open_is bad_is full_is =
+    ap (λ b. if not b then Some NotOpen else (if n == 0 || nat_lt (length (of t (summary H).survives)) n then Some BadRollback else (if is_history_full limits H 1 then Some HistoryFull else None))) open_is
+    ∙ ap (λ b. if not going then Some NotOpen else (if b then Some BadRollback else (if is_history_full limits H 1 then Some HistoryFull else None))) bad_is
     ∙ ap (λ b. if not going then Some NotOpen else (if bad then Some BadRollback else (if b then Some HistoryFull else None))) full_is
 
 -- a transaction can't strike none of its operations that survive, or more than there are
@@ -57,13 +58,13 @@ some-living living n some few =
     ap (λ b. b || nat_lt living n) first ∙ second
 
 -- where the transaction has no row
-pub rollback-closed : RowsSayWhoIsOpen → (ms : List Meaning) (rows : List (Option Row)) (H : List Event) (t n max : ℕ) → IsKept (keeping ms rows) H
-    → table.has_row rows t ≡ false → refusal (objects_of ms) max H (command.Rollback t n) ≡ Some NotOpen
-rollback-closed says ms rows H t n max kept ended =
-    rollback-refusal (objects_of ms) max H t n false _ _ (open-alike says ms rows H t kept ∙ ended) refl refl
+pub rollback-closed : RowsSayWhoIsOpen → (ms : List Meaning) (rows : List (Option Row)) (H : List Event) (t n : ℕ) (limits : Limits) → IsKept (keeping ms rows) H
+    → table.has_row rows t ≡ false → refusal (objects_of ms) limits H (command.Rollback t n) ≡ Some NotOpen
+rollback-closed says ms rows H t n limits kept ended =
+    rollback-refusal (objects_of ms) limits H t n false _ _ (open-alike says ms rows H t kept ∙ ended) refl refl
 
 -- and where it has one
-module _ (says : RowsSayWhoIsOpen) (living : PlacesAreCounted) (ms : List Meaning) (rows : List (Option Row)) (H : List Event) (t n max : ℕ) (places : List ℕ)
+module _ (says : RowsSayWhoIsOpen) (living : PlacesAreCounted) (ms : List Meaning) (rows : List (Option Row)) (H : List Event) (t n : ℕ) (limits : Limits) (places : List ℕ)
     (kept : IsKept (keeping ms rows) H) (going : table.has_row rows t ≡ true) (its : places ≡ objects_of_row (row rows t)) where
   -- it is open
   going-on : is_open (summary H) t ≡ true
@@ -74,9 +75,9 @@ module _ (says : RowsSayWhoIsOpen) (living : PlacesAreCounted) (ms : List Meanin
   as-living bad test = ap (λ m. n == 0 || nat_lt m n) (places-counted ms rows H t places kept going its living) ∙ test
 
   -- none is to be struck, or more than survive
-  pub rollback-bad : (n ≡ 0) ⊎ (length places < n) → refusal (objects_of ms) max H (command.Rollback t n) ≡ Some BadRollback
+  pub rollback-bad : (n ≡ 0) ⊎ (length places < n) → refusal (objects_of ms) limits H (command.Rollback t n) ≡ Some BadRollback
   rollback-bad bad =
-      rollback-refusal (objects_of ms) max H t n true true _ going-on (as-living true (none-or-more (length places) n bad)) refl
+      rollback-refusal (objects_of ms) limits H t n true true _ going-on (as-living true (none-or-more (length places) n bad)) refl
 
   -- or as many as survive, or fewer
   module _ (counted : RowsAreCounted) (opened : ℕ) (counts : opened ≡ count_open rows) (some : 0 < n) (few : n ≤ length places) where
@@ -89,14 +90,14 @@ module _ (says : RowsSayWhoIsOpen) (living : PlacesAreCounted) (ms : List Meanin
     there = as-living false (some-living (length places) n some few)
 
     -- with no room
-    pub rollback-full : nat_le (length H + opened + 1) max ≡ false → refusal (objects_of ms) max H (command.Rollback t n) ≡ Some HistoryFull
+    pub rollback-full : nat_le (length H + opened + 1) limits.events ≡ false → refusal (objects_of ms) limits H (command.Rollback t n) ≡ Some HistoryFull
     rollback-full none =
-        rollback-refusal (objects_of ms) max H t n true false true going-on there (full-then H opened 1 max open-summary none)
+        rollback-refusal (objects_of ms) limits H t n true false true going-on there (full-then H opened 1 limits open-summary none)
 
     -- else it isn't refused
-    pub rollback-unrefused : nat_le (length H + opened + 1) max ≡ true → refusal (objects_of ms) max H (command.Rollback t n) ≡ None
+    pub rollback-unrefused : nat_le (length H + opened + 1) limits.events ≡ true → refusal (objects_of ms) limits H (command.Rollback t n) ≡ None
     rollback-unrefused room =
-        rollback-refusal (objects_of ms) max H t n true false false going-on there (full-else H opened 1 max open-summary room)
+        rollback-refusal (objects_of ms) limits H t n true false false going-on there (full-else H opened 1 limits open-summary room)
 
   -- its event may follow
   pub rollback-may : (w : ℕ) → 0 < n → n ≤ length places → MayFollow (objects_of ms) H (record { worker = w; kind = Rollback t n })
@@ -133,15 +134,15 @@ module _ (moves : RollbackMoves) (ms ms_now : List Meaning) (rows now : List (Op
 
   -- the store stays whole
   pub rollback-whole : StaysKept → RoomAfter → TypesStay → RowsAreCounted → MayFollow (objects_of ms) H (record { worker = w; kind = Rollback t n })
-      → (calls : List (List NamedCall)) (opened room more max : ℕ) → IsWholeStore ms calls rows H room max → opened ≡ count_open rows → max ≤ 4294967295
-      → length H + opened + 1 ≤ more → length H + opened + 1 ≤ max → IsWholeStore ms_now calls now after more max
-  rollback-whole stays room_after types counted may calls opened room more max whole counts fits reserved limited =
+      → (calls : List (List NamedCall)) (opened room more : ℕ) (limits : Limits) {places : ℕ} → IsWholeStore ms calls rows H room limits places → opened ≡ count_open rows → limits.events ≤ 4294967295
+      → length H + opened + 1 ≤ more → length H + opened + 1 ≤ limits.events → IsWholeStore ms_now calls now after more limits places
+  rollback-whole stays room_after types counted may calls opened room more limits whole counts fits reserved limited =
       let same : opened ≡ open_count (summary H) = counts ∙ sym (counted (keeping ms rows) H kept) in
-      event-whole stays room_after types ms ms_now calls rows now H after (record { worker = w; kind = Rollback t n }) room more max whole may
-      rollback-moved appended (omega (arith, limited, fits)) (subst (λ m. length H + m + 1 ≤ more) same reserved) (subst (λ m. length H + m + 1 ≤ max) same limited)
+      event-whole stays room_after types ms ms_now calls rows now H after (record { worker = w; kind = Rollback t n }) room more limits whole may
+      rollback-moved appended (omega (arith, limited, fits)) (subst (λ m. length H + m + 1 ≤ more) same reserved) (subst (λ m. length H + m + 1 ≤ limits.events) same limited)
 
   -- and callers see the event
-  pub rollback-shown : TypesStay → (T : Type 0) (x : T) (max forgotten : ℕ) (s : Stored) → shown (keeping ms rows) H max forgotten ≡ s
-      → refusal (objects_of ms) max H (command.Rollback t n) ≡ None → Steps {T = T} s w (command.Rollback t n) (Ok x) (shown (keeping ms_now now) after max forgotten)
-  rollback-shown types T x max forgotten s same unrefused =
-      event-shown types T (keeping ms rows) (keeping ms_now now) H after w max forgotten (Rollback t n) (command.Rollback t n) x s same rollback-moved appended unrefused refl
+  pub rollback-shown : TypesStay → (T : Type 0) (x : T) (limits : Limits) (forgotten : ℕ) (s : Stored) → shown (keeping ms rows) H limits forgotten ≡ s
+      → refusal (objects_of ms) limits H (command.Rollback t n) ≡ None → Steps {T = T} s w (command.Rollback t n) (Ok x) (shown (keeping ms_now now) after limits forgotten)
+  rollback-shown types T x limits forgotten s same unrefused =
+      event-shown types T (keeping ms rows) (keeping ms_now now) H after w limits forgotten (Rollback t n) (command.Rollback t n) x s same rollback-moved appended unrefused refl

@@ -1,4 +1,5 @@
 -- What a store keeps, and shows to its callers, after a call.
+use Rattle.store_limits.specs.declared.limits.Limits.{Limits}
 use Rattle.std.proofs.Common.{◌≡◌, ℕ, ◌+◌, ◌<◌, ◌≤◌, List, [], ◌∷◌, ◌++◌, length, Option, Some, None, Ok, Err, sym, ap, subst, ◌∙◌}
 use Rattle.std.proofs.lemmas.List.{length-map}
 use Rattle.table_checker.specs.Checked.{Checked}
@@ -17,66 +18,66 @@ use Rattle.store_laws.specs.Events.{room_taken, TypesStay, RoomAfter}
 use Rattle.open_transactions.specs.Transactions.{Row}
 use Rattle.object_trait.specs.Meaning.{Meaning}
 use Rattle.object_calls.specs.declared.call.NamedCall.{NamedCall}
-use Rattle.store.specs.Whole.{HasCalls, IsWholeStore}
+use Rattle.store.specs.Whole.{HasCalls, IsLimited, IsWholeStore}
 use Rattle.store.proofs.Steps.{refused-steps, accepted-steps, memory_refused-steps}
 
 -- ---- what callers see
 
-abbrev pub stored : List Checked → List Event → ℕ → ℕ → Stored
-stored types H max forgotten = record { types = types; history = H; max = max; forgotten = forgotten }
+abbrev pub stored : List Checked → List Event → Limits → ℕ → Stored
+stored types H limits forgotten = record { types = types; history = H; limits = limits; forgotten = forgotten }
 
-abbrev pub shown : Keeping → List Event → ℕ → ℕ → Stored
-shown k H max forgotten = stored (types_of k.meanings) H max forgotten
+abbrev pub shown : Keeping → List Event → Limits → ℕ → Stored
+shown k H limits forgotten = stored (types_of k.meanings) H limits forgotten
 
 -- where the call is refused
-pub refused-shown : (T : Type 0) (k : Keeping) (H : List Event) (w max forgotten : ℕ) (command : Command) (r : Refusal) (s : Stored) → shown k H max forgotten ≡ s
-    → refusal (objects_of k.meanings) max H command ≡ Some r → Steps {T = T} s w command (Err r) s
-refused-shown T k H w max forgotten command r s same reason =
-    subst (λ (z : Stored). Steps {T = T} z w command (Err r) z) same (refused-steps T (shown k H max forgotten) w command r reason)
+pub refused-shown : (T : Type 0) (k : Keeping) (H : List Event) (w : ℕ) (limits : Limits) (forgotten : ℕ) (command : Command) (r : Refusal) (s : Stored) → shown k H limits forgotten ≡ s
+    → refusal (objects_of k.meanings) limits H command ≡ Some r → Steps {T = T} s w command (Err r) s
+refused-shown T k H w limits forgotten command r s same reason =
+    subst (λ (z : Stored). Steps {T = T} z w command (Err r) z) same (refused-steps T (shown k H limits forgotten) w command r reason)
 
 -- where memory was refused: the history has the same events
-pub memory_refused-shown : (T : Type 0) (k : Keeping) (H after : List Event) (w max forgotten : ℕ) (command : Command) (s : Stored) → shown k H max forgotten ≡ s
-    → refusal (objects_of k.meanings) max H command ≡ None → after ≡ H → MayStep {T = T} s w command (Err NoMemory) (shown k after max forgotten)
-memory_refused-shown T k H after w max forgotten command s same unrefused stays =
-    subst (λ (z : Stored). MayStep {T = T} z w command (Err NoMemory) (shown k after max forgotten)) same
-    (memory_refused-steps T (shown k H max forgotten) w command (shown k after max forgotten) unrefused (ap (λ K. stored (types_of k.meanings) K max forgotten) stays))
+pub memory_refused-shown : (T : Type 0) (k : Keeping) (H after : List Event) (w : ℕ) (limits : Limits) (forgotten : ℕ) (command : Command) (s : Stored) → shown k H limits forgotten ≡ s
+    → refusal (objects_of k.meanings) limits H command ≡ None → after ≡ H → MayStep {T = T} s w command (Err NoMemory) (shown k after limits forgotten)
+memory_refused-shown T k H after w limits forgotten command s same unrefused stays =
+    subst (λ (z : Stored). MayStep {T = T} z w command (Err NoMemory) (shown k after limits forgotten)) same
+    (memory_refused-steps T (shown k H limits forgotten) w command (shown k after limits forgotten) unrefused (ap (λ K. stored (types_of k.meanings) K limits forgotten) stays))
 
 -- where there is an event
-pub event-shown : TypesStay → (T : Type 0) (old new : Keeping) (H after : List Event) (w max forgotten : ℕ) (happened : EventKind) (command : Command) (x : T) (s : Stored)
-    → shown old H max forgotten ≡ s → Moves old new H (record { worker = w; kind = happened }) → after ≡ H ++ (record { worker = w; kind = happened }) ∷ []
-    → refusal (objects_of old.meanings) max H command ≡ None → event_of (objects_of old.meanings) (summary H) command ≡ Some happened
-    → Steps {T = T} s w command (Ok x) (shown new after max forgotten)
-event-shown types T old new H after w max forgotten happened command x s same moves appended unrefused makes =
+pub event-shown : TypesStay → (T : Type 0) (old new : Keeping) (H after : List Event) (w : ℕ) (limits : Limits) (forgotten : ℕ) (happened : EventKind) (command : Command) (x : T) (s : Stored)
+    → shown old H limits forgotten ≡ s → Moves old new H (record { worker = w; kind = happened }) → after ≡ H ++ (record { worker = w; kind = happened }) ∷ []
+    → refusal (objects_of old.meanings) limits H command ≡ None → event_of (objects_of old.meanings) (summary H) command ≡ Some happened
+    → Steps {T = T} s w command (Ok x) (shown new after limits forgotten)
+event-shown types T old new H after w limits forgotten happened command x s same moves appended unrefused makes =
     let same_types : types_of new.meanings ≡ types_of old.meanings = types old new H (record { worker = w; kind = happened }) moves in
-    subst (λ (z : Stored). Steps {T = T} z w command (Ok x) (shown new after max forgotten)) same
-    (accepted-steps T (shown old H max forgotten) w command x happened (shown new after max forgotten) unrefused makes
-    (ap (λ ts. stored ts after max forgotten) same_types ∙ ap (λ K. stored (types_of old.meanings) K max forgotten) appended))
+    subst (λ (z : Stored). Steps {T = T} z w command (Ok x) (shown new after limits forgotten)) same
+    (accepted-steps T (shown old H limits forgotten) w command x happened (shown new after limits forgotten) unrefused makes
+    (ap (λ ts. stored ts after limits forgotten) same_types ∙ ap (λ K. stored (types_of old.meanings) K limits forgotten) appended))
 
 -- ---- what is kept
 
 -- an event for which there is room
-pub event-store : StaysKept → RoomAfter → (old new : Keeping) (H after : List Event) (e : Event) (room more max : ℕ)
-    → IsStore old H room max → MayFollow (objects_of old.meanings) H e → Moves old new H e → after ≡ H ++ e ∷ [] → length H < 4294967295
-    → length H + open_count (summary H) + room_taken e.kind ≤ more → length H + open_count (summary H) + room_taken e.kind ≤ max → IsStore new after more max
-event-store stays room_after old new H after e room more max store may moves appended short reserved limited =
+pub event-store : StaysKept → RoomAfter → (old new : Keeping) (H after : List Event) (e : Event) (room more : ℕ) (limits : Limits)
+    → IsStore old H room limits → MayFollow (objects_of old.meanings) H e → Moves old new H e → after ≡ H ++ e ∷ [] → length H < 4294967295
+    → length H + open_count (summary H) + room_taken e.kind ≤ more → length H + open_count (summary H) + room_taken e.kind ≤ limits.events → IsStore new after more limits
+event-store stays room_after old new H after e room more limits store may moves appended short reserved limited =
     let longer = room_after (objects_of old.meanings) H e store.kept.run may in
-    subst (λ K. IsStore new K more max) (sym appended)
+    subst (λ K. IsStore new K more limits) (sym appended)
     (record {
       kept = stays old new H e store.kept may moves short;
       reserved = subst (λ n. n ≤ more) (sym longer) reserved;
-      limited = subst (λ n. n ≤ max) (sym longer) limited;
+      limited = subst (λ n. n ≤ limits.events) (sym longer) limited;
     })
 
 -- and so for all parts of a store
 pub event-whole : StaysKept → RoomAfter → TypesStay → (ms now : List Meaning) (calls : List (List NamedCall)) (rows left : List (Option Row))
-    (H after : List Event) (e : Event) (room more max : ℕ) → IsWholeStore ms calls rows H room max → MayFollow (objects_of ms) H e
+    (H after : List Event) (e : Event) (room more : ℕ) (limits : Limits) {places : ℕ} → IsWholeStore ms calls rows H room limits places → MayFollow (objects_of ms) H e
     → Moves (keeping ms rows) (keeping now left) H e → after ≡ H ++ e ∷ [] → length H < 4294967295
-    → length H + open_count (summary H) + room_taken e.kind ≤ more → length H + open_count (summary H) + room_taken e.kind ≤ max → IsWholeStore now calls left after more max
-event-whole stays room_after types ms now calls rows left H after e room more max whole may moves appended short reserved limited =
+    → length H + open_count (summary H) + room_taken e.kind ≤ more → length H + open_count (summary H) + room_taken e.kind ≤ limits.events → IsWholeStore now calls left after more limits places
+event-whole stays room_after types ms now calls rows left H after e room more limits {places} whole may moves appended short reserved limited =
     let same : types_of now ≡ types_of ms = types (keeping ms rows) (keeping now left) H e moves in
     let as_many : length now ≡ length ms = sym (length-map now (λ m. m.checked)) ∙ ap length same ∙ length-map ms (λ m. m.checked) in
     record {
-      store = event-store stays room_after (keeping ms rows) (keeping now left) H after e room more max whole.store may moves appended short reserved limited;
-      few = subst (λ n. n ≤ 256) (sym as_many) whole.few;
+      store = event-store stays room_after (keeping ms rows) (keeping now left) H after e room more limits whole.store may moves appended short reserved limited;
+      within = subst (λ n. IsLimited n limits places) (sym as_many) whole.within;
       known = subst (λ ts. HasCalls ts calls) (sym same) whole.known;
     }

@@ -30,11 +30,11 @@ NotesAnswer old w t x c (Err r) new = Unit {0}
 -- what comes of t's call c at x: the event that the history defines, or nothing where there is no room
 abbrev pub AnswersCall : Stored → ℕ → ℕ → ℕ → ℕ → Result Answer Refusal → Stored → Type 0
 AnswersCall old w t x c (Ok a) new =
-    (is_history_full old.max old.history 1 ≡ false) × (call_event (slice_get (objects old) x) (summary old.history) x t (Some c) ≡ Some (as_event t x c a))
+    (is_history_full old.limits old.history 1 ≡ false) × (call_event (slice_get (objects old) x) (summary old.history) x t (Some c) ≡ Some (as_event t x c a))
     × (new ≡ noted old w (as_event t x c a))
 AnswersCall old w t x c (Err r) new =
     (new ≡ old)
-    × (((is_history_full old.max old.history 1 ≡ true) × (r ≡ HistoryFull)) ⊎ ((is_history_full old.max old.history 1 ≡ false) × (r ≡ NoMemory)))
+    × (((is_history_full old.limits old.history 1 ≡ true) × (r ≡ HistoryFull)) ⊎ ((is_history_full old.limits old.history 1 ≡ false) × (r ≡ NoMemory)))
 
 -- and so where its answer, which is given, is a
 abbrev pub GivesAnswer : Stored → ℕ → ℕ → ℕ → ℕ → Answer → Result (Unit {0}) Refusal → Stored → Type 0
@@ -61,8 +61,8 @@ CallsIf old w t x name c a (Err r) new =
 -- what t's call c at x would come to now, memory aside
 abbrev pub WouldCome : Stored → ℕ → ℕ → ℕ → Result Answer Refusal → Type 0
 WouldCome s t x c (Ok a) =
-    (is_history_full s.max s.history 1 ≡ false) × (call_event (slice_get (objects s) x) (summary s.history) x t (Some c) ≡ Some (as_event t x c a))
-WouldCome s t x c (Err r) = (is_history_full s.max s.history 1 ≡ true) × (r ≡ HistoryFull)
+    (is_history_full s.limits s.history 1 ≡ false) × (call_event (slice_get (objects s) x) (summary s.history) x t (Some c) ≡ Some (as_event t x c a))
+WouldCome s t x c (Err r) = (is_history_full s.limits s.history 1 ≡ true) × (r ≡ HistoryFull)
 
 -- and so of a call that is named: its refusal, or the answer whose event the history defines
 abbrev pub Would : Stored → ℕ → ℕ → List ℕ → Result Answer Refusal → Type 0

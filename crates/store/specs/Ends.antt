@@ -1,7 +1,8 @@
 -- The end of a transaction, and the beginning and the end of a store.
-use Rattle.std.specs.Prelude.{◌≡◌, ℕ, ◌<◌, List, [], length, map, filter, ◌≤◌, Bool, true, false, not, ◌&&◌, nat_le, nat_lt, Some, slice_get, slice_index_or}
+use Rattle.std.specs.Prelude.{◌≡◌, ℕ, ◌<◌, List, [], length, map, filter, ◌≤◌, Bool, true, false, not, ◌&&◌, Some, slice_get, slice_index_or}
 use Rattle.std.specs.List.{range_with_len}
-use Rattle.type_table.specs.Limits.{most_objects}
+use Rattle.store_limits.specs.declared.limits.Limits.{Limits}
+use Rattle.store_limits.specs.Standard.{are_limits}
 use Rattle.object_trait.specs.Meaning.{Meaning}
 use Rattle.object_trait.specs.Steps.{IsFresh, open_transactions}
 use Rattle.object_trait.specs.declared.event.Event.{Event}
@@ -31,28 +32,24 @@ end_command end.Abort t = command.Abort t
 abbrev pub AreFresh : List Meaning → Type 0
 AreFresh ms = (x : ℕ) (m : Meaning) → slice_get ms x ≡ Some m → IsFresh m
 
--- a limit that a history may have, of which this is the greatest
-abbrev pub is_limit : ℕ → ℕ → Bool
-is_limit greatest max = nat_lt 1 max && nat_le max greatest
-
--- why no store of such a limit is made of these objects, memory aside: the first reason that holds
-abbrev pub RefusesNew : ℕ → List Meaning → ℕ → NewRefusal → Type 0
-RefusesNew greatest ms max NoObjects = length ms ≡ 0
-RefusesNew greatest ms max TooManyObjects = most_objects < length ms
-RefusesNew greatest ms max NotFresh = (0 < length ms) × (length ms ≤ most_objects) × (AreFresh ms → ⊥)
-RefusesNew greatest ms max BadMax = (0 < length ms) × (length ms ≤ most_objects) × AreFresh ms × (is_limit greatest max ≡ false)
-RefusesNew greatest ms max NoMemory = (0 < length ms) × (length ms ≤ most_objects) × AreFresh ms × (is_limit greatest max ≡ true)
+-- why no store of such limits is made of these objects, memory aside: the first reason that holds. `greatest` is the greatest limit of events
+abbrev pub RefusesNew : ℕ → List Meaning → Limits → NewRefusal → Type 0
+RefusesNew greatest ms limits NoObjects = length ms ≡ 0
+RefusesNew greatest ms limits TooManyObjects = limits.objects < length ms
+RefusesNew greatest ms limits NotFresh = (0 < length ms) × (length ms ≤ limits.objects) × (AreFresh ms → ⊥)
+RefusesNew greatest ms limits BadMax = (0 < length ms) × (length ms ≤ limits.objects) × AreFresh ms × (are_limits greatest limits ≡ false)
+RefusesNew greatest ms limits NoMemory = (0 < length ms) × (length ms ≤ limits.objects) × AreFresh ms × (are_limits greatest limits ≡ true)
 
 -- what a store may be made of
-pub record MayBegin (greatest : ℕ) (ms : List Meaning) (max : ℕ) : Type 0 where
+pub record MayBegin (greatest : ℕ) (ms : List Meaning) (limits : Limits) : Type 0 where
   pub some : 0 < length ms
-  pub few : length ms ≤ most_objects
+  pub few : length ms ≤ limits.objects
   pub fresh : AreFresh ms
-  pub limit : is_limit greatest max ≡ true
+  pub limit : are_limits greatest limits ≡ true
 
 -- a store of these objects, with the empty history
-abbrev pub begun : List Meaning → ℕ → Stored
-begun ms max = record { types = types_of ms; history = []; max = max; forgotten = 0 }
+abbrev pub begun : List Meaning → Limits → Stored
+begun ms limits = record { types = types_of ms; history = []; limits = limits; forgotten = 0 }
 
 -- ---- the end
 

@@ -3,6 +3,7 @@ use Rattle.std.specs.Prelude.{ℕ, List, [], ◌∷◌}
 use Rattle.object_trait.specs.declared.event.Event.{Event}
 use Rattle.object_trait.specs.declared.event.EventKind.{EventKind}
 use Rattle.object_trait.specs.declared.event.EventKind.TheVariants.{Begin, Op, Commit}
+use Rattle.store_limits.specs.Standard.{standard_with}
 use Rattle.store_laws.specs.Stored.{Stored}
 use Rattle.store_laws.specs.Examples.{stored}
 
@@ -24,4 +25,4 @@ up_in_place = event_by 7 (Begin 0) ∷ event_by 7 (Op 0 0 0) ∷ event_by 7 (Com
 
 -- the two counters with this history, and room for more
 abbrev pub roomy : List Event → Stored
-roomy H = record (stored H) { max = 100 }
+roomy H = record (stored H) { limits = standard_with 100 }

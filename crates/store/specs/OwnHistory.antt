@@ -1,6 +1,5 @@
 -- A history that a store of its types and its limit makes: such a store follows it, event by event.
-use Rattle.std.specs.Prelude.{◌≡◌, ℕ, List, [], ◌++◌, Bool}
-use Rattle.object_trait.specs.declared.event.Event.{Event}
+use Rattle.std.specs.Prelude.{ℕ, List, [], ◌++◌, Bool}
 use Rattle.serial_order.specs.Machine.{IsRun}
 use Rattle.serial_order.specs.Replay.{replay}
 use Rattle.serial_order.specs.declared.command.Command.{Command}
@@ -28,4 +27,4 @@ ClosingIsOwn = (those : List ℕ) (s : Stored) → IsRun (objects s) s.history �
 
 -- so whatever workers ask a new store, and whatever is refused, its history is one that such a store follows
 abbrev pub AskedIsFollowed : Type 0
-AskedIsFollowed = (s : Stored) (memory_refused : ℕ → Bool) (commands : List (ℕ × Command)) → AreMade (at_beginning s) (replay (objects s) s.max memory_refused [] commands)
+AskedIsFollowed = (s : Stored) (memory_refused : ℕ → Bool) (commands : List (ℕ × Command)) → AreMade (at_beginning s) (replay (objects s) s.limits memory_refused [] commands)

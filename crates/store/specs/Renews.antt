@@ -36,7 +36,7 @@ pub record Renews (old new : Stored) : Type 0 where
   pub as_many : length kept ≡ length old.types
   pub states : (x s : ℕ) → slice_get kept x ≡ Some s → IsKeptState old x s
   pub epoch : IsEpoch old.types (record { history = old.history; kept = kept })
-  pub is : new ≡ record { types = types_at old.types kept; history = []; max = old.max; forgotten = 0 }
+  pub is : new ≡ record { types = types_at old.types kept; history = []; limits = old.limits; forgotten = 0 }
 
 -- why none begins: a transaction is open, or none is and memory was refused
 abbrev pub RefusesRenew : Stored → RenewRefusal → Type 0

@@ -18,6 +18,7 @@ use crate::room::has_room;
 use crate::store::Store;
 use declared_types::DeclaredType;
 use object_calls::{Answer, Call};
+use object_index::ObjectIndex;
 use object_trait::{Event, EventKind, Recovery};
 use serial_order::{
     Refusal, answer_may_follow, first_op_is_least, logs_are_counted, machine_may_apply,
@@ -51,7 +52,7 @@ impl<R: Recovery> Store<R> {
         ensures answer { (c : ℕ) → call_at (slice_get (objects self.old) x) name.now ≡ Some c → NotesAnswer self.old w t x c result self.new }
     {
         let call = self.named_call(t, x, name)?;
-        self.answer(w, t, x as u8, &call)
+        self.answer(w, t, ObjectIndex::of(x), &call)
     }
 
     /// The call with this number at object x, as `call` with its name.
@@ -66,7 +67,7 @@ impl<R: Recovery> Store<R> {
         ensures unnumbered { ((name : List ℕ) → call_at (slice_get (objects self.old) x) name ≡ Some c → ⊥) → (result ≡ Err (unnumbered self.old t x)) × (self.new ≡ self.old) }
     {
         let call = self.numbered_call(t, x, c)?;
-        self.answer(w, t, x as u8, &call)
+        self.answer(w, t, ObjectIndex::of(x), &call)
     }
 
     /// The number of the call with this name at object x: None where the object or the call isn't
@@ -93,7 +94,7 @@ impl<R: Recovery> Store<R> {
     /// `NotOpen`, `NoObject` or `NoCall`.
     pub(crate) fn named_call(&self, t: u32, x: u32, name: &[u8]) -> Result<Call, Refusal>
         ensures still_open { OnOk result (is_open (summary self.now.history) t ≡ true) }
-        ensures few { OnOk result (x < 256) }
+        ensures few { OnOk result (x < 65536) }
         ensures call { IfOk result (λ call. HasCall (slice_get (objects self.now) x) call) }
         ensures named { IfOk result (λ call. call_at (slice_get (objects self.now) x) name.now ≡ Some call.first) }
         ensures refused { IfErr result (λ r. refusal_of self.now (command.Call t x name.now) ≡ Some r) }
@@ -113,7 +114,7 @@ impl<R: Recovery> Store<R> {
     #[inline(always)]
     pub(crate) fn numbered_call(&self, t: u32, x: u32, c: Operation) -> Result<Call, Refusal>
         ensures still_open { OnOk result (is_open (summary self.now.history) t ≡ true) }
-        ensures few { OnOk result (x < 256) }
+        ensures few { OnOk result (x < 65536) }
         ensures call { IfOk result (λ call. (call.first ≡ c) × HasCall (slice_get (objects self.now) x) call) }
         ensures refused { IfErr result (λ r. (name : List ℕ) → call_at (slice_get (objects self.now) x) name ≡ Some c → refusal_of self.now (command.Call t x name) ≡ Some r) }
         ensures unnumbered { IfErr result (λ r. ((name : List ℕ) → call_at (slice_get (objects self.now) x) name ≡ Some c → ⊥) → r ≡ unnumbered self.now t x) }
@@ -133,7 +134,7 @@ impl<R: Recovery> Store<R> {
     #[inline(always)]
     fn called_object(&self, t: u32, x: u32) -> Result<&R, Refusal>
         ensures still_open { OnOk result (is_open (summary self.now.history) t ≡ true) }
-        ensures few { OnOk result (x < 256) }
+        ensures few { OnOk result (x < 65536) }
         ensures there { IfOk result (λ object. slice_get (objects self.now) x ≡ Some (object_of (R.meaning object.now).checked)) }
         ensures refused { IfErr result (λ r. (name : List ℕ) → refusal_of self.now (command.Call t x name) ≡ Some r) }
         ensures unnumbered { IfErr result (λ r. r ≡ unnumbered self.now t x) }
@@ -150,7 +151,13 @@ impl<R: Recovery> Store<R> {
 
     /// Answers t's call at object x, which has it.
     #[inline(always)]
-    pub(crate) fn answer(&mut self, w: u8, t: u32, x: u8, call: &Call) -> Result<Answer, Refusal>
+    pub(crate) fn answer(
+        &mut self,
+        w: u8,
+        t: u32,
+        x: ObjectIndex,
+        call: &Call,
+    ) -> Result<Answer, Refusal>
         requires still_open { is_open (summary self.old.history) t ≡ true }
         requires call { HasCall (slice_get (objects self.old) x) call.now }
         ensures { AnswersCall self.old w t x call.now.first result self.new }
@@ -166,7 +173,7 @@ impl<R: Recovery> Store<R> {
         &mut self,
         w: u8,
         t: u32,
-        x: u8,
+        x: ObjectIndex,
         call: &Call,
         answer: &Answer,
     ) -> Result<(), Refusal>
@@ -184,7 +191,7 @@ impl<R: Recovery> Store<R> {
         room_after();
         types_stay();
         let opened = self.transactions.open_count();
-        if !has_room(self.forgotten, &self.history, opened, 1, self.max_events) {
+        if !has_room(self.forgotten, &self.history, opened, 1, self.limits.events) {
             return Err(Refusal::HistoryFull);
         }
         if self.history.reserve(opened as usize + 1).is_err() {
@@ -194,7 +201,7 @@ impl<R: Recovery> Store<R> {
         if done.is_err() {
             return Err(Refusal::NoMemory);
         }
-        let kind = kind_of(answer, t, u32::from(x), call.first);
+        let kind = kind_of(answer, t, x.number(), call.first);
         self.history.push_reserved(Event { worker: w, kind });
         Ok(())
     }

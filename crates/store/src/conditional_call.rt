@@ -8,6 +8,7 @@ ghost use Rattle.store.specs.Calls.{CallsIf, ComesIf, HasCall, unnumbered};
 
 use crate::store::Store;
 use object_calls::{Answer, Call};
+use object_index::ObjectIndex;
 use object_trait::Recovery;
 use serial_order::Refusal;
 use type_table::Operation;
@@ -33,7 +34,7 @@ impl<R: Recovery> Store<R> {
         ensures unnumbered { ((name : List ℕ) → call_at (slice_get (objects self.old) x) name ≡ Some c → ⊥) → (result ≡ Err (unnumbered self.old t x)) × (self.new ≡ self.old) }
     {
         let call = self.numbered_call(t, x, c)?;
-        self.answer_if(w, t, x as u8, &call, &answer)
+        self.answer_if(w, t, ObjectIndex::of(x), &call, &answer)
     }
 
     /// Answers t's call at object x, which has it, where that is its answer: whether it was.
@@ -41,7 +42,7 @@ impl<R: Recovery> Store<R> {
         &mut self,
         w: u8,
         t: u32,
-        x: u8,
+        x: ObjectIndex,
         call: &Call,
         answer: &Answer,
     ) -> Result<bool, Refusal>

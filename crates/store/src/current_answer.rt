@@ -13,6 +13,7 @@ ghost use Rattle.store.specs.Follows.{HasAnswer};
 use crate::room::has_room;
 use crate::store::Store;
 use object_calls::{Answer, Call, call_unreplied, choose};
+use object_index::ObjectIndex;
 use object_trait::Recovery;
 use serial_order::Refusal;
 use store_laws::{answers_as_defined, rows_are_counted};
@@ -40,7 +41,7 @@ impl<R: Recovery> Store<R> {
         ensures { Would self.now t x name.now result }
     {
         let call = self.named_call(t, x, name)?;
-        self.would_give(t, x as u8, &call)
+        self.would_give(t, ObjectIndex::of(x), &call)
     }
 
     /// The same of the call with this number there.
@@ -53,7 +54,7 @@ impl<R: Recovery> Store<R> {
         ensures unnumbered { ((name : List ℕ) → call_at (slice_get (objects self.now) x) name ≡ Some c → ⊥) → result ≡ Err (unnumbered self.now t x) }
     {
         let call = self.numbered_call(t, x, c)?;
-        self.would_give(t, x as u8, &call)
+        self.would_give(t, ObjectIndex::of(x), &call)
     }
 
     /// Of the calls at object x whose first operation has this place one that would be answered with this holder, or
@@ -75,14 +76,14 @@ impl<R: Recovery> Store<R> {
     }
 
     /// What t's call at object x, which has it, would be given.
-    fn would_give(&self, t: u32, x: u8, call: &Call) -> Result<Answer, Refusal>
+    fn would_give(&self, t: u32, x: ObjectIndex, call: &Call) -> Result<Answer, Refusal>
         requires still_open { is_open (summary self.now.history) t ≡ true }
         requires call { HasCall (slice_get (objects self.now) x) call.now }
         ensures { WouldCome self.now t x call.now.first result }
     {
         rows_are_counted();
         let opened = self.transactions.open_count();
-        if !has_room(self.forgotten, &self.history, opened, 1, self.max_events) {
+        if !has_room(self.forgotten, &self.history, opened, 1, self.limits.events) {
             return Err(Refusal::HistoryFull);
         }
         Ok(self.chosen(t, x, call))
@@ -90,12 +91,12 @@ impl<R: Recovery> Store<R> {
 
     /// The answer that t's call at object x has, which is there.
     #[inline(always)]
-    pub(crate) fn chosen(&self, t: u32, x: u8, call: &Call) -> Answer
+    pub(crate) fn chosen(&self, t: u32, x: ObjectIndex, call: &Call) -> Answer
         requires still_open { is_open (summary self.now.history) t ≡ true }
         requires call { HasCall (slice_get (objects self.now) x) call.now }
         ensures { call_event (slice_get (objects self.now) x) (summary self.now.history) x t (Some call.now.first) ≡ Some (as_event t x call.now.first result) }
     {
         answers_as_defined();
-        choose(&self.objects[x as usize], t, *call)
+        choose(&self.objects[x.number() as usize], t, *call)
     }
 }

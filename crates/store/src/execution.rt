@@ -8,6 +8,7 @@ ghost use Rattle.store.specs.Executed.{IsExecuted, ExecutesAnswer};
 ghost use Rattle.object_calls.specs.declared.answer.Answer.TheVariants as answered;
 
 use object_calls::Answer;
+use object_index::ObjectIndex;
 use object_trait::Recovery;
 use open_transactions::OpenTransactions;
 use std::alloc::AllocError;
@@ -23,7 +24,7 @@ pub(crate) fn do_answer<R: Recovery>(
     objects: &mut Vec<R>,
     transactions: &mut OpenTransactions,
     t: u32,
-    x: u8,
+    x: ObjectIndex,
     answer: &Answer,
 ) -> Result<(), AllocError>
     requires inside { x < length objects.old.items }
@@ -50,7 +51,7 @@ fn execute<R: Recovery>(
     objects: &mut Vec<R>,
     transactions: &mut OpenTransactions,
     t: u32,
-    x: u8,
+    x: ObjectIndex,
     k: Operation,
 ) -> Result<(), AllocError>
     requires inside { x < length objects.old.items }
@@ -61,7 +62,7 @@ fn execute<R: Recovery>(
     ensures rows { OnErr result (transactions.new.rows ≡ transactions.old.rows) }
 {
     transactions.reserve_place(t)?;
-    objects[x as usize].apply(t, k)?;
+    objects[x.number() as usize].apply(t, k)?;
     transactions.push_place(t, x);
     Ok(())
 }

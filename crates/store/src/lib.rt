@@ -2,11 +2,11 @@
 #![tactic(auto)]
 
 mod call;
-mod call_tables;
 mod conditional_call;
 mod current_answer;
 mod event_replay;
 mod execution;
+mod held_parts;
 mod laws;
 mod past;
 mod refusals;

@@ -6,11 +6,11 @@ use thiserror::Error;
 pub enum NewRefusal {
     /// There is no object.
     NoObjects,
-    /// There are more than 256 objects.
+    /// There are more objects than the limits say.
     TooManyObjects,
     /// An object isn't as it was made.
     NotFresh,
-    /// The limit of events is below 2.
+    /// A limit is out of its range.
     BadMax,
     /// Memory was refused.
     NoMemory,

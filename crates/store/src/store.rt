@@ -7,6 +7,7 @@ ghost use Rattle.serial_order.specs.Machine.{IsRun};
 ghost use Rattle.serial_order.specs.Replay.{open_count};
 ghost use Rattle.serial_order.specs.Serial.{IsSerial};
 ghost use Rattle.store_laws.specs.Stored.{objects, types_of, MayStep, Steps};
+ghost use Rattle.store_limits.specs.Standard.{standard_with};
 ghost use Rattle.type_table.specs.Limits.{most_events, longest_history};
 ghost use Rattle.store.specs.Ends.{MayBegin, RefusesNew, begun, end_command, closing, closing_abort, closing_but, is_other, IsHandedOut};
 ghost use Rattle.store.specs.KeptState.{IsKeptState};
@@ -16,12 +17,12 @@ ghost use Rattle.serial_order.specs.Operations.{is_among};
 ghost use Rattle.store.specs.Renews.{RefusesRenew, Renews};
 ghost use Rattle.serial_order.specs.declared.command.Command.TheVariants as command;
 
-use crate::call_tables::checked_calls;
+use crate::held_parts::{HeldParts, held_for};
 use crate::past::Past;
 use crate::refusals::{NewRefusal, RenewRefusal};
 use crate::renewed_objects::renewed_objects;
 use crate::room::has_room;
-use object_calls::{CallTable, End, end_at, strike_at};
+use object_calls::{CallTable, End, PlaceCounts, end_at, strike_at};
 use object_trait::{Event, EventKind, Recovery, Renew};
 use open_transactions::OpenTransactions;
 use serial_order::{
@@ -35,13 +36,14 @@ use store_laws::{
     places_are_inside, rollback_moves, room_after, rows_are_counted, rows_are_few,
     rows_say_who_is_open, stays_kept, types_stay,
 };
+use store_limits::Limits;
 use table_checker::CheckedType;
-use type_table::{LONGEST_HISTORY, MOST_EVENTS, MOST_OPEN, limits_agree, runs_along};
+use type_table::{LONGEST_HISTORY, MOST_EVENTS, limits_agree, runs_along};
 
 /// Transactions over shared objects, each of which has a checked type and a way of recovering from
 /// aborts.
 ///
-/// Contracts see the objects' types, the history, the most events that it may have, and how many of them
+/// Contracts see the objects' types, the history, the store's limits, and how many of the events
 /// were forgotten. That a store is as it was, after a call that was refused, says that these are: they
 /// determine the state of an object in place, and that of a deferred one up to equieffectiveness, as
 /// `kept` says it. A store can't be dropped: `close` is its one end.
@@ -55,7 +57,9 @@ pub struct Store<R: Recovery> {
     pub(crate) forgotten: u32,
     // The events since.
     pub(crate) history: Vec<Event>,
-    pub(crate) max_events: u32,
+    pub(crate) limits: Limits,
+    // Room for the places of a transaction that ends.
+    pub(crate) counts: PlaceCounts,
 }
 
 impl<R: Recovery> Model for Store<R> {
@@ -68,16 +72,16 @@ impl<R: Recovery> Model for Store<R> {
     ghost view = { λ s. record {
       types = types_of (map R.meaning s.objects.items);
       history = s.past.items ++ s.history.items;
-      max = s.max_events;
+      limits = s.limits;
       forgotten = s.forgotten;
     } };
 
-    ghost invariant = { λ s. (s.forgotten ≡ length s.past.items) × IsWholeStore (map R.meaning s.objects.items) s.calls.items s.transactions.rows (s.past.items ++ s.history.items) (s.forgotten + vec_capacity s.history) s.max_events };
+    ghost invariant = { λ s. (s.forgotten ≡ length s.past.items) × IsWholeStore (map R.meaning s.objects.items) s.calls.items s.transactions.rows (s.past.items ++ s.history.items) (s.forgotten + vec_capacity s.history) s.limits s.counts };
 }
 
 impl<R: Recovery> Store<R> {
-    /// A store of these objects, whose history will have at most `max_events` events, from 2 to 1,000,000: then its text
-    /// can be read.
+    /// A store of these objects with the standard limits, but for its history, which will have at most `max_events` events, from
+    /// 2 to 1,000,000: then its text can be read.
     ///
     /// # Errors
     ///
@@ -88,47 +92,52 @@ impl<R: Recovery> Store<R> {
         objects: Vec<R>,
         max_events: u32,
     ) -> Result<Store<R>, (Vec<R>, NewRefusal)>
-        ensures made { IfOk result (λ s. MayBegin most_events (map R.meaning objects.items) max_events × (s ≡ begun (map R.meaning objects.items) max_events)) }
-        ensures refused { IfErr result (λ e. RefusesNew most_events (map R.meaning objects.items) max_events e.1) }
+        ensures made { IfOk result (λ s. MayBegin most_events (map R.meaning objects.items) (standard_with max_events) × (s ≡ begun (map R.meaning objects.items) (standard_with max_events))) }
+        ensures refused { IfErr result (λ e. RefusesNew most_events (map R.meaning objects.items) (standard_with max_events) e.1) }
         ensures back { IfErr result (λ e. e.0.items ≡ objects.items) }
     {
         limits_agree();
-        Store::within(alloc, objects, max_events, MOST_EVENTS)
+        Store::within(
+            alloc,
+            objects,
+            Limits::standard_with(max_events),
+            MOST_EVENTS,
+        )
     }
 
-    /// A store that goes on for longer: of `max_events` events, from 2 to 4,294,967,295. Who forgets events needs no
-    /// more memory for them.
+    /// A store of these objects with limits of its own: from 2 to 4,294,967,295 events, from 1 to 65,536 open transactions, and
+    /// from 1 to 65,536 objects. Who forgets events needs no more memory for them.
     ///
     /// # Errors
     ///
-    /// As `new`.
-    pub fn lasting(
+    /// As `new`, with `BadMax` where a limit is out of its range.
+    pub fn with_limits(
         alloc: Global,
         objects: Vec<R>,
-        max_events: u32,
+        limits: Limits,
     ) -> Result<Store<R>, (Vec<R>, NewRefusal)>
-        ensures made { IfOk result (λ s. MayBegin longest_history (map R.meaning objects.items) max_events × (s ≡ begun (map R.meaning objects.items) max_events)) }
-        ensures refused { IfErr result (λ e. RefusesNew longest_history (map R.meaning objects.items) max_events e.1) }
+        ensures made { IfOk result (λ s. MayBegin longest_history (map R.meaning objects.items) limits × (s ≡ begun (map R.meaning objects.items) limits)) }
+        ensures refused { IfErr result (λ e. RefusesNew longest_history (map R.meaning objects.items) limits e.1) }
         ensures back { IfErr result (λ e. e.0.items ≡ objects.items) }
     {
         limits_agree();
-        Store::within(alloc, objects, max_events, LONGEST_HISTORY)
+        Store::within(alloc, objects, limits, LONGEST_HISTORY)
     }
 
     /// A store of these objects, with a limit of at most `greatest` events.
     fn within(
         alloc: Global,
         objects: Vec<R>,
-        max_events: u32,
+        limits: Limits,
         greatest: u32,
     ) -> Result<Store<R>, (Vec<R>, NewRefusal)>
-        ensures made { IfOk result (λ s. MayBegin greatest (map R.meaning objects.items) max_events × (s ≡ begun (map R.meaning objects.items) max_events)) }
-        ensures refused { IfErr result (λ e. RefusesNew greatest (map R.meaning objects.items) max_events e.1) }
+        ensures made { IfOk result (λ s. MayBegin greatest (map R.meaning objects.items) limits × (s ≡ begun (map R.meaning objects.items) limits)) }
+        ensures refused { IfErr result (λ e. RefusesNew greatest (map R.meaning objects.items) limits e.1) }
         ensures back { IfErr result (λ e. e.0.items ≡ objects.items) }
     {
         new_is_kept();
-        let calls = match checked_calls(alloc, &objects, max_events, greatest) {
-            Ok(calls) => calls,
+        let HeldParts { calls, counts } = match held_for(alloc, &objects, limits, greatest) {
+            Ok(held) => held,
             Err(refusal) => return Err((objects, refusal)),
         };
         Ok(Store {
@@ -138,8 +147,16 @@ impl<R: Recovery> Store<R> {
             past: Past::new(),
             forgotten: 0,
             history: Vec::new(alloc),
-            max_events,
+            limits,
+            counts,
         })
+    }
+
+    /// What it may have.
+    pub fn limits(&self) -> Limits
+        ensures { result ≡ self.now.limits }
+    {
+        self.limits
     }
 
     /// The events so far that weren't forgotten, oldest first. All that there were are a run of the
@@ -150,7 +167,7 @@ impl<R: Recovery> Store<R> {
         ensures whole { self.now.forgotten ≡ 0 → result.now ≡ self.now.history }
         ensures run { IsRun (objects self.now) self.now.history }
         ensures serial { IsSerial (objects self.now) self.now.history }
-        ensures room { length self.now.history ≤ self.now.max }
+        ensures room { length self.now.history ≤ self.now.limits.events }
         ensures checked { AreChecked self.now.types }
     {
         checked_headline();
@@ -200,7 +217,7 @@ impl<R: Recovery> Store<R> {
         ensures within { self.now.forgotten ≤ result }
     {
         // (read for its range, which the sum is within)
-        let _max = self.max_events;
+        let _most = self.limits.events;
         self.forgotten + self.history.len() as u32
     }
 
@@ -232,10 +249,10 @@ impl<R: Recovery> Store<R> {
         room_after();
         types_stay();
         let opened = self.transactions.open_count();
-        if opened >= MOST_OPEN {
+        if opened >= self.limits.open {
             return Err(Refusal::TooManyOpen);
         }
-        if !has_room(self.forgotten, &self.history, opened, 2, self.max_events) {
+        if !has_room(self.forgotten, &self.history, opened, 2, self.limits.events) {
             return Err(Refusal::HistoryFull);
         }
         if self.history.reserve(opened as usize + 2).is_err() {
@@ -280,14 +297,19 @@ impl<R: Recovery> Store<R> {
             return Err(Refusal::BadRollback);
         }
         let opened = self.transactions.open_count();
-        if !has_room(self.forgotten, &self.history, opened, 1, self.max_events) {
+        if !has_room(self.forgotten, &self.history, opened, 1, self.limits.events) {
             return Err(Refusal::HistoryFull);
         }
         if self.history.reserve(opened as usize + 1).is_err() {
             return Err(Refusal::NoMemory);
         }
         let left = living - n;
-        strike_at(&mut self.objects, &places[left as usize..], t);
+        strike_at(
+            &mut self.objects,
+            &mut self.counts,
+            &places[left as usize..],
+            t,
+        );
         self.transactions.keep_places(t, left);
         self.history.push_reserved(Event {
             worker: w,
@@ -327,6 +349,7 @@ impl<R: Recovery> Store<R> {
     {
         rows_say_who_is_open();
         rows_are_counted();
+        places_are_few();
         places_are_inside();
         end_moves();
         stays_kept();
@@ -335,7 +358,8 @@ impl<R: Recovery> Store<R> {
         if !self.transactions.is_open(t) {
             return Err(Refusal::NotOpen);
         }
-        end_at(&mut self.objects, self.transactions.places(t), t, how);
+        let places = self.transactions.places(t);
+        end_at(&mut self.objects, &mut self.counts, places, t, how);
         self.transactions.end(t);
         let kind = kind_of_end(how, t);
         self.history.push_reserved(Event { worker: w, kind });
@@ -359,7 +383,8 @@ impl<R: Recovery> Store<R> {
             past: _,
             forgotten: _,
             history,
-            max_events: _,
+            limits: _,
+            counts: _,
         } = self;
         (history, objects)
     }
@@ -440,7 +465,7 @@ impl<R: Renew> Store<R> {
     }
 
     /// Begins an epoch: a store of the same types at the states that were kept, with no event yet and the
-    /// same limit of events, beside the events of this one that weren't forgotten. The objects of this one are let go.
+    /// same limits, beside the events of this one that weren't forgotten. The objects of this one are let go.
     ///
     /// # Errors
     ///
@@ -477,7 +502,7 @@ impl<R: Renew> Store<R> {
         closed_is_epoch();
         states_are_inside();
         let objects = renewed_objects(alloc, &self.objects)?;
-        match Store::lasting(alloc, objects, self.max_events) {
+        match Store::with_limits(alloc, objects, self.limits) {
             Ok(store) => Ok(store),
             Err(_) => Err(AllocError),
         }

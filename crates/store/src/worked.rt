@@ -5,9 +5,10 @@ ghost use Rattle.std.specs.Prelude.{◌≡◌, ◌<◌, List, ◌++◌, [], ◌�
 ghost use Rattle.object_trait.specs.Meaning.{Meaning};
 ghost use Rattle.object_trait.specs.Examples.{held, counter_at};
 ghost use Rattle.store_laws.specs.Examples.{stored, new_counters, counted, one_up, one_back, undo_counter_type, deferred_counter_type};
+ghost use Rattle.store_limits.specs.Standard.{standard_with};
 ghost use Rattle.type_table.specs.Limits.{longest_history, most_events};
 ghost use Rattle.store.specs.Calls.{NotesAnswer, CallsIf, Would, unnumbered};
-ghost use Rattle.store.specs.Ends.{closing, is_limit, RefusesNew, IsHandedOut};
+ghost use Rattle.store.specs.Ends.{closing, RefusesNew, IsHandedOut};
 ghost use Rattle.store.specs.KeptState.{IsKeptState};
 ghost use Rattle.store.specs.Examples.{event_by, roomy, two_left_open, up_beside_another, up_in_place};
 ghost use Rattle.store.specs.Follows.{Follows, IsMade};
@@ -28,27 +29,17 @@ pub fn the_open_are_aborted_in_order()
     ensures { closing two_left_open ≡ event_by 4 (EventKind.Abort 0) ∷ event_by 4 (EventKind.Abort 2) ∷ [] }
 {}
 
-/// A history may have at least 2 events, and at most 1,000,000, or 4,294,967,295 where its store is to last.
-pub fn limits_have_a_range()
-    ensures too_low { is_limit most_events 1 ≡ false }
-    ensures least { is_limit most_events 2 ≡ true }
-    ensures most { is_limit most_events 1000000 ≡ true }
-    ensures too_high { is_limit most_events 1000001 ≡ false }
-    ensures lasting { is_limit longest_history 4294967295 ≡ true }
-    ensures no_longer { is_limit longest_history 4294967296 ≡ false }
-{}
-
 /// That there is no object comes before any other reason.
 pub fn no_objects_is_the_first_reason()
-    ensures { RefusesNew most_events [] 1 NewRefusal.NoObjects }
+    ensures { RefusesNew most_events [] (standard_with 1) NewRefusal.NoObjects }
 {}
 
 /// Where one reason holds, none that comes later is given.
 pub fn no_later_reason_is_given()
-    ensures no_objects { RefusesNew most_events [] 1 NewRefusal.BadMax → ⊥ }
-    ensures too_many { (ms : List Meaning) → 256 < length ms → RefusesNew most_events ms 1 NewRefusal.NotFresh → ⊥ }
-    ensures not_fresh { RefusesNew most_events counted.meanings 1 NewRefusal.BadMax → ⊥ }
-    ensures bad_max { RefusesNew most_events new_counters.meanings 1 NewRefusal.NoMemory → ⊥ }
+    ensures no_objects { RefusesNew most_events [] (standard_with 1) NewRefusal.BadMax → ⊥ }
+    ensures too_many { (ms : List Meaning) → 256 < length ms → RefusesNew most_events ms (standard_with 1) NewRefusal.NotFresh → ⊥ }
+    ensures not_fresh { RefusesNew most_events counted.meanings (standard_with 1) NewRefusal.BadMax → ⊥ }
+    ensures bad_max { RefusesNew most_events new_counters.meanings (standard_with 1) NewRefusal.NoMemory → ⊥ }
 {}
 
 /// An object with an open entry isn't handed out, also where it represents the history.

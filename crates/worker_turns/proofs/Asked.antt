@@ -100,7 +100,7 @@ module _ (old : Stored) (w t : ℕ) (call : Call) (a : Answer) (new : Stored) wh
   by-name (inl (reason, now)) told =
       let there = slice_get (objects old) (call.0) in
       let number = number_at_object (objects old) call in
-      let fine = not_refused (is_open (summary old.history) t) (is_some there) (is_some number) (is_history_full old.max old.history 1) (sym reason) in
+      let fine = not_refused (is_open (summary old.history) t) (is_some there) (is_some number) (is_history_full old.limits old.history 1) (sym reason) in
       answered-at there refl fine.0 number refl fine.1
       (now ∙ ap (λ (r : Option Refusal). record old { history = if is_some r then old.history else appended old.history w (call_event there (summary old.history) (call.0) t number) }) (sym reason))
       told

@@ -9,7 +9,6 @@ use Rattle.object_trait.specs.declared.event.EventKind.{EventKind}
 use Rattle.object_trait.specs.declared.event.EventKind.TheVariants as kind
 use Rattle.object_trait.specs.declared.event.EventKind.TheVariants.{Begin, Op, Busy, Commit, Abort, Rollback}
 use Rattle.serial_order.specs.History.{summary, is_open}
-use Rattle.type_table.specs.Limits.{most_open}
 use Rattle.serial_order.specs.Replay.{open_count, is_history_full, call_at, refusal}
 use Rattle.serial_order.specs.After.{CountsTo}
 use Rattle.serial_order.specs.declared.command.Command.TheVariants as command
@@ -51,43 +50,43 @@ module _ (o : Start) (H : List Event) (objects : List Object) where
 
   -- a begin, where fewer are going than there are workers
   pub begin-cause : (r : Refusal) → open_count (summary H) < open_count (summary o.store.history) + length o.jobs
-      → refusal objects o.store.max H command.Begin ≡ Some r → HasCause o H r
+      → refusal objects o.store.limits H command.Begin ≡ Some r → HasCause o H r
   begin-cause r few refused =
-      elim (cases_Bool (nat_le most_open (open_count (summary H)))) [
+      elim (cases_Bool (nat_le o.store.limits.«open» (open_count (summary H)))) [
         | inl many ↦
-            let most = leb-true most_open (open_count (summary H)) many in
+            let most = leb-true o.store.limits.«open» (open_count (summary H)) many in
             by-reason TooManyOpen r (omega (arith, most, few)) (rw many at refused)
         | inr fine ↦
-            elim (cases_Bool (is_history_full o.store.max H 2)) [
-              | inl full ↦ by-reason HistoryFull r (ltb-true o.store.max (length H + open_count (summary H) + 2) full) (rw (fine, full) at refused)
+            elim (cases_Bool (is_history_full o.store.limits H 2)) [
+              | inl full ↦ by-reason HistoryFull r (ltb-true o.store.limits.events (length H + open_count (summary H) + 2) full) (rw (fine, full) at refused)
               | inr room ↦ absurd (none-some r (rw (fine, room) at refused))
             ]
       ]
 
   -- a call
-  pub call-cause : (t x : ℕ) (name : List ℕ) (r : Refusal) → refusal objects o.store.max H (command.Call t x name) ≡ Some r → HasCause o H r
+  pub call-cause : (t x : ℕ) (name : List ℕ) (r : Refusal) → refusal objects o.store.limits H (command.Call t x name) ≡ Some r → HasCause o H r
   call-cause t x name r refused =
       elim (cases_Bool (is_open (summary H) t)) [
         | inr ended ↦ by-reason NotOpen r tt (rw ended at refused)
         | inl going ↦ no_object (rw going at refused)
       ]
     where
-      full_or : (if is_history_full o.store.max H 1 then Some HistoryFull else None) ≡ Some r → HasCause o H r
+      full_or : (if is_history_full o.store.limits H 1 then Some HistoryFull else None) ≡ Some r → HasCause o H r
       full_or given =
-          elim (cases_Bool (is_history_full o.store.max H 1)) [
+          elim (cases_Bool (is_history_full o.store.limits H 1)) [
             | inl full ↦
-                let more = ltb-true o.store.max (length H + open_count (summary H) + 1) full in
+                let more = ltb-true o.store.limits.events (length H + open_count (summary H) + 1) full in
                 by-reason HistoryFull r (omega (arith, more)) (rw full at given)
             | inr room ↦ absurd (none-some r (rw room at given))
           ]
 
-      no_call : (there : Bool) → (if not there then Some NoCall else (if is_history_full o.store.max H 1 then Some HistoryFull else None)) ≡ Some r → HasCause o H r
+      no_call : (there : Bool) → (if not there then Some NoCall else (if is_history_full o.store.limits H 1 then Some HistoryFull else None)) ≡ Some r → HasCause o H r
       no_call true given = full_or given
       no_call false given = by-reason NoCall r tt given
 
       no_object : (if not (is_some (slice_get objects x)) then Some NoObject
           else (if not (is_some (call_at (slice_get objects x) name)) then Some NoCall
-          else (if is_history_full o.store.max H 1 then Some HistoryFull else None))) ≡ Some r → HasCause o H r
+          else (if is_history_full o.store.limits H 1 then Some HistoryFull else None))) ≡ Some r → HasCause o H r
       no_object given =
           elim (cases_Bool (is_some (slice_get objects x))) [
             | inr missing ↦ by-reason NoObject r tt (rw missing at given)

@@ -131,8 +131,8 @@ module _ (now : SummaryAfter) (in_run : TransactionsInRun) (opens : OpensAfter) 
       let q = turn.q in
       let told = told-after tells o s kept w p turn.there turn.going new.store q turn.turn in
       let types : objects s.store ≡ objects o.store = ap objects kept.store in
-      let max : s.store.max ≡ o.store.max = ap (λ (z : Stored). z.max) kept.store in
-      elim (turned o s.store w p (kept.workers w p turn.there) new.store q max (few-going o s kept w turn.let_in p turn.there q) turn.turn) [
+      let limits : s.store.limits ≡ o.store.limits = ap (λ (z : Stored). z.limits) kept.store in
+      elim (turned o s.store w p (kept.workers w p turn.there) new.store q limits (few-going o s kept w turn.let_in p turn.there q) turn.turn) [
         | inl quiet ↦
             let same : objects new.store ≡ objects o.store = ap objects quiet.0 ∙ types in
             subst (IsKeptSince o) (sym (turn.is ∙ ap (turned-at o s kept w turn.let_in p turn.there q) quiet.0))

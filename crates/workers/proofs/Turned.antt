@@ -191,7 +191,7 @@ module _ (o : Start) (old : Stored) (w : ℕ) (p : Progress) (its : IsWorker o o
 
 -- ---- turns by phase
 
-module _ (o : Start) (old : Stored) (w : ℕ) (p : Progress) (its : IsWorker o old.history w p) (new : Stored) (q : Progress) (max : old.max ≡ o.store.max) where
+module _ (o : Start) (old : Stored) (w : ℕ) (p : Progress) (its : IsWorker o old.history w p) (new : Stored) (q : Progress) (limits : old.limits ≡ o.store.limits) where
   -- an event with which the worker is as it is noted
   made : (happened : EventKind) (r : Progress) → new ≡ noted old w happened → q ≡ r → IsNoted o old.history w happened p r → IsTurned o old w p new q
   made happened r is same told = inr (happened, is, subst (IsNoted o old.history w happened p) (sym same) told)
@@ -212,7 +212,7 @@ module _ (o : Start) (old : Stored) (w : ℕ) (p : Progress) (its : IsWorker o o
       let t = begins old.history in
       made (Begin t) _ is same (goes-noted o old w p its (Begin t) (Going t 0) (ap open_in_phase idle, refl) (λ u done r e. going_refusing t 0 u done r e))
   begins-turned idle few (inr (inl (r, (is, reason), same))) =
-      let cause : HasCause o old.history r = cause-of command.Begin r (λ why refused. begin-cause o old.history (objects old) why few (rw max at refused)) reason in
+      let cause : HasCause o old.history r = cause-of command.Begin r (λ why refused. begin-cause o old.history (objects old) why few (rw limits at refused)) reason in
       kept _ is same (ends-quiet o old w p its r idle cause)
   begins-turned idle few (inr (inr (is, same))) = kept _ is same (ends-quiet o old w p its NoMemory idle tt)
 
@@ -230,7 +230,7 @@ module _ (o : Start) (old : Stored) (w : ℕ) (p : Progress) (its : IsWorker o o
       leads (inr nothing) = subst (λ k. Leads k (open_in_phase p.phase) (Some t)) (sym nothing) (going, refl)
   calls-turned t done call going (inr (inr (inl (r, (is, reason), same)))) =
       let cause : HasCause o old.history r =
-      cause-of (command.Call t (call.0) (call.1)) r (λ why refused. call-cause o old.history (objects old) t (call.0) (call.1) why (rw max at refused)) reason
+      cause-of (command.Call t (call.0) (call.1)) r (λ why refused. call-cause o old.history (objects old) t (call.0) (call.1) why (rw limits at refused)) reason
       in
       kept _ is same (goes-quiet o old w p its t done r going cause)
   calls-turned t done call going (inr (inr (inr (is, same)))) =

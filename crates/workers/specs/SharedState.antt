@@ -4,7 +4,7 @@ use Rattle.object_trait.specs.declared.event.Event.{Event}
 use Rattle.serial_order.specs.Operations.{of}
 use Rattle.serial_order.specs.History.{begins, summary, is_open, surviving}
 use Rattle.serial_order.specs.Machine.{IsRun}
-use Rattle.type_table.specs.Limits.{most_open, most_workers}
+use Rattle.type_table.specs.Limits.{most_workers}
 use Rattle.serial_order.specs.Replay.{open_count}
 use Rattle.serial_order.specs.After.{beginners}
 use Rattle.serial_order.specs.declared.refusal.Refusal.{Refusal}
@@ -50,8 +50,8 @@ pub record IsOwn (o : Start) (H : List Event) (w t : ℕ) : Type 0 where
 -- what a history owes a refusal, and goes on owing it: where it was full, it has no room for one more transaction; where too many were
 -- open, those that were open at the start would be too many with one for each worker
 abbrev pub HasCause : Start → List Event → Refusal → Type 0
-HasCause o H HistoryFull = o.store.max < length H + open_count (summary H) + 2
-HasCause o H TooManyOpen = most_open < open_count (summary o.store.history) + length o.jobs
+HasCause o H HistoryFull = o.store.limits.events < length H + open_count (summary H) + 2
+HasCause o H TooManyOpen = o.store.limits.«open» < open_count (summary o.store.history) + length o.jobs
 HasCause o H _ = Unit {0}
 
 pub record IsWorker (o : Start) (H : List Event) (w : ℕ) (p : Progress) : Type 0 where

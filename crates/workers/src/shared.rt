@@ -3,6 +3,7 @@
 ghost use Rattle.std.specs.Prelude.{◌≡◌, ◌≤◌, [], length, true, false, map, vec_len, vec_capacity};
 ghost use Rattle.serial_order.specs.Machine.{IsRun};
 ghost use Rattle.store_laws.specs.Stored.{objects};
+ghost use Rattle.store_limits.specs.Standard.{standard};
 ghost use Rattle.workers.specs.SharedCalls.{IsAtStart, LetsIn, TakesTurnIfAny, IsGoing, HaveEnded, AreGoing, LeavesOthers, broken_at};
 ghost use Rattle.workers.specs.SharedState.{Start, SharedState, HasEnded};
 ghost use Rattle.workers.specs.Worked.{HasWorked};
@@ -20,7 +21,7 @@ pub trait HasStart {
 }
 
 impl HasStart for Brand {
-    ghost start = { record { store = record { types = []; history = []; max = 0; forgotten = 0 }; jobs = []; tries = 0 } };
+    ghost start = { record { store = record { types = []; history = []; limits = standard; forgotten = 0 }; jobs = []; tries = 0 } };
 }
 
 /// The store and its workers. Whenever the lock is free, each worker's receipts are its events since

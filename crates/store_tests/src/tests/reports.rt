@@ -58,6 +58,7 @@ pub fn do_jobs<R: AllocGlobal + Threads + Wait + Sync>(
 pub fn jobs_of(rt: &(impl Abort + AllocGlobal), text: &str, lists: u8) -> Vec<Vec<Job>> {
     let file = read_jobs(rt.alloc(), text.as_bytes(), lists);
     let JobsFile {
+        size: _,
         max: _,
         objects: _,
         jobs,

@@ -5,6 +5,7 @@ mod boxed;
 mod calls;
 mod closed;
 mod followed;
+mod limits;
 mod made;
 mod run_scripts;
 pub mod scripts;

@@ -1,3 +1,4 @@
+use Rattle.store_limits.specs.Standard.{standard_with}
 use Rattle.std.proofs.Common.{[], ◌∷◌, refl}
 use Rattle.std.proofs.lemmas.Bool.{false≢true}
 use Rattle.type_table.specs.Table.{next}
@@ -19,4 +20,4 @@ unfolding next
 returns-clause-not_enough c = λ covered.
     let within = c.steps_within.ensures in
     let exact = c.store_undo_is_exact.ensures (undo_counter ∷ loose_account ∷ []) 1 loose_account refl (small-named within) (small-once within) refl (loose-reached within) in
-    false≢true (exact.0 covered 30 (breaking 1 2 1 [] 0 1 []) (balance_and_deposit, refl))
+    false≢true (exact.0 covered (standard_with 30) (breaking 1 2 1 [] 0 1 []) (balance_and_deposit, refl))

@@ -1,3 +1,5 @@
+use Rattle.object_calls.specs.Calls.{HoldsCalls}
+use Rattle.object_calls.proofs.Holding.{held_as}
 use Rattle.std.proofs.Common.{◌≡◌, ◌<◌, List, length, get_or, take, ap, ◌∙◌, arith}
 use Rattle.std.proofs.lemmas.List.{take_all, length-map}
 use Rattle.type_table.specs.declared.op.Op.{Op}
@@ -18,4 +20,4 @@ pub returns : goal.returns
 returns c =
     let T = c.args.table.now in
     let all : take c.loop-k.k (names_of T.ops) ≡ names_of T.ops = take_all c.loop-k.k (names_of T.ops) (omega (arith, c.op_count-count.ensures.exact, length-map T.ops (λ (o : Op). o.call))) in
-    record { all = λ few. is_call_table T c.op_count-count.ensures.table.ops_fit c.loop-k.calls.items (rw all at (rw c.ops-ops.ensures at c.loop-k.invariant)); some = λ many. absurd (omega (arith, many, c.op_count-count.ensures.table.ops_fit)) }
+    held_as (HoldsCalls c.args.table.now) c.holding.result c.holding.ensures (record { all = λ few. is_call_table T c.op_count-count.ensures.table.ops_fit c.loop-k.calls.items (rw all at (rw c.ops-ops.ensures at c.loop-k.invariant)); some = λ many. absurd (omega (arith, many, c.op_count-count.ensures.table.ops_fit)) })

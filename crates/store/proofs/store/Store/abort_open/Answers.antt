@@ -13,7 +13,7 @@ returns-then-is_open-clause-aborts g c =
     let ms = map g.R.Recovery.meaning inside.objects.items in
     let k : Keeping = keeping ms inside.transactions.rows in
     aborts-once ms inside.transactions.rows c.args.self.now c.abort.new.self c.worker-w.result c.args.t
-    (kept-shown k (inside.past.items ++ inside.history.items) inside.max_events inside.forgotten c.args.self.now c.self.view_is c.self.invariant.1.store.kept)
+    (kept-shown k (inside.past.items ++ inside.history.items) inside.limits inside.forgotten c.args.self.now c.self.view_is c.self.invariant.1.store.kept)
     (sym c.is_open.ensures ∙ c.if-is_open.true) opened c.worker-w.ensures c.abort.ensures.1
 
 pub returns-else-is_open-clause-aborts : goal.returns-else-is_open-clause-aborts
@@ -24,5 +24,5 @@ returns-else-is_open-clause-aborts g c =
     let k : Keeping = keeping ms inside.transactions.rows in
     let closed : is_open (summary c.args.self.now.history) c.args.t ≡ false =
     open-alike c.rows_say_who_is_open.ensures ms inside.transactions.rows c.args.self.now.history c.args.t
-    (kept-shown k (inside.past.items ++ inside.history.items) inside.max_events inside.forgotten c.args.self.now c.self.view_is c.self.invariant.1.store.kept) ∙ sym c.is_open.ensures ∙ c.if-is_open.false in
+    (kept-shown k (inside.past.items ++ inside.history.items) inside.limits inside.forgotten c.args.self.now c.self.view_is c.self.invariant.1.store.kept) ∙ sym c.is_open.ensures ∙ c.if-is_open.false in
     absurd (both_ways (is_open (summary c.args.self.now.history) c.args.t) closed opened)

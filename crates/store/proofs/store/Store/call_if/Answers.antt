@@ -13,7 +13,7 @@ returns-clause-step g c =
     let Comes : ℕ → Type 0 = λ n. ComesIf s c.args.w c.args.t c.args.x n c.args.answer c.answer_if.result c.answer_if.new.self in
     λ name is.
     calls-if s c.answer_if.new.self c.args.w c.args.t c.args.x c.args.c name its.1.0 its.1.1 c.in_ok-call.ensures.still_open is c.args.answer c.answer_if.result
-    (subst Comes its.0 c.answer_if.ensures)
+    (subst Comes its.0 (rw c.of.ensures at c.answer_if.ensures))
 
 pub returns-clause-unnumbered : goal.returns-clause-unnumbered
 returns-clause-unnumbered g c =
@@ -31,4 +31,4 @@ returns-clause-named g c =
 
 pub returns-clause-err : goal.returns-clause-err
 returns-clause-err g c =
-    if-err c.args.self.now c.answer_if.new.self c.args.w c.args.t c.args.x c.in_ok-call.call.first c.args.answer c.answer_if.result c.answer_if.ensures
+    if-err c.args.self.now c.answer_if.new.self c.args.w c.args.t c.args.x c.in_ok-call.call.first c.args.answer c.answer_if.result (rw c.of.ensures at c.answer_if.ensures)

@@ -1,4 +1,4 @@
-use Rattle.std.proofs.Common.{◌≡◌, ◌++◌, map, Some, slice_get, ap, sym}
+use Rattle.std.proofs.Common.{◌++◌, map, sym}
 use Rattle.std.proofs.lemmas.Bool.{ltb-true}
 use Rattle.object_calls.specs.Answers.{busy_answer}
 use Rattle.store.proofs.Beginnings.{image-in}
@@ -12,5 +12,5 @@ returns-clause-found g c =
     let lookup = c.in_ok-object.ensures.lookup in
     let m = meaning c.in_ok-object.object.now in
     let there = image-in meaning inside.objects.items c.deref.result.now c.args.x c.in_ok-object.object.now c.deref.ensures.value (ltb-true _ _ (sym lookup.0)) lookup.1 in
-    found-shown c.answers_as_defined.ensures (map meaning inside.objects.items) inside.transactions.rows (inside.past.items ++ inside.history.items) inside.max_events inside.forgotten c.args.self.now
+    found-shown c.answers_as_defined.ensures (map meaning inside.objects.items) inside.transactions.rows (inside.past.items ++ inside.history.items) inside.limits inside.forgotten c.args.self.now
     c.args.t c.args.x c.args.place m (busy_answer c.args.holder) c.call_unreplied.result c.self.view_is c.self.invariant.1.store.kept there c.call_unreplied.ensures.found

@@ -19,7 +19,7 @@ returns g c =
     record {
       history = sym (past-drop left.past.items left.history.items left.forgotten c.self.invariant.0)
           ∙ ap (λ n. drop n K) (ap (λ (z : Stored). z.forgotten) is) ∙ ap (λ J. drop s.forgotten J) whole;
-      run = run-shown (keeping ms left.transactions.rows) K left.max_events left.forgotten _ is c.self.invariant.1.store.kept;
+      run = run-shown (keeping ms left.transactions.rows) K left.limits left.forgotten _ is c.self.invariant.1.store.kept;
       types = ap (λ (z : Stored). z.types) is;
       objects = subst (λ J. (x : ℕ) (m : Meaning) → slice_get ms x ≡ Some m → IsHandedOut m x J) whole
           (handed-out c.idle_is_closed.ensures ms left.transactions.rows K c.self.invariant.1.store.kept

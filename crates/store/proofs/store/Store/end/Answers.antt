@@ -1,4 +1,4 @@
-use Rattle.std.proofs.Common.{◌≡◌, ℕ, ◌+◌, List, [], ◌∷◌, ◌++◌, false, length, map, vec_capacity, sym, ap, ◌∙◌, arith, rules}
+use Rattle.std.proofs.Common.{◌≡◌, ℕ, ◌+◌, ◌≤◌, subst, List, [], ◌∷◌, ◌++◌, false, length, map, vec_capacity, sym, ap, ◌∙◌, arith}
 use Rattle.std.proofs.lemmas.List.{length-map}
 use Rattle.object_trait.specs.declared.event.Event.{Event}
 use Rattle.object_trait.specs.declared.event.EventKind.{EventKind}
@@ -9,7 +9,7 @@ use Rattle.store_laws.specs.Events.{end_event}
 use Rattle.store_laws.specs.Kept.{Keeping, keeping, objects_of}
 use Rattle.store.specs.Ends.{end_command}
 use Rattle.store.proofs.Stored.{refused-shown}
-use Rattle.store.proofs.Opens.{open-alike, places-inside}
+use Rattle.store.proofs.Opens.{open-alike, places-inside, places-few}
 use Rattle.store.proofs.Pasts.{past-more, past-length}
 use Rattle.store.proofs.Endings.{end-refusal, end-room, end-whole, end-shown}
 use Rattle.store.proofs.store.Store.end.Goals as goal
@@ -27,21 +27,34 @@ returns-then-not-is_open g c =
     let k : Keeping = keeping ms inside.transactions.rows in
     let closed : is_open (summary H) c.args.t ≡ false =
     open-alike c.rows_say_who_is_open.ensures ms inside.transactions.rows H c.args.t c.self.invariant.1.store.kept ∙ sym c.is_open.ensures ∙ c.if-not-is_open.true in
-    refused-shown (Unit {0}) k H c.args.w inside.max_events inside.forgotten (end_command c.args.how c.args.t) NotOpen c.args.self.now c.self.view_is
-    (end-refusal c.args.how (objects_of ms) inside.max_events H c.args.t false closed)
+    refused-shown (Unit {0}) k H c.args.w inside.limits inside.forgotten (end_command c.args.how c.args.t) NotOpen c.args.self.now c.self.view_is
+    (end-refusal c.args.how (objects_of ms) inside.limits H c.args.t false closed)
 
-pub end_at-requires : goal.end_at-requires
-end_at-requires g c =
-    let inside = c.self.inside in (
-      search rules,
-      places-inside (map g.R.Recovery.meaning inside.objects.items) inside.transactions.rows (inside.past.items ++ inside.history.items) c.args.t c.places.result.now c.self.invariant.1.store.kept
-          (sym c.is_open.ensures ∙ c.if-not-is_open.false) c.places.ensures c.places_are_inside.ensures (length inside.objects.items) (length-map inside.objects.items g.R.Recovery.meaning),
-    )
+pub end_at-requires-clause-inside : goal.end_at-requires-clause-inside
+end_at-requires-clause-inside g c =
+    λ κs outlives.
+    let inside = c.self.inside in
+    places-inside (map g.R.Recovery.meaning inside.objects.items) inside.transactions.rows (inside.past.items ++ inside.history.items) c.args.t c.places-places.result.now c.self.invariant.1.store.kept
+    (sym c.is_open.ensures ∙ c.if-not-is_open.false) c.places-places.ensures c.places_are_inside.ensures (length inside.objects.items) (length-map inside.objects.items g.R.Recovery.meaning)
+
+pub end_at-requires-clause-few : goal.end_at-requires-clause-few
+end_at-requires-clause-few g c =
+    λ κs outlives.
+    let inside = c.self.inside in
+    let few = places-few (map g.R.Recovery.meaning inside.objects.items) inside.transactions.rows (inside.past.items ++ inside.history.items) c.args.t c.places-places.result.now
+    c.self.invariant.1.store.kept (sym c.is_open.ensures ∙ c.if-not-is_open.false) c.places-places.ensures c.places_are_few.ensures in
+    let limited = c.self.invariant.1.store.limited in
+    omega (arith, few, limited)
+
+pub end_at-requires-clause-room : goal.end_at-requires-clause-room
+end_at-requires-clause-room g c =
+    λ κs outlives.
+    subst (λ n. n ≤ c.self.inside.counts) (length-map c.self.inside.objects.items g.R.Recovery.meaning) c.self.invariant.1.within.placed
 
 pub push_reserved-requires : goal.push_reserved-requires
 push_reserved-requires g c =
     let inside = c.self.inside in
-    let room = end-room c.rows_are_counted.ensures (map g.R.Recovery.meaning inside.objects.items) inside.transactions.rows (inside.past.items ++ inside.history.items) (inside.forgotten + vec_capacity inside.history) inside.max_events (count_open c.end.new.self.rows)
+    let room = end-room c.rows_are_counted.ensures (map g.R.Recovery.meaning inside.objects.items) inside.transactions.rows (inside.past.items ++ inside.history.items) (inside.forgotten + vec_capacity inside.history) inside.limits (count_open c.end.new.self.rows)
     c.self.invariant.1.store c.end.ensures.count in
     let long = past-length inside.past.items inside.history.items inside.forgotten c.self.invariant.0 in
     omega (arith, long, room.0, inside.history.ok.0)
@@ -53,13 +66,14 @@ invariant_of-self g c =
     let ms = map g.R.Recovery.meaning inside.objects.items in
     let event : Event = record { worker = c.args.w; kind = end_event c.args.how c.args.t } in (
       c.self.invariant.0,
-      end-whole c.args.how c.end_moves.ensures c.rows_say_who_is_open.ensures ms (map g.R.Recovery.meaning c.end_at.new.objects.items)
-          inside.transactions.rows c.end.new.self.rows H (inside.past.items ++ c.push_reserved.new.self.items) c.args.w c.args.t c.places.result.now c.self.invariant.1.store.kept
-          (sym c.is_open.ensures ∙ c.if-not-is_open.false) c.places.ensures c.end_at.ensures c.end.ensures.rows
+      rw c.end_at.ensures.room
+          (end-whole c.args.how c.end_moves.ensures c.rows_say_who_is_open.ensures ms (map g.R.Recovery.meaning c.end_at.new.objects.items)
+          inside.transactions.rows c.end.new.self.rows H (inside.past.items ++ c.push_reserved.new.self.items) c.args.w c.args.t c.places-places.result.now c.self.invariant.1.store.kept
+          (sym c.is_open.ensures ∙ c.if-not-is_open.false) c.places-places.ensures c.end_at.ensures.changes c.end.ensures.rows
           (past-more inside.past.items inside.history.items c.push_reserved.new.self.items event (event-last inside.history.items c.push_reserved.new.self.items c.args.w _ _ c.push_reserved.ensures.items c.kind_of_end-kind.ensures))
           c.stays_kept.ensures c.room_after.ensures c.types_stay.ensures c.rows_are_counted.ensures
-          inside.calls.items (inside.forgotten + vec_capacity inside.history) (inside.forgotten + vec_capacity c.push_reserved.new.self) inside.max_events c.self.invariant.1
-          (omega (arith, c.push_reserved.ensures.capacity)) (omega arith) c.end.ensures.count,
+          inside.calls.items (inside.forgotten + vec_capacity inside.history) (inside.forgotten + vec_capacity c.push_reserved.new.self) inside.limits c.self.invariant.1
+          (omega (arith, c.push_reserved.ensures.capacity)) (omega arith) c.end.ensures.count),
     )
 
 pub returns : goal.returns
@@ -69,7 +83,7 @@ returns g c =
     let ms = map g.R.Recovery.meaning inside.objects.items in
     let event : Event = record { worker = c.args.w; kind = end_event c.args.how c.args.t } in
     end-shown c.args.how c.end_moves.ensures c.rows_say_who_is_open.ensures ms (map g.R.Recovery.meaning c.end_at.new.objects.items)
-    inside.transactions.rows c.end.new.self.rows H (inside.past.items ++ c.push_reserved.new.self.items) c.args.w c.args.t c.places.result.now c.self.invariant.1.store.kept
-    (sym c.is_open.ensures ∙ c.if-not-is_open.false) c.places.ensures c.end_at.ensures c.end.ensures.rows
+    inside.transactions.rows c.end.new.self.rows H (inside.past.items ++ c.push_reserved.new.self.items) c.args.w c.args.t c.places-places.result.now c.self.invariant.1.store.kept
+    (sym c.is_open.ensures ∙ c.if-not-is_open.false) c.places-places.ensures c.end_at.ensures.changes c.end.ensures.rows
     (past-more inside.past.items inside.history.items c.push_reserved.new.self.items event (event-last inside.history.items c.push_reserved.new.self.items c.args.w _ _ c.push_reserved.ensures.items c.kind_of_end-kind.ensures))
-    c.types_stay.ensures (Unit {0}) tt inside.max_events inside.forgotten c.args.self.now c.self.view_is
+    c.types_stay.ensures (Unit {0}) tt inside.limits inside.forgotten c.args.self.now c.self.view_is

@@ -12,7 +12,7 @@ invariant_of-self g c =
       gone-many s.past.items s.history.items c.deref.result.now c.add.new.self.items c.remove_front.new.history.items n c.add.ensures c.deref.ensures.value c.remove_front.ensures.items s.forgotten
           c.self.invariant.0 inside,
       same-whole (map g.R.Recovery.meaning s.objects.items) s.calls.items s.transactions.rows (s.past.items ++ s.history.items)
-          (c.add.new.self.items ++ c.remove_front.new.history.items) _ _ s.max_events c.self.invariant.1
+          (c.add.new.self.items ++ c.remove_front.new.history.items) _ _ s.limits s.counts c.self.invariant.1
           (gone-same s.past.items s.history.items c.deref.result.now c.add.new.self.items c.remove_front.new.history.items n c.add.ensures c.deref.ensures.value c.remove_front.ensures.items) wider,
     )
 
@@ -23,6 +23,6 @@ returns g c =
     let all = past-length s.past.items s.history.items s.forgotten c.self.invariant.0 in
     let more : s.forgotten + n ≡ min (s.forgotten + c.args.n) (length (s.past.items ++ s.history.items)) =
     omega (arith, c.min-count.ensures, c.len.ensures, s.history.ok.0, all) in
-    gone-shown (types_of (map g.R.Recovery.meaning s.objects.items)) (s.past.items ++ s.history.items) (c.add.new.self.items ++ c.remove_front.new.history.items) s.max_events s.forgotten
+    gone-shown (types_of (map g.R.Recovery.meaning s.objects.items)) (s.past.items ++ s.history.items) (c.add.new.self.items ++ c.remove_front.new.history.items) s.limits s.forgotten
     (s.forgotten + n) c.args.n c.args.self.now c.self.view_is
     (gone-same s.past.items s.history.items c.deref.result.now c.add.new.self.items c.remove_front.new.history.items n c.add.ensures c.deref.ensures.value c.remove_front.ensures.items) more

@@ -11,6 +11,6 @@ returns-clause-kept g c =
     let object = c.in_ok-object.object.now in
     let lookup = c.in_ok-object.ensures.lookup in
     let low : c.args.x < length c.deref.result.now = grind (arith, nat_tests, lookup.0) in
-    kept-shown c.checked_headline.ensures (map meaning inside.objects.items) inside.transactions.rows (inside.past.items ++ inside.history.items) inside.max_events inside.forgotten
+    kept-shown c.checked_headline.ensures (map meaning inside.objects.items) inside.transactions.rows (inside.past.items ++ inside.history.items) inside.limits inside.forgotten
     c.self.invariant.1.store.kept c.args.self.now c.self.view_is c.runs_along.ensures c.args.x c.state.result (meaning object)
     (image-in meaning inside.objects.items c.deref.result.now c.args.x object c.deref.ensures.value low lookup.1) c.state.ensures.exact (omega (arith, c.state.type_inv))

@@ -10,7 +10,7 @@ by_number-requires g c =
     let inside = c.self.inside in
     let s = c.args.self.now in
     let meaning = g.R.Recovery.meaning in
-    let known = calls-shown (map meaning inside.objects.items) inside.transactions.rows (inside.past.items ++ inside.history.items) inside.max_events inside.forgotten s c.self.view_is
+    let known = calls-shown (map meaning inside.objects.items) inside.transactions.rows (inside.past.items ++ inside.history.items) inside.limits inside.forgotten s c.self.view_is
     inside.calls.items c.self.invariant.1.known in
     subst (λ f. HoldsCalls f.table c.index.result.now) (sym c.declared.ensures.exact)
     (its-calls s.types inside.calls.items known c.args.x (object_of (meaning c.in_ok-object.object.now).checked) c.in_ok-object.ensures.there inside.calls.items c.index.result.now refl c.index.ensures)

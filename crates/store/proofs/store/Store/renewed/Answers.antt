@@ -12,5 +12,5 @@ returns-in-Ok g c =
     let inside = c.self.inside in
     let meaning = g.R.Recovery.meaning in
     renews c.checked_headline.ensures c.runs_along.ensures c.closed_is_epoch.ensures (map meaning inside.objects.items) (map meaning c.in_ok-objects.objects.items) inside.transactions.rows
-    (inside.past.items ++ inside.history.items) inside.max_events inside.forgotten c.args.self.now c.in-Ok.store c.self.view_is c.self.invariant.1.store.kept c.requires
+    (inside.past.items ++ inside.history.items) inside.limits inside.forgotten c.args.self.now c.in-Ok.store c.self.view_is c.self.invariant.1.store.kept c.requires
     c.in_ok-objects.ensures c.in-Ok.ensures.made.1

@@ -7,17 +7,17 @@ use Rattle.store.proofs.store.Store.would_give.Goals as goal
 pub returns-then-not-has_room : goal.returns-then-not-has_room
 returns-then-not-has_room g c =
     let inside = c.self.inside in
-    let room : is_history_full inside.max_events (inside.past.items ++ inside.history.items) 1 ≡ true =
+    let room : is_history_full inside.limits (inside.past.items ++ inside.history.items) 1 ≡ true =
     room-tested c.rows_are_counted.ensures (map g.R.Recovery.meaning inside.objects.items) inside.transactions.rows inside.past.items inside.history.items c.deref.result.now
-    inside.forgotten c.open_count-opened.result inside.max_events c.has_room.result false
+    inside.forgotten c.open_count-opened.result inside.limits c.has_room.result false
     c.self.invariant.1.store.kept c.open_count-opened.ensures.exact c.self.invariant.0 c.deref.ensures.value c.has_room.ensures c.if-not-has_room.true in
-    (subst (λ (z : Stored). is_history_full z.max z.history 1 ≡ true) c.self.view_is room, refl)
+    (subst (λ (z : Stored). is_history_full z.limits z.history 1 ≡ true) c.self.view_is room, refl)
 
 pub returns : goal.returns
 returns g c =
     let inside = c.self.inside in
-    let room : is_history_full inside.max_events (inside.past.items ++ inside.history.items) 1 ≡ false =
+    let room : is_history_full inside.limits (inside.past.items ++ inside.history.items) 1 ≡ false =
     room-tested c.rows_are_counted.ensures (map g.R.Recovery.meaning inside.objects.items) inside.transactions.rows inside.past.items inside.history.items c.deref.result.now
-    inside.forgotten c.open_count-opened.result inside.max_events c.has_room.result true
+    inside.forgotten c.open_count-opened.result inside.limits c.has_room.result true
     c.self.invariant.1.store.kept c.open_count-opened.ensures.exact c.self.invariant.0 c.deref.ensures.value c.has_room.ensures c.if-not-has_room.false in
-    (subst (λ (z : Stored). is_history_full z.max z.history 1 ≡ false) c.self.view_is room, c.chosen.ensures)
+    (subst (λ (z : Stored). is_history_full z.limits z.history 1 ≡ false) c.self.view_is room, c.chosen.ensures)

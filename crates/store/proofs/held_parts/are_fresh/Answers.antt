@@ -4,7 +4,7 @@ use Rattle.std.proofs.lemmas.List.{length-map}
 use Rattle.type_table.proofs.Elements.{first-more}
 use Rattle.object_trait.specs.Steps.{IsFresh}
 use Rattle.store.proofs.Beginnings.{image-in, first-all, first-fails}
-use Rattle.store.proofs.call_tables.are_fresh.Goals as goal
+use Rattle.store.proofs.held_parts.are_fresh.Goals as goal
 
 pub returns-then-not-is_fresh : goal.returns-then-not-is_fresh
 returns-then-not-is_fresh g c =
