@@ -84,7 +84,7 @@ ahead g d new sound renews =
     record {
       journal = sound.journal;
       settled = sound.settled;
-      limit = ap (λ (s : Stored). s.max) renews.is ∙ sound.limit;
+      limit = ap (λ (s : Stored). s.limits) renews.is ∙ sound.limit;
       none = ap (λ (s : Stored). s.history) renews.is;
       own = subst IsOwnHistory (sym renews.is) tt;
       as_many = λ clean. ap length types ∙ length-types_at d.store.types renews.kept renews.as_many ∙ (sound.types clean).as_many ∙ sym (sound.types clean).as_many_states;

@@ -1,4 +1,5 @@
 -- A store follows the events of a file, and forgets some of them meanwhile.
+use Rattle.store_limits.specs.declared.limits.Limits.{Limits}
 use Rattle.std.proofs.Common.{◌≡◌, ◌∙◌, ℕ, zero, suc, ◌+◌, ◌<◌, List, [], ◌∷◌, ◌++◌, map, take, length, Some, refl, sym, ap, ap₂, subst, arith}
 use Rattle.std.specs.Prelude.{slice_get}
 use Rattle.std.proofs.lemmas.Option.{same_Some}
@@ -13,12 +14,12 @@ use Rattle.store.specs.Replays.{AreMade, with_events}
 use Rattle.durable_store.specs.Durable.{event_of_kind, events_of_kinds}
 
 -- an event is made by a store with the same types, the same history and the same limit, however much either remembers
-pub made-alike : (s z : Stored) (e : Event) → s.types ≡ z.types → s.history ≡ z.history → s.max ≡ z.max → IsMade s e → IsMade z e
+pub made-alike : (s z : Stored) (e : Event) → s.types ≡ z.types → s.history ≡ z.history → s.limits ≡ z.limits → IsMade s e → IsMade z e
 made-alike s z e types history max made =
-    let At : List Checked → List Event → ℕ → ℕ → Stored = λ ts H m f. record { types = ts; history = H; max = m; forgotten = f } in
-    let one : MakesEvent (At s.types s.history s.max z.forgotten) made.command e.kind = (made.accepted, made.makes) in
-    let two = subst (λ ts. MakesEvent (At ts s.history s.max z.forgotten) made.command e.kind) types one in
-    let three = subst (λ H. MakesEvent (At z.types H s.max z.forgotten) made.command e.kind) history two in
+    let At : List Checked → List Event → Limits → ℕ → Stored = λ ts H m f. record { types = ts; history = H; limits = m; forgotten = f } in
+    let one : MakesEvent (At s.types s.history s.limits z.forgotten) made.command e.kind = (made.accepted, made.makes) in
+    let two = subst (λ ts. MakesEvent (At ts s.history s.limits z.forgotten) made.command e.kind) types one in
+    let three = subst (λ H. MakesEvent (At z.types H s.limits z.forgotten) made.command e.kind) history two in
     let four = subst (λ m. MakesEvent (At z.types z.history m z.forgotten) made.command e.kind) max three in
     record { command = made.command; accepted = four.0; makes = four.1 }
 

@@ -2,7 +2,7 @@
 use Rattle.std.specs.Prelude.{◌≡◌, ℕ, ◌≤◌, List, ◌++◌, map, take, drop, length}
 use Rattle.sqlite_trees.specs.declared.store.Store.{Ghosts}
 use Rattle.sqlite_trees.specs.Tree.{Trees}
-use Rattle.type_table.specs.Limits.{most_events}
+use Rattle.durable_store.specs.FileLimits.{file_limits}
 use Rattle.object_trait.specs.declared.event.Event.{Event}
 use Rattle.object_trait.specs.declared.event.EventKind.{EventKind}
 use Rattle.store.specs.OwnHistory.{IsOwnHistory}
@@ -34,7 +34,7 @@ pub record IsDurable {S : Type 0} (g : Ghosts S) (d : Durable S) : Type 0 where
   pub history : Clean g d.journal → d.store.history ≡ events_of_kinds (written g d.journal).events
   pub types : Clean g d.journal → HasTypes (written g d.journal) d.store.types
   pub settled : Clean g d.journal → IsSettled g d.journal
-  pub limit : d.store.max ≡ most_events
+  pub limit : d.store.limits ≡ file_limits
   pub own : IsOwnHistory d.store
 
 -- but for the events after the first ones, as many as these, which the journal hasn't yet
@@ -42,7 +42,7 @@ pub record IsBehind {S : Type 0} (g : Ghosts S) (d : Durable S) (count : ℕ) : 
   pub journal : IsJournal g d.journal
   pub types : Clean g d.journal → HasTypes (written g d.journal) d.store.types
   pub settled : Clean g d.journal → IsSettled g d.journal
-  pub limit : d.store.max ≡ most_events
+  pub limit : d.store.limits ≡ file_limits
   pub own : IsOwnHistory d.store
   pub remembered : d.store.forgotten ≤ count
   pub inside : count ≤ length d.store.history

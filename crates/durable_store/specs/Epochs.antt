@@ -10,7 +10,7 @@ use Rattle.store_laws.specs.Stored.{Stored}
 use Rattle.store.specs.OwnHistory.{IsOwnHistory}
 use Rattle.store.specs.Renews.{Renews}
 use Rattle.durable_store.specs.declared.durable.Durable.{Durable}
-use Rattle.type_table.specs.Limits.{most_events}
+use Rattle.durable_store.specs.FileLimits.{file_limits}
 use Rattle.durable_store.specs.Types.{HasTypes}
 use Rattle.durable_store.specs.Recovered.{next_life}
 
@@ -26,7 +26,7 @@ renewed c types = in_life (from_states c (firsts types)) (next_life c.headers)
 pub record IsAhead {S : Type 0} (g : Ghosts S) (d : Durable S) : Type 0 where
   pub journal : IsJournal g d.journal
   pub settled : Clean g d.journal → IsSettled g d.journal
-  pub limit : d.store.max ≡ most_events
+  pub limit : d.store.limits ≡ file_limits
   pub none : d.store.history ≡ []
   pub own : IsOwnHistory d.store
   pub as_many : Clean g d.journal → length d.store.types ≡ length (written g d.journal).states

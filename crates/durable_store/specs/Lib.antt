@@ -1,4 +1,5 @@
 pub mod Types
+pub mod FileLimits
 pub mod Durable
 pub mod Begun
 pub mod Recovered

@@ -13,19 +13,19 @@ use Rattle.journal.specs.Journal.{Clean, IsOpen, ShowsCommit, durable, written}
 use Rattle.durable_store.specs.declared.durable.Durable.{Durable}
 use Rattle.durable_store.specs.Types.{HasTypes}
 use Rattle.durable_store.specs.Durable.{events_of_kinds, with_all}
-use Rattle.type_table.specs.Limits.{most_events}
+use Rattle.durable_store.specs.FileLimits.{file_limits}
 
 -- ---- the store
 
--- a store of the file's types with its history, and room for as many events as its text may have
+-- a store of the file's types with its history, and the limits of a file's store
 pub record IsStoreOf (c : Contents) (s : Stored) : Type 0 where
   pub types : HasTypes c s.types
   pub history : s.history ≡ events_of_kinds c.events
-  pub limit : s.max ≡ most_events
+  pub limit : s.limits ≡ file_limits
 
 -- a new store of these types
 abbrev pub begun_store : List Checked → Stored
-begun_store types = record { types = types; history = []; max = most_events; forgotten = 0 }
+begun_store types = record { types = types; history = []; limits = file_limits; forgotten = 0 }
 
 -- the error that a store doesn't make an event of the file
 abbrev pub IsStrayError : OpenError → Type 0

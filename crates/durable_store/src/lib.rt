@@ -4,6 +4,7 @@
 mod begun_types;
 mod durable;
 mod format;
+mod limits;
 mod new_file;
 mod open_error;
 mod outage;
@@ -11,6 +12,7 @@ mod recovered_store;
 
 pub use begun_types::file_types;
 pub use durable::Durable;
+pub use limits::file_limits;
 pub use new_file::create;
 pub use open_error::OpenError;
 pub use outage::{restart, settle_and_restart};

@@ -14,6 +14,7 @@ ghost use Rattle.journal.specs.Journal.{Clean, IsJournal, IsOpen, IsSettled, Sho
 
 use crate::begun_types::objects_of;
 use crate::durable::Durable;
+use crate::limits::file_limits;
 use crate::open_error::OpenError;
 use journal::{FileContents, Journal};
 use object_trait::{Event, EventKind};
@@ -21,7 +22,6 @@ use objects::Object;
 use sqlite_trees::store::Alter;
 use std::alloc::Global;
 use store::{Store, Stray, follow};
-use type_table::{MOST_EVENTS, limits_agree};
 
 // how many events a store remembers while it follows those of a file
 const MOST_REMEMBERED: usize = 65_536;
@@ -138,7 +138,7 @@ fn recovered_or_back<S: Alter>(
     }
 }
 
-/// A store of the types of a file with its history, which never has more events than its text may have.
+/// A store of the types of a file with its history, with the limits of a file's store.
 ///
 /// # Errors
 ///
@@ -148,9 +148,8 @@ pub(crate) fn store_of(alloc: Global, said: &FileContents) -> Result<Store<Objec
     ensures followed { IfErr result (λ e. IsStrayError e → IsNotFollowed (contents said.now)) }
     ensures own { IfOk result (λ s. IsOwnHistory s) }
 {
-    limits_agree();
     let objects = objects_of(alloc, said)?;
-    let mut store = match Store::new(alloc, objects, MOST_EVENTS) {
+    let mut store = match Store::with_limits(alloc, objects, file_limits()) {
         Ok(store) => store,
         Err((_, refusal)) => return Err(OpenError::NoStore(refusal)),
     };
@@ -171,7 +170,7 @@ pub(crate) fn store_of(alloc: Global, said: &FileContents) -> Result<Store<Objec
 fn follow_all(store: &mut Store<Object>, happened: &[EventKind]) -> Result<(), OpenError>
     ensures types { OnOk result (store.new.types ≡ store.old.types) }
     ensures history { OnOk result (store.new.history ≡ store.old.history ++ events_of_kinds happened.now) }
-    ensures limit { OnOk result (store.new.max ≡ store.old.max) }
+    ensures limit { OnOk result (store.new.limits ≡ store.old.limits) }
     ensures made { OnOk result (AreMade store.old (events_of_kinds happened.now)) }
     ensures strays { IfErr result (λ e. IsStrayError e → AreMade store.old (events_of_kinds happened.now) → ⊥) }
 {
@@ -189,7 +188,7 @@ fn follow_all(store: &mut Store<Object>, happened: &[EventKind]) -> Result<(), O
 fn follow_one(store: &mut Store<Object>, place: usize, kind: EventKind) -> Result<(), OpenError>
     ensures types { OnOk result (store.new.types ≡ store.old.types) }
     ensures history { OnOk result (store.new.history ≡ store.old.history ++ events_of_kinds (kind ∷ [])) }
-    ensures limit { OnOk result (store.new.max ≡ store.old.max) }
+    ensures limit { OnOk result (store.new.limits ≡ store.old.limits) }
     ensures made { OnOk result (IsMade store.old (event_of_kind kind)) }
     ensures strays { IfErr result (λ e. IsStrayError e → IsMade store.old (event_of_kind kind) → ⊥) }
 {

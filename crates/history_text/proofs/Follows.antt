@@ -28,43 +28,43 @@ abbrev pub AreUpTo : ℕ → List HistoryLine → Type 0
 AreUpTo rank lines = AllByRecursion (λ x. rank_of x ≤ rank) lines
 
 -- each of these lines passes its tests after all lines before it
-abbrev pub Follow : List HistoryLine → List HistoryLine → Type 0
-Follow before [] = Unit {0}
-Follow before (x ∷ xs) = HasPassed (store_rules history_body) before x × Follow (before ++ x ∷ []) xs
+abbrev pub Follow : Option ℕ → List HistoryLine → List HistoryLine → Type 0
+Follow says before [] = Unit {0}
+Follow says before (x ∷ xs) = HasPassed (store_rules history_body says) before x × Follow says (before ++ x ∷ []) xs
 
 -- of lines and then others
-pub follow_append : (before xs ys : List HistoryLine) → Follow before xs → Follow (before ++ xs) ys → Follow before (xs ++ ys)
-follow_append before [] ys h k = rw append-nil at k
-follow_append before (x ∷ xs) ys h k = (h.0, follow_append (before ++ x ∷ []) xs ys h.1 (subst (λ lines. Follow lines ys) (sym (append_assoc before (x ∷ []) xs)) k))
+pub follow_append : (says : Option ℕ) (before xs ys : List HistoryLine) → Follow says before xs → Follow says (before ++ xs) ys → Follow says before (xs ++ ys)
+follow_append says before [] ys h k = rw append-nil at k
+follow_append says before (x ∷ xs) ys h k = (h.0, follow_append says (before ++ x ∷ []) xs ys h.1 (subst (λ lines. Follow says lines ys) (sym (append_assoc before (x ∷ []) xs)) k))
 
 -- at a place
-follow_at : (before xs : List HistoryLine) (n : ℕ) (x : HistoryLine) → Follow before xs → slice_get xs n ≡ Some x → HasPassed (store_rules history_body) (before ++ take n xs) x
-follow_at before [] n x h e = absurd (none-some x e)
-follow_at before (y ∷ xs) zero x h e = rw append-nil (subst (HasPassed (store_rules history_body) before) (same_Some y x e) h.0)
-follow_at before (y ∷ xs) (suc n) x h e = subst (λ lines. HasPassed (store_rules history_body) lines x) (append_assoc before (y ∷ []) (take n xs)) (follow_at (before ++ y ∷ []) xs n x h.1 e)
+follow_at : (says : Option ℕ) (before xs : List HistoryLine) (n : ℕ) (x : HistoryLine) → Follow says before xs → slice_get xs n ≡ Some x → HasPassed (store_rules history_body says) (before ++ take n xs) x
+follow_at says before [] n x h e = absurd (none-some x e)
+follow_at says before (y ∷ xs) zero x h e = rw append-nil (subst (HasPassed (store_rules history_body says) before) (same_Some y x e) h.0)
+follow_at says before (y ∷ xs) (suc n) x h e = subst (λ lines. HasPassed (store_rules history_body says) lines x) (append_assoc before (y ∷ []) (take n xs)) (follow_at says (before ++ y ∷ []) xs n x h.1 e)
 
 -- an item that passes each test has no fault
-no_fault : (before : List HistoryLine) (x : HistoryLine) → HasPassed (store_rules history_body) before x → item_fault (store_rules history_body) before x ≡ None
+no_fault : (says : Option ℕ) (before : List HistoryLine) (x : HistoryLine) → HasPassed (store_rules history_body says) before x → item_fault (store_rules history_body says) before x ≡ None
 unfolding item_fault
-no_fault before x h = rw (h.in_order, h.lacks_none, h.misses_none, h.in_range, h.has_room, h.ascending, h.no_twin) refl
+no_fault says before x h = rw (h.in_order, h.lacks_none, h.misses_none, h.in_range, h.has_room, h.ascending, h.no_twin) refl
 
 -- ---- the last line
 
 -- lines of lower ranks have none of the last
-no_ends : (lines : List HistoryLine) → AreUpTo 2 lines → count 3 lines ≡ 0
+no_ends : (lines : List HistoryLine) → AreUpTo 3 lines → count 4 lines ≡ 0
 no_ends [] h = refl
 no_ends (x ∷ lines) h =
-    let other : eqb (rank_of x) 3 ≡ false = ne_eqb (rank_of x) 3 (λ e. omega (arith, e, h.0)) in
-    sum_by-cons (λ y. cond (eqb (rank_of y) 3) 1 0) x lines ∙ rw other (omega (arith, no_ends lines h.1))
+    let other : eqb (rank_of x) 4 ≡ false = ne_eqb (rank_of x) 4 (λ e. omega (arith, e, h.0)) in
+    sum_by-cons (λ y. cond (eqb (rank_of y) 4) 1 0) x lines ∙ rw other (omega (arith, no_ends lines h.1))
 
 -- lines of lower ranks that follow, and then `end`, are accepted
-pub accepted_with_end : (lines : List HistoryLine) → AreUpTo 2 lines → Follow [] (lines ++ End ∷ []) → IsAccepted (store_rules history_body) (lines ++ End ∷ [])
-accepted_with_end lines low h = record {
-  each = λ n x at. no_fault (take n (lines ++ End ∷ [])) x (follow_at [] (lines ++ End ∷ []) n x h at);
+pub accepted_with_end : (says : Option ℕ) (lines : List HistoryLine) → AreUpTo 3 lines → Follow says [] (lines ++ End ∷ []) → IsAccepted (store_rules history_body says) (lines ++ End ∷ [])
+accepted_with_end says lines low h = record {
+  each = λ n x at. no_fault says (take n (lines ++ End ∷ [])) x (follow_at says [] (lines ++ End ∷ []) n x h at);
   before_end = λ n below.
       let within : n ≤ length lines = omega (arith, below, length-append lines (End ∷ [])) in
-      ap (λ front. was_read (store_rules history_body) front 3) (take-append-le n lines (End ∷ []) within) ∙ ap (ltb 0) (no_ends (take n lines) (each-take (λ x. rank_of x ≤ 2) n lines low));
-  has_ended = lt-ltb 0 (count 3 (lines ++ End ∷ [])) (omega (arith, sum_by-append (λ x. cond (eqb (rank_of x) 3) 1 0) lines (End ∷ [])));
+      ap (λ front. was_read (store_rules history_body says) front 4) (take-append-le n lines (End ∷ []) within) ∙ ap (ltb 0) (no_ends (take n lines) (each-take (λ x. rank_of x ≤ 3) n lines low));
+  has_ended = lt-ltb 0 (count 4 (lines ++ End ∷ [])) (omega (arith, sum_by-append (λ x. cond (eqb (rank_of x) 4) 1 0) lines (End ∷ [])));
 }
 
 -- ---- tests after lines of no higher rank
@@ -74,11 +74,11 @@ last_low : (rank : ℕ) (before : List HistoryLine) (y : HistoryLine) → AreUpT
 last_low rank before y h at = each-found (λ x. rank_of x ≤ rank) before _ y h at
 
 -- a line after lines of no higher rank isn't late, where its section may have several lines
-pub not_late : (before : List HistoryLine) (x : HistoryLine) → AreUpTo (rank_of x) before → is_single (slice_get (sections false) (rank_of x)) ≡ false
-    → is_late (store_rules history_body) (last_item before) x ≡ false
-not_late before x h several = by_last (last_item before) (λ y at. last_low (rank_of x) before y h at)
+pub not_late : (says : Option ℕ) (before : List HistoryLine) (x : HistoryLine) → AreUpTo (rank_of x) before → is_single (slice_get (sections false says) (rank_of x)) ≡ false
+    → is_late (store_rules history_body says) (last_item before) x ≡ false
+not_late says before x h several = by_last (last_item before) (λ y at. last_low (rank_of x) before y h at)
   where
-    by_last : (last : Option HistoryLine) → ((y : HistoryLine) → last ≡ Some y → rank_of y ≤ rank_of x) → is_late (store_rules history_body) last x ≡ false
+    by_last : (last : Option HistoryLine) → ((y : HistoryLine) → last ≡ Some y → rank_of y ≤ rank_of x) → is_late (store_rules history_body says) last x ≡ false
     by_last None low = refl
     by_last (Some y) low =
         let first : ltb (rank_of x) (rank_of y) ≡ false = le-ltb (rank_of x) (rank_of y) (low y refl) in
@@ -89,20 +89,20 @@ not_late before x h several = by_last (last_item before) (λ y at. last_low (ran
         and_false false = refl
 
 -- nor is one after lines of lower ranks
-pub not_late_single : (before : List HistoryLine) → AreUpTo 2 before → is_late (store_rules history_body) (last_item before) End ≡ false
-not_late_single before h = by_last (last_item before) (λ y at. last_low 2 before y h at)
+pub not_late_single : (says : Option ℕ) (before : List HistoryLine) → AreUpTo 3 before → is_late (store_rules history_body says) (last_item before) End ≡ false
+not_late_single says before h = by_last (last_item before) (λ y at. last_low 3 before y h at)
   where
-    by_last : (last : Option HistoryLine) → ((y : HistoryLine) → last ≡ Some y → rank_of y ≤ 2) → is_late (store_rules history_body) last End ≡ false
+    by_last : (last : Option HistoryLine) → ((y : HistoryLine) → last ≡ Some y → rank_of y ≤ 3) → is_late (store_rules history_body says) last End ≡ false
     by_last None low = refl
     by_last (Some y) low =
         let rank = rank_of y in
-        let below : rank ≤ 2 = low y refl in
-        or_from (ltb 3 rank) (eqb 3 rank && true) (le-ltb 3 rank (omega (arith, below))) (and_left (eqb 3 rank) true (ne_eqb 3 rank (λ e. omega (arith, e, below))))
+        let below : rank ≤ 3 = low y refl in
+        or_from (ltb 4 rank) (eqb 4 rank && true) (le-ltb 4 rank (omega (arith, below))) (and_left (eqb 4 rank) true (ne_eqb 4 rank (λ e. omega (arith, e, below))))
 
 -- no line has a key, so each ascends
-pub ascending : (before : List HistoryLine) (x : HistoryLine) → ascends (store_rules history_body) (last_item before) x ≡ true
-ascending before x = by_last (last_item before)
+pub ascending : (says : Option ℕ) (before : List HistoryLine) (x : HistoryLine) → ascends (store_rules history_body says) (last_item before) x ≡ true
+ascending says before x = by_last (last_item before)
   where
-    by_last : (last : Option HistoryLine) → ascends (store_rules history_body) last x ≡ true
+    by_last : (last : Option HistoryLine) → ascends (store_rules history_body says) last x ≡ true
     by_last None = refl
     by_last (Some y) = or_right (not (eqb (rank_of x) (rank_of y))) true refl

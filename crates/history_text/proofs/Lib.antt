@@ -1,3 +1,5 @@
+pub mod Sizes
+pub mod Skipped
 pub mod Writing
 pub mod Follows
 pub mod Accepted

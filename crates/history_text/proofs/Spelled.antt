@@ -1,9 +1,9 @@
 -- The words of a line say it.
-use Rattle.std.proofs.Common.{◌≡◌, ℕ, ◌+◌, ◌*◌, ◌<◌, ◌≤◌, ◌^◌, true, ◌&&◌, leb, List, [], ◌∷◌, ◌++◌, length, map, refl, arith}
+use Rattle.std.proofs.Common.{◌≡◌, ℕ, ◌+◌, ◌*◌, ◌<◌, ◌≤◌, ◌^◌, true, ◌&&◌, leb, List, [], ◌∷◌, ◌++◌, length, map, Option, refl, arith}
 use Rattle.std.specs.Prelude.{codes}
 use Rattle.std.specs.Fmt.{decimal}
 use Rattle.std.specs.List.{AllByRecursion}
-use Rattle.std.proofs.lemmas.Bool.{leb-true, and_parts}
+use Rattle.std.proofs.lemmas.Bool.{leb-true, ltb-true, and_parts}
 use Rattle.type_table.specs.declared.kind.Kind.{Kind}
 use Rattle.type_table.specs.declared.kind.Kind.TheVariants.{Undo, Intentions, Escrow}
 use Rattle.type_table.proofs.Elements.{each-append}
@@ -13,8 +13,8 @@ use Rattle.line_text.specs.Spelling.{spaced, IsWord, Spells, NumberIsReadAgain}
 use Rattle.line_text.proofs.Items.{keyword, length-spaced}
 use Rattle.decimals.proofs.Decimals.{read_long}
 use Rattle.line_text.proofs.Decimals.{long_is_word}
-use Rattle.store_text.specs.Body.{store_rules, line_of, object_of_words, end_of_words}
-use Rattle.store_text.specs.declared.line.Line.TheVariants.{Object, Entry, End}
+use Rattle.store_text.specs.Body.{store_rules, has_size, line_of, size_of_words, object_of_words, end_of_words}
+use Rattle.store_text.specs.declared.line.Line.TheVariants.{Objects, Object, Entry, End}
 use Rattle.history_text.specs.declared.event_line.EventLine.{EventLine}
 use Rattle.history_text.specs.declared.event_line.EventLine.TheVariants.{Begin, Op, OpOf, Busy, Nothing, Commit, Abort, Rollback}
 use Rattle.history_text.specs.Events.{history_body, event_line_of, begin_event_of, op_event_of, counted_of, listed_of, busy_of, nothing_of, commit_event_of, abort_event_of, rollback_event_of, is_in_range, is_worker, is_transaction, is_object, is_operation, is_event_amount}
@@ -32,13 +32,13 @@ worker w h = omega (arith, leb-true w 255 h)
 transaction : (t : ℕ) → is_transaction t ≡ true → t < 10 ^ 7
 transaction t h = omega (arith, leb-true t 999999 h)
 
-object : (x : ℕ) → is_object x ≡ true → x < 10 ^ 7
-object x h = omega (arith, leb-true x 255 h)
+object : (objects x : ℕ) → objects ≤ 65536 → is_object objects x ≡ true → x < 10 ^ 7
+object objects x few h = omega (arith, few, ltb-true x objects h)
 
 operation : (k : ℕ) → is_operation k ≡ true → k < 10 ^ 7
 operation k h = omega (arith, leb-true k 63 h)
 
-module _ (numbers : (n : ℕ) → n < 10 ^ 7 → NumberIsReadAgain n) where
+module _ (says : Option ℕ) (numbers : (n : ℕ) → n < 10 ^ 7 → NumberIsReadAgain n) where
   -- numbers are words
   are_words : (ns : List ℕ) → AreSmall ns → AllByRecursion IsWord (map decimal ns)
   are_words [] h = tt
@@ -55,7 +55,7 @@ module _ (numbers : (n : ℕ) → n < 10 ^ 7 → NumberIsReadAgain n) where
   short_long_line w (m ∷ ns) n h last = omega (arith, length-spaced w (decimal m) (map decimal ns ++ decimal n ∷ []), short_long_line (decimal m) ns n h.1 last, (numbers m h.0).short)
 
   -- the words of an `object` line
-  object_spells : (kind : Kind) (file : ℕ) → file < 10 ^ 7 → Spells (store_rules history_body) (Object kind file) (words_of (Object kind file))
+  object_spells : (kind : Kind) (file : ℕ) → file < 10 ^ 7 → Spells (store_rules history_body says) (Object kind file) (words_of (Object kind file))
   unfolding line_of object_of_words exactly number_at kind_at is_key
   object_spells Undo file small = record {
     some = omega arith;
@@ -79,8 +79,19 @@ module _ (numbers : (n : ℕ) → n < 10 ^ 7 → NumberIsReadAgain n) where
     said = rw (numbers file small).read refl;
   }
 
+  -- the words of an `objects` line, in a text that has one
+  pub size_spells : (n : ℕ) → n < 10 ^ 7 → has_size says ≡ true → Spells (store_rules history_body says) (Objects n) (words_of (Objects n))
+  unfolding line_of size_of_words exactly number_at is_key
+  size_spells n small has = record {
+    some = omega arith;
+    each = (keyword (codes "objects") refl refl, are_words (n ∷ []) (small, tt));
+    no_comment = λ e. omega (arith, e);
+    short = omega (arith, short_line (codes "objects") (n ∷ []) (small, tt));
+    said = rw (has, (numbers n small).read) refl;
+  }
+
   -- the words of a `begin` line
-  begin_spells : (w t : ℕ) → w < 10 ^ 7 → t < 10 ^ 7 → Spells (store_rules history_body) (Entry (Begin w t)) (words_of (Entry (Begin w t)))
+  begin_spells : (w t : ℕ) → w < 10 ^ 7 → t < 10 ^ 7 → Spells (store_rules history_body says) (Entry (Begin w t)) (words_of (Entry (Begin w t)))
   unfolding line_of event_line_of begin_event_of exactly number_at is_key
   begin_spells w t w_small t_small =
       let small : AreSmall (w ∷ t ∷ []) = (w_small, (t_small, tt)) in
@@ -93,7 +104,7 @@ module _ (numbers : (n : ℕ) → n < 10 ^ 7 → NumberIsReadAgain n) where
       }
 
   -- the words of a `op` line
-  op_spells : (w t x k : ℕ) → w < 10 ^ 7 → t < 10 ^ 7 → x < 10 ^ 7 → k < 10 ^ 7 → Spells (store_rules history_body) (Entry (Op w t x k)) (words_of (Entry (Op w t x k)))
+  op_spells : (w t x k : ℕ) → w < 10 ^ 7 → t < 10 ^ 7 → x < 10 ^ 7 → k < 10 ^ 7 → Spells (store_rules history_body says) (Entry (Op w t x k)) (words_of (Entry (Op w t x k)))
   unfolding line_of event_line_of op_event_of listed_of exactly number_at is_key
   op_spells w t x k w_small t_small x_small k_small =
       let small : AreSmall (w ∷ t ∷ x ∷ k ∷ []) = (w_small, (t_small, (x_small, (k_small, tt)))) in
@@ -106,7 +117,7 @@ module _ (numbers : (n : ℕ) → n < 10 ^ 7 → NumberIsReadAgain n) where
       }
 
   -- those of one with an amount
-  counted_spells : (w t x k n : ℕ) → w < 10 ^ 7 → t < 10 ^ 7 → x < 10 ^ 7 → k < 10 ^ 7 → n ≤ 4294967295 → Spells (store_rules history_body) (Entry (OpOf w t x k n)) (words_of (Entry (OpOf w t x k n)))
+  counted_spells : (w t x k n : ℕ) → w < 10 ^ 7 → t < 10 ^ 7 → x < 10 ^ 7 → k < 10 ^ 7 → n ≤ 4294967295 → Spells (store_rules history_body says) (Entry (OpOf w t x k n)) (words_of (Entry (OpOf w t x k n)))
   unfolding line_of event_line_of op_event_of counted_of exactly number_at long_number_at is_key
   counted_spells w t x k n w_small t_small x_small k_small n_fits =
       let small : AreSmall (w ∷ t ∷ x ∷ k ∷ []) = (w_small, (t_small, (x_small, (k_small, tt)))) in
@@ -120,7 +131,7 @@ module _ (numbers : (n : ℕ) → n < 10 ^ 7 → NumberIsReadAgain n) where
       }
 
   -- the words of a `busy` line
-  busy_spells : (w t x c u : ℕ) → w < 10 ^ 7 → t < 10 ^ 7 → x < 10 ^ 7 → c < 10 ^ 7 → u < 10 ^ 7 → Spells (store_rules history_body) (Entry (Busy w t x c u)) (words_of (Entry (Busy w t x c u)))
+  busy_spells : (w t x c u : ℕ) → w < 10 ^ 7 → t < 10 ^ 7 → x < 10 ^ 7 → c < 10 ^ 7 → u < 10 ^ 7 → Spells (store_rules history_body says) (Entry (Busy w t x c u)) (words_of (Entry (Busy w t x c u)))
   unfolding line_of event_line_of busy_of exactly number_at is_key
   busy_spells w t x c u w_small t_small x_small c_small u_small =
       let small : AreSmall (w ∷ t ∷ x ∷ c ∷ u ∷ []) = (w_small, (t_small, (x_small, (c_small, (u_small, tt))))) in
@@ -133,7 +144,7 @@ module _ (numbers : (n : ℕ) → n < 10 ^ 7 → NumberIsReadAgain n) where
       }
 
   -- the words of a `none` line
-  nothing_spells : (w t x c : ℕ) → w < 10 ^ 7 → t < 10 ^ 7 → x < 10 ^ 7 → c < 10 ^ 7 → Spells (store_rules history_body) (Entry (Nothing w t x c)) (words_of (Entry (Nothing w t x c)))
+  nothing_spells : (w t x c : ℕ) → w < 10 ^ 7 → t < 10 ^ 7 → x < 10 ^ 7 → c < 10 ^ 7 → Spells (store_rules history_body says) (Entry (Nothing w t x c)) (words_of (Entry (Nothing w t x c)))
   unfolding line_of event_line_of nothing_of exactly number_at is_key
   nothing_spells w t x c w_small t_small x_small c_small =
       let small : AreSmall (w ∷ t ∷ x ∷ c ∷ []) = (w_small, (t_small, (x_small, (c_small, tt)))) in
@@ -146,7 +157,7 @@ module _ (numbers : (n : ℕ) → n < 10 ^ 7 → NumberIsReadAgain n) where
       }
 
   -- the words of a `commit` line
-  commit_spells : (w t : ℕ) → w < 10 ^ 7 → t < 10 ^ 7 → Spells (store_rules history_body) (Entry (Commit w t)) (words_of (Entry (Commit w t)))
+  commit_spells : (w t : ℕ) → w < 10 ^ 7 → t < 10 ^ 7 → Spells (store_rules history_body says) (Entry (Commit w t)) (words_of (Entry (Commit w t)))
   unfolding line_of event_line_of commit_event_of exactly number_at is_key
   commit_spells w t w_small t_small =
       let small : AreSmall (w ∷ t ∷ []) = (w_small, (t_small, tt)) in
@@ -159,7 +170,7 @@ module _ (numbers : (n : ℕ) → n < 10 ^ 7 → NumberIsReadAgain n) where
       }
 
   -- the words of a `abort` line
-  abort_spells : (w t : ℕ) → w < 10 ^ 7 → t < 10 ^ 7 → Spells (store_rules history_body) (Entry (Abort w t)) (words_of (Entry (Abort w t)))
+  abort_spells : (w t : ℕ) → w < 10 ^ 7 → t < 10 ^ 7 → Spells (store_rules history_body says) (Entry (Abort w t)) (words_of (Entry (Abort w t)))
   unfolding line_of event_line_of abort_event_of exactly number_at is_key
   abort_spells w t w_small t_small =
       let small : AreSmall (w ∷ t ∷ []) = (w_small, (t_small, tt)) in
@@ -172,7 +183,7 @@ module _ (numbers : (n : ℕ) → n < 10 ^ 7 → NumberIsReadAgain n) where
       }
 
   -- the words of a `rollback` line
-  rollback_spells : (w t n : ℕ) → w < 10 ^ 7 → t < 10 ^ 7 → n < 10 ^ 7 → Spells (store_rules history_body) (Entry (Rollback w t n)) (words_of (Entry (Rollback w t n)))
+  rollback_spells : (w t n : ℕ) → w < 10 ^ 7 → t < 10 ^ 7 → n < 10 ^ 7 → Spells (store_rules history_body says) (Entry (Rollback w t n)) (words_of (Entry (Rollback w t n)))
   unfolding line_of event_line_of rollback_event_of exactly number_at is_key
   rollback_spells w t n w_small t_small n_small =
       let small : AreSmall (w ∷ t ∷ n ∷ []) = (w_small, (t_small, (n_small, tt))) in
@@ -185,7 +196,7 @@ module _ (numbers : (n : ℕ) → n < 10 ^ 7 → NumberIsReadAgain n) where
       }
 
   -- the words of the `end` line
-  pub end_spells : Spells (store_rules history_body) End (words_of End)
+  pub end_spells : Spells (store_rules history_body says) End (words_of End)
   unfolding line_of end_of_words exactly is_key
   end_spells = record {
     some = omega arith;
@@ -196,43 +207,43 @@ module _ (numbers : (n : ℕ) → n < 10 ^ 7 → NumberIsReadAgain n) where
   }
 
   -- the line of an object is said by its words
-  pub object_line_spells : (kind : Kind) (file : ℕ) → file ≤ 255 → Spells (store_rules history_body) (Object kind file) (words_of (Object kind file))
+  pub object_line_spells : (kind : Kind) (file : ℕ) → file < 65536 → Spells (store_rules history_body says) (Object kind file) (words_of (Object kind file))
   object_line_spells kind file fit = object_spells kind file (omega (arith, fit))
 
   -- so is that of an event whose numbers are in range
-  pub event_line_spells : (x : EventLine) → is_in_range x ≡ true → Spells (store_rules history_body) (Entry x) (words_of (Entry x))
-  event_line_spells (Begin w t) h =
+  pub event_line_spells : (objects : ℕ) → objects ≤ 65536 → (x : EventLine) → is_in_range objects x ≡ true → Spells (store_rules history_body says) (Entry x) (words_of (Entry x))
+  event_line_spells objects few (Begin w t) h =
       let p1 : ((is_worker w) ≡ true) × ((is_transaction t) ≡ true) = and_parts _ _ h in
       begin_spells w t (worker w p1.0) (transaction t p1.1)
-  event_line_spells (Op w t x k) h =
-      let p3 : ((is_worker w && is_transaction t && is_object x) ≡ true) × ((is_operation k) ≡ true) = and_parts _ _ h in
-      let p2 : ((is_worker w && is_transaction t) ≡ true) × ((is_object x) ≡ true) = and_parts _ _ p3.0 in
+  event_line_spells objects few (Op w t x k) h =
+      let p3 : ((is_worker w && is_transaction t && is_object objects x) ≡ true) × ((is_operation k) ≡ true) = and_parts _ _ h in
+      let p2 : ((is_worker w && is_transaction t) ≡ true) × ((is_object objects x) ≡ true) = and_parts _ _ p3.0 in
       let p1 : ((is_worker w) ≡ true) × ((is_transaction t) ≡ true) = and_parts _ _ p2.0 in
-      op_spells w t x k (worker w p1.0) (transaction t p1.1) (object x p2.1) (operation k p3.1)
-  event_line_spells (OpOf w t x k n) h =
-      let p4 : ((is_worker w && is_transaction t && is_object x && is_operation k) ≡ true) × ((is_event_amount n) ≡ true) = and_parts _ _ h in
-      let p3 : ((is_worker w && is_transaction t && is_object x) ≡ true) × ((is_operation k) ≡ true) = and_parts _ _ p4.0 in
-      let p2 : ((is_worker w && is_transaction t) ≡ true) × ((is_object x) ≡ true) = and_parts _ _ p3.0 in
+      op_spells w t x k (worker w p1.0) (transaction t p1.1) (object objects x few p2.1) (operation k p3.1)
+  event_line_spells objects few (OpOf w t x k n) h =
+      let p4 : ((is_worker w && is_transaction t && is_object objects x && is_operation k) ≡ true) × ((is_event_amount n) ≡ true) = and_parts _ _ h in
+      let p3 : ((is_worker w && is_transaction t && is_object objects x) ≡ true) × ((is_operation k) ≡ true) = and_parts _ _ p4.0 in
+      let p2 : ((is_worker w && is_transaction t) ≡ true) × ((is_object objects x) ≡ true) = and_parts _ _ p3.0 in
       let p1 : ((is_worker w) ≡ true) × ((is_transaction t) ≡ true) = and_parts _ _ p2.0 in
-      counted_spells w t x k n (worker w p1.0) (transaction t p1.1) (object x p2.1) (operation k p3.1) (leb-true n 4294967295 p4.1)
-  event_line_spells (Busy w t x c u) h =
-      let p4 : ((is_worker w && is_transaction t && is_object x && is_operation c) ≡ true) × ((is_transaction u) ≡ true) = and_parts _ _ h in
-      let p3 : ((is_worker w && is_transaction t && is_object x) ≡ true) × ((is_operation c) ≡ true) = and_parts _ _ p4.0 in
-      let p2 : ((is_worker w && is_transaction t) ≡ true) × ((is_object x) ≡ true) = and_parts _ _ p3.0 in
+      counted_spells w t x k n (worker w p1.0) (transaction t p1.1) (object objects x few p2.1) (operation k p3.1) (leb-true n 4294967295 p4.1)
+  event_line_spells objects few (Busy w t x c u) h =
+      let p4 : ((is_worker w && is_transaction t && is_object objects x && is_operation c) ≡ true) × ((is_transaction u) ≡ true) = and_parts _ _ h in
+      let p3 : ((is_worker w && is_transaction t && is_object objects x) ≡ true) × ((is_operation c) ≡ true) = and_parts _ _ p4.0 in
+      let p2 : ((is_worker w && is_transaction t) ≡ true) × ((is_object objects x) ≡ true) = and_parts _ _ p3.0 in
       let p1 : ((is_worker w) ≡ true) × ((is_transaction t) ≡ true) = and_parts _ _ p2.0 in
-      busy_spells w t x c u (worker w p1.0) (transaction t p1.1) (object x p2.1) (operation c p3.1) (transaction u p4.1)
-  event_line_spells (Nothing w t x c) h =
-      let p3 : ((is_worker w && is_transaction t && is_object x) ≡ true) × ((is_operation c) ≡ true) = and_parts _ _ h in
-      let p2 : ((is_worker w && is_transaction t) ≡ true) × ((is_object x) ≡ true) = and_parts _ _ p3.0 in
+      busy_spells w t x c u (worker w p1.0) (transaction t p1.1) (object objects x few p2.1) (operation c p3.1) (transaction u p4.1)
+  event_line_spells objects few (Nothing w t x c) h =
+      let p3 : ((is_worker w && is_transaction t && is_object objects x) ≡ true) × ((is_operation c) ≡ true) = and_parts _ _ h in
+      let p2 : ((is_worker w && is_transaction t) ≡ true) × ((is_object objects x) ≡ true) = and_parts _ _ p3.0 in
       let p1 : ((is_worker w) ≡ true) × ((is_transaction t) ≡ true) = and_parts _ _ p2.0 in
-      nothing_spells w t x c (worker w p1.0) (transaction t p1.1) (object x p2.1) (operation c p3.1)
-  event_line_spells (Commit w t) h =
+      nothing_spells w t x c (worker w p1.0) (transaction t p1.1) (object objects x few p2.1) (operation c p3.1)
+  event_line_spells objects few (Commit w t) h =
       let p1 : ((is_worker w) ≡ true) × ((is_transaction t) ≡ true) = and_parts _ _ h in
       commit_spells w t (worker w p1.0) (transaction t p1.1)
-  event_line_spells (Abort w t) h =
+  event_line_spells objects few (Abort w t) h =
       let p1 : ((is_worker w) ≡ true) × ((is_transaction t) ≡ true) = and_parts _ _ h in
       abort_spells w t (worker w p1.0) (transaction t p1.1)
-  event_line_spells (Rollback w t n) h =
+  event_line_spells objects few (Rollback w t n) h =
       let p3 : ((is_worker w && is_transaction t && leb 1 n) ≡ true) × ((leb n 999999) ≡ true) = and_parts _ _ h in
       let p2 : ((is_worker w && is_transaction t) ≡ true) × ((leb 1 n) ≡ true) = and_parts _ _ p3.0 in
       let p1 : ((is_worker w) ≡ true) × ((is_transaction t) ≡ true) = and_parts _ _ p2.0 in

@@ -9,11 +9,12 @@ use Rattle.object_trait.specs.declared.event.Event.{Event}
 use Rattle.outputs.specs.Out.{Puts, PutsItems}
 use Rattle.outputs.specs.declared.out.OutFault.{OutFault}
 use Rattle.outputs.proofs.Turns.{Puts-exit_at}
+use Rattle.store_text.specs.Kept.{size_lines}
 use Rattle.store_text.specs.declared.line.Line.{Line}
 use Rattle.store_text.specs.declared.line.Line.TheVariants.{End}
 use Rattle.store_text.specs.declared.line.ObjectLine.{ObjectLine}
 use Rattle.history_text.specs.declared.event_line.EventLine.{EventLine}
-use Rattle.history_text.specs.Canonical.{words_of, object_line, event_line, canonical_text}
+use Rattle.history_text.specs.Canonical.{words_of, object_line, event_line, canonical_size, canonical_text}
 
 -- the text of a line
 abbrev pub line_text : Line EventLine → List ℕ
@@ -32,10 +33,13 @@ lines_exit {X} items {a = a} {b = b} {f = f} line xs i d inside so_far stop exit
     let front : Puts a b f (flat_map text (take i xs)) (Ok tt) = rw (← flat_map-map line_text line (take i xs)) so_far in
     rw (flat_map-map line_text line xs) (Puts-exit_at items text xs i d inside front stop exit)
 
--- the objects, the events and the last line
+-- the size, the objects, the events and the last line
 pub text-parts : (objects : List ObjectLine) (happened : List Event) →
-    text_of words_of (map object_line objects) ++ (text_of words_of (map event_line happened) ++ line_text End) ≡ canonical_text objects happened
+    text_of words_of (size_lines (canonical_size objects)) ++ (text_of words_of (map object_line objects) ++ (text_of words_of (map event_line happened) ++ line_text End)) ≡ canonical_text objects happened
 text-parts objects happened =
+    let size = size_lines (canonical_size objects) in
     let last : text_of words_of (map event_line happened ++ End ∷ []) ≡ text_of words_of (map event_line happened) ++ line_text End =
     text_of-append (map event_line happened) (End ∷ []) ∙ ap (λ l. text_of words_of (map event_line happened) ++ l) (append-nil (line_text End)) in
-    sym (text_of-append (map object_line objects) (map event_line happened ++ End ∷ []) ∙ ap (λ l. text_of words_of (map object_line objects) ++ l) last)
+    let rest : text_of words_of (map object_line objects ++ (map event_line happened ++ End ∷ [])) ≡ text_of words_of (map object_line objects) ++ (text_of words_of (map event_line happened) ++ line_text End) =
+    text_of-append (map object_line objects) (map event_line happened ++ End ∷ []) ∙ ap (λ l. text_of words_of (map object_line objects) ++ l) last in
+    sym (text_of-append size (map object_line objects ++ (map event_line happened ++ End ∷ [])) ∙ ap (λ l. text_of words_of size ++ l) rest)

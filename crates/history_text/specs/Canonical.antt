@@ -1,18 +1,21 @@
--- The canonical text of a history: its objects and its events in order, one line for each, and `end`.
-use Rattle.std.specs.Prelude.{◌≡◌, ℕ, ◌<◌, ◌≤◌, true, List, [], ◌∷◌, ◌++◌, length, map, Ok, codes}
-use Rattle.type_table.specs.Limits.{most_events, most_objects}
+-- The canonical text of a history: how many objects it may have where these are more than 256, its objects and its events in order, one line for
+-- each, and `end`.
+use Rattle.std.specs.Prelude.{◌≡◌, ℕ, ◌+◌, max, nat_lt, ◌<◌, ◌≤◌, true, List, [], ◌∷◌, ◌++◌, filter, length, map, if◌then◌else◌, Option, Some, None, Ok, codes}
+use Rattle.type_table.specs.Limits.{most_events}
 use Rattle.std.specs.Fmt.{decimal}
 use Rattle.std.specs.List.{AllByRecursion}
+use Rattle.std.specs.Option.{option_to_list}
 use Rattle.type_table.specs.Kind.{kind_word}
 use Rattle.object_trait.specs.declared.event.Event.{Event}
-use Rattle.line_text.specs.Comments.{AreSkipped}
-use Rattle.line_text.specs.Outcome.{outcome_of}
+use Rattle.line_text.specs.Comments.{MaySkip, lines_text, tells}
 use Rattle.line_text.specs.Spelling.{text_of}
-use Rattle.store_text.specs.Body.{store_rules}
+use Rattle.store_text.specs.Body.{store_outcome}
+use Rattle.store_text.specs.Kept.{size_lines}
 use Rattle.store_text.specs.Parts.{ReadsStoreText}
-use Rattle.store_text.specs.Said.{said_objects, entries_of}
+use Rattle.store_text.specs.Said.{said_sizes, said_objects, entries_of}
+use Rattle.store_text.specs.Size.{may_have, most_size}
 use Rattle.store_text.specs.declared.line.Line.{Line}
-use Rattle.store_text.specs.declared.line.Line.TheVariants.{Max, Object, Entry, End}
+use Rattle.store_text.specs.declared.line.Line.TheVariants.{Objects, Max, Object, Entry, End}
 use Rattle.store_text.specs.declared.line.ObjectLine.{ObjectLine}
 use Rattle.history_text.specs.declared.event_line.EventLine.{EventLine}
 use Rattle.history_text.specs.declared.event_line.EventLine.TheVariants.{Begin, Op, OpOf, Busy, Nothing, Commit, Abort, Rollback}
@@ -35,6 +38,7 @@ event_line_words (Rollback w t n) = codes "rollback" ∷ decimal w ∷ decimal t
 
 -- the words of a line; a history has no `max` line
 abbrev pub words_of : Line EventLine → List (List ℕ)
+words_of (Objects n) = codes "objects" ∷ decimal n ∷ []
 words_of (Max most) = codes "max" ∷ decimal most ∷ []
 words_of (Object kind file) = codes "object" ∷ kind_word kind ∷ decimal file ∷ []
 words_of (Entry x) = event_line_words x
@@ -50,8 +54,21 @@ object_line o = Object o.kind o.file
 abbrev pub event_line : Event → Line EventLine
 event_line e = Entry (line_of e)
 
+-- one more than the greatest place of a type
+abbrev pub places_of : List ObjectLine → ℕ
+places_of [] = 0
+places_of (o ∷ objects) = max (o.file + 1) (places_of objects)
+
+-- how many objects a text of these has to be allowed: so many there are, and the place of a type is below it
+abbrev pub needed_size : List ObjectLine → ℕ
+needed_size objects = max (length objects) (places_of objects)
+
+-- which is said where it is more than a text may have that doesn't say it
+abbrev pub canonical_size : List ObjectLine → Option ℕ
+canonical_size objects = if nat_lt (may_have None) (needed_size objects) then Some (needed_size objects) else None
+
 abbrev pub canonical_lines : List ObjectLine → List Event → List (Line EventLine)
-canonical_lines objects happened = map object_line objects ++ (map event_line happened ++ End ∷ [])
+canonical_lines objects happened = size_lines (canonical_size objects) ++ (map object_line objects ++ (map event_line happened ++ End ∷ []))
 
 abbrev pub canonical_text : List ObjectLine → List Event → List ℕ
 canonical_text objects happened = text_of words_of (canonical_lines objects happened)
@@ -61,14 +78,15 @@ canonical_text objects happened = text_of words_of (canonical_lines objects happ
 -- every number and count is in its range
 pub record AreInRange (objects : List ObjectLine) (happened : List Event) : Type 0 where
   pub some_object : 0 < length objects
-  pub objects_fit : length objects ≤ most_objects
-  pub files_fit : AllByRecursion (λ (o : ObjectLine). o.file ≤ 255) objects
+  pub objects_fit : length objects ≤ most_size
+  pub files_fit : AllByRecursion (λ (o : ObjectLine). o.file < most_size) objects
   pub events_fit : length happened ≤ most_events
-  pub numbers_fit : AllByRecursion (λ e. is_in_range (line_of e) ≡ true) happened
+  pub numbers_fit : AllByRecursion (λ e. is_in_range (may_have (canonical_size objects)) (line_of e) ≡ true) happened
 
 -- the text is read, and its lines say these objects and events
 pub record IsReadBack (objects : List ObjectLine) (happened : List Event) : Type 0 where
-  pub read : outcome_of (store_rules history_body) (canonical_text objects happened) ≡ Ok (canonical_lines objects happened)
+  pub read : store_outcome history_body (canonical_text objects happened) ≡ Ok (canonical_lines objects happened)
+  pub size_said : said_sizes (canonical_lines objects happened) ≡ option_to_list (canonical_size objects)
   pub objects_said : said_objects (canonical_lines objects happened) ≡ objects
   pub events_said : map event_in_line (entries_of (canonical_lines objects happened)) ≡ happened
 
@@ -78,8 +96,9 @@ pub record IsReadBack (objects : List ObjectLine) (happened : List Event) : Type
 abbrev pub CanonicalIsRead : Type 0
 CanonicalIsRead = (objects : List ObjectLine) (happened : List Event) → AreInRange objects happened → IsReadBack objects happened
 
--- the objects and events of a file
+-- the objects and events of a file, and what its text said of its size
 pub record IsFileWith (objects : List ObjectLine) (happened : List Event) (file : HistoryFile) : Type 0 where
+  pub size_is : file.size ≡ canonical_size objects
   pub objects_are : file.objects.items ≡ objects
   pub events_are : file.events.items ≡ happened
 
@@ -91,4 +110,6 @@ WrittenIsRead =
 
 -- a text of a history is read as the one without its comments
 abbrev pub CommentsAreSkipped : Type 0
-CommentsAreSkipped = (lines : List (List ℕ)) → AreSkipped (store_rules history_body) lines
+CommentsAreSkipped =
+    (lines : List (List ℕ)) (items : List (Line EventLine)) → AllByRecursion MaySkip lines
+    → store_outcome history_body (lines_text (filter tells lines)) ≡ Ok items → store_outcome history_body (lines_text lines) ≡ Ok items

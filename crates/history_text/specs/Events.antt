@@ -1,5 +1,5 @@
 -- The event lines of a history.
-use Rattle.std.specs.Prelude.{ℕ, Bool, false, ◌&&◌, ◌==◌, nat_le, List, length, if◌then◌else◌, Option, Some, None, Result, Ok, Err, codes}
+use Rattle.std.specs.Prelude.{ℕ, Bool, false, ◌&&◌, ◌==◌, nat_le, nat_lt, List, length, if◌then◌else◌, Option, Some, None, Result, Ok, Err, codes}
 use Rattle.object_trait.specs.declared.event.Event.{Event}
 use Rattle.object_trait.specs.declared.event.EventKind.{EventKind}
 use Rattle.object_trait.specs.declared.event.EventKind.TheVariants as kind
@@ -140,8 +140,9 @@ is_worker w = nat_le w 255
 abbrev pub is_transaction : ℕ → Bool
 is_transaction t = nat_le t 999999
 
-abbrev pub is_object : ℕ → Bool
-is_object x = nat_le x 255
+-- one of as many as the text may have
+abbrev pub is_object : ℕ → ℕ → Bool
+is_object objects x = nat_lt x objects
 
 -- an operation, or a call, which is named by its least operation
 abbrev pub is_operation : ℕ → Bool
@@ -150,15 +151,15 @@ is_operation k = nat_le k 63
 abbrev pub is_event_amount : ℕ → Bool
 is_event_amount n = nat_le n 4294967295
 
-abbrev pub is_in_range : EventLine → Bool
-is_in_range (Begin w t) = is_worker w && is_transaction t
-is_in_range (Op w t x k) = is_worker w && is_transaction t && is_object x && is_operation k
-is_in_range (OpOf w t x k n) = is_worker w && is_transaction t && is_object x && is_operation k && is_event_amount n
-is_in_range (Busy w t x c u) = is_worker w && is_transaction t && is_object x && is_operation c && is_transaction u
-is_in_range (Nothing w t x c) = is_worker w && is_transaction t && is_object x && is_operation c
-is_in_range (Commit w t) = is_worker w && is_transaction t
-is_in_range (Abort w t) = is_worker w && is_transaction t
-is_in_range (Rollback w t n) = is_worker w && is_transaction t && nat_le 1 n && nat_le n 999999
+abbrev pub is_in_range : ℕ → EventLine → Bool
+is_in_range objects (Begin w t) = is_worker w && is_transaction t
+is_in_range objects (Op w t x k) = is_worker w && is_transaction t && is_object objects x && is_operation k
+is_in_range objects (OpOf w t x k n) = is_worker w && is_transaction t && is_object objects x && is_operation k && is_event_amount n
+is_in_range objects (Busy w t x c u) = is_worker w && is_transaction t && is_object objects x && is_operation c && is_transaction u
+is_in_range objects (Nothing w t x c) = is_worker w && is_transaction t && is_object objects x && is_operation c
+is_in_range objects (Commit w t) = is_worker w && is_transaction t
+is_in_range objects (Abort w t) = is_worker w && is_transaction t
+is_in_range objects (Rollback w t n) = is_worker w && is_transaction t && nat_le 1 n && nat_le n 999999
 
 -- a history has no limit; an event may come at any place
 abbrev pub history_body : Body EventLine

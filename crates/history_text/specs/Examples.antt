@@ -6,11 +6,11 @@ use Rattle.type_table.specs.declared.kind.Kind.TheVariants.{Undo, Intentions}
 use Rattle.object_trait.specs.declared.event.Event.{Event}
 use Rattle.object_trait.specs.declared.event.EventKind.{EventKind}
 use Rattle.object_trait.specs.declared.event.EventKind.TheVariants as kind
-use Rattle.line_text.specs.Outcome.{fault_on, outcome_of}
+use Rattle.line_text.specs.Outcome.{fault_on}
 use Rattle.line_text.specs.declared.fault.FaultKind.{FaultKind}
-use Rattle.store_text.specs.Body.{store_rules}
+use Rattle.store_text.specs.Body.{store_outcome}
 use Rattle.store_text.specs.declared.line.Line.{Line}
-use Rattle.store_text.specs.declared.line.Line.TheVariants.{Object, Entry, End}
+use Rattle.store_text.specs.declared.line.Line.TheVariants.{Objects, Object, Entry, End}
 use Rattle.store_text.specs.declared.line.ObjectLine.{ObjectLine}
 use Rattle.history_text.specs.declared.event_line.EventLine.{EventLine}
 use Rattle.history_text.specs.declared.event_line.EventLine.TheVariants.{Begin, Op, OpOf, Busy, Nothing, Commit, Abort, Rollback}
@@ -77,12 +77,43 @@ ended text = flat_map (λ l. l ++ 10 ∷ []) text
 
 -- these lines are read as these
 abbrev pub SaysEvents : List (List ℕ) → List (Line EventLine) → Type 0
-SaysEvents text lines = outcome_of (store_rules history_body) (ended text) ≡ Ok lines
+SaysEvents text lines = store_outcome history_body (ended text) ≡ Ok lines
 
 -- a text is refused at a line
 abbrev pub RefusesHistory : List (List ℕ) → ℕ → FaultKind → Type 0
-RefusesHistory text line kind = outcome_of (store_rules history_body) (ended text) ≡ Err (fault_on line kind)
+RefusesHistory text line kind = store_outcome history_body (ended text) ≡ Err (fault_on line kind)
 
 -- the history's text with another line in place of the one at a place, counted from 0
 abbrev pub history_with : ℕ → List ℕ → List (List ℕ)
 history_with place line = slice_set two_objects_text place line
+
+-- ---- a text that says how many objects it may have
+
+-- one of three hundred
+abbrev pub sized_history_text : List (List ℕ)
+sized_history_text =
+    codes "# note"
+    ∷ codes "objects 300"
+    ∷ codes "object undo 299"
+    ∷ codes "op 0 0 299 1"
+    ∷ codes "end"
+    ∷ []
+
+-- what its lines say
+abbrev pub sized_history_lines : List (Line EventLine)
+sized_history_lines = Objects 300 ∷ Object Undo 299 ∷ Entry (Op 0 0 299 1) ∷ End ∷ []
+
+-- its text with another line in place of the one at a place, counted from 0
+abbrev pub sized_history_with : ℕ → List ℕ → List (List ℕ)
+sized_history_with place line = slice_set sized_history_text place line
+
+-- a text of one object, of two
+abbrev pub text_of_one : List (List ℕ)
+text_of_one = codes "objects 1" ∷ codes "object undo 0" ∷ codes "end" ∷ []
+
+abbrev pub text_of_two : List (List ℕ)
+text_of_two = codes "objects 1" ∷ codes "object undo 0" ∷ codes "object undo 0" ∷ codes "end" ∷ []
+
+-- an object of a type at the place 256
+abbrev pub far_objects : List ObjectLine
+far_objects = record { kind = Undo; file = 256 } ∷ record { kind = Undo; file = 0 } ∷ []

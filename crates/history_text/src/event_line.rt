@@ -1,6 +1,6 @@
 //! An event as its line says it, with numbers that may be too great for an event.
 
-ghost use Rattle.std.specs.Prelude.{◌≡◌, true};
+ghost use Rattle.std.specs.Prelude.{◌≡◌, ℕ, true};
 ghost use Rattle.history_text.specs.Events.{event_in_line, is_in_range, is_worker, is_transaction, is_object, is_operation, is_event_amount};
 
 use object_trait::{Event, EventKind};
@@ -65,28 +65,32 @@ pub enum EventLine {
 }
 
 impl EventLine {
-    /// Whether the numbers are those of an event.
+    /// Whether the numbers are those of an event, in a text that may have so many objects.
     #[inline(always)]
-    pub fn is_in_range(self) -> bool
-        ensures { result ≡ is_in_range self }
+    pub fn is_in_range(self, objects: u32) -> bool
+        ensures { result ≡ is_in_range objects self }
     {
         match self {
             EventLine::Begin { w, t } => is_worker(w) && is_transaction(t),
             EventLine::Op { w, t, x, k } => {
-                is_worker(w) && is_transaction(t) && is_object(x) && is_operation(k)
+                is_worker(w) && is_transaction(t) && is_object(objects, x) && is_operation(k)
             }
             EventLine::OpOf { w, t, x, k, n } => {
-                is_worker(w) && is_transaction(t) && is_object(x) && is_operation(k) && is_amount(n)
+                is_worker(w)
+                    && is_transaction(t)
+                    && is_object(objects, x)
+                    && is_operation(k)
+                    && is_amount(n)
             }
             EventLine::Busy { w, t, x, c, u } => {
                 is_worker(w)
                     && is_transaction(t)
-                    && is_object(x)
+                    && is_object(objects, x)
                     && is_operation(c)
                     && is_transaction(u)
             }
             EventLine::Nothing { w, t, x, c } => {
-                is_worker(w) && is_transaction(t) && is_object(x) && is_operation(c)
+                is_worker(w) && is_transaction(t) && is_object(objects, x) && is_operation(c)
             }
             EventLine::Commit { w, t } => is_worker(w) && is_transaction(t),
             EventLine::Abort { w, t } => is_worker(w) && is_transaction(t),
@@ -99,7 +103,7 @@ impl EventLine {
     /// The event.
     #[inline(always)]
     pub fn event(self) -> Event
-        requires { is_in_range self ≡ true }
+        requires { (objects : ℕ) × (is_in_range objects self ≡ true) }
         ensures { result ≡ event_in_line self }
     {
         match self {
@@ -155,10 +159,10 @@ fn is_transaction(t: u32) -> bool
     t <= 999_999
 }
 
-fn is_object(x: u32) -> bool
-    ensures { result ≡ is_object x }
+fn is_object(objects: u32, x: u32) -> bool
+    ensures { result ≡ is_object objects x }
 {
-    x <= 255
+    x < objects
 }
 
 fn is_amount(n: u64) -> bool

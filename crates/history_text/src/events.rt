@@ -52,23 +52,33 @@ impl Entries for Events {
         Vec::new(alloc)
     }
 
-    fn keep(&self, happened: &mut Vec<Event>, entry: EventLine) -> Result<(), AllocError> {
+    fn keep(
+        &self,
+        happened: &mut Vec<Event>,
+        _objects: u32,
+        entry: EventLine,
+    ) -> Result<(), AllocError> {
         // by its parts, since the borrow checker can't follow an event that is passed on whole
         let Event { worker, kind } = entry.event();
         happened.push(Event { worker, kind })?;
         Ok(())
     }
 
-    fn keep_plain<'a>(&self, happened: &mut Vec<Event>, text: &'a [u8]) -> Option<&'a [u8]> {
-        keep_plain(happened, text)
+    fn keep_plain<'a>(
+        &self,
+        happened: &mut Vec<Event>,
+        objects: u32,
+        text: &'a [u8],
+    ) -> Option<&'a [u8]> {
+        keep_plain(happened, objects, text)
     }
 
     fn are_few(&self, happened: &Vec<Event>) {
         happened.as_slice();
     }
 
-    fn is_in_range(&self, entry: EventLine) -> bool {
-        entry.is_in_range()
+    fn is_in_range(&self, objects: u32, entry: EventLine) -> bool {
+        entry.is_in_range(objects)
     }
 
     fn wants_another(&self, _entry: EventLine) -> bool {

@@ -5,6 +5,8 @@ use store_text::ObjectLine;
 /// The objects of a store and the events of its history in order.
 #[derive(Drop)]
 pub struct HistoryFile {
+    /// How many objects the text says that it may have; `None` where it doesn't say it, and may have 256.
+    pub size: Option<u32>,
     pub objects: Vec<ObjectLine>,
     pub events: Vec<Event>,
 }

@@ -1,14 +1,13 @@
 ghost use Rattle.std.specs.Prelude.{IfOk};
 ghost use Rattle.store_text.specs.Parts.{ReadsStoreText};
 ghost use Rattle.history_text.specs.Events.{history_body};
-ghost use Rattle.history_text.specs.History.{IsHistoryOf};
-ghost use Rattle.history_text.specs.Canonical.{AreInRange};
+ghost use Rattle.history_text.specs.History.{IsFitHistory, IsHistoryOf};
 
 use crate::events::Events;
 use crate::history_file::HistoryFile;
 use line_text::TextFault;
 use std::alloc::Global;
-use store_text::{Parts, StoreGrammar, read_parts};
+use store_text::{Parts, read_parts};
 
 /// The history of a text, or the text's first fault.
 ///
@@ -16,15 +15,19 @@ use store_text::{Parts, StoreGrammar, read_parts};
 /// read.
 pub fn read_history(alloc: Global, text: &[u8]) -> Result<HistoryFile, TextFault>
     ensures exact { ReadsStoreText history_body IsHistoryOf result text.now }
-    ensures fit { IfOk result (λ file. AreInRange file.objects.items file.events.items) }
+    ensures fit { IfOk result IsFitHistory }
 {
-    let grammar = StoreGrammar { entries: Events };
-    let parts = read_parts(alloc, &grammar, text)?;
+    let parts = read_parts(alloc, Events, text)?;
     let Parts {
+        size,
         max: _,
         objects,
         entries: mut events,
     } = parts;
     events.shrink_to_fit();
-    Ok(HistoryFile { objects, events })
+    Ok(HistoryFile {
+        size,
+        objects,
+        events,
+    })
 }

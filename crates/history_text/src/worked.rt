@@ -1,14 +1,14 @@
 //! Worked examples of the definitions: each function does nothing, and its contract is the example.
 #![tactic(auto)]
 
-ghost use Rattle.std.specs.Prelude.{◌≡◌, [], ◌∷◌, ◌++◌, take, drop, map, codes};
+ghost use Rattle.std.specs.Prelude.{◌≡◌, [], ◌∷◌, ◌++◌, take, drop, map, replicate, Some, None, codes};
 ghost use Rattle.type_table.specs.declared.kind.Kind.TheVariants.{Undo};
 ghost use Rattle.line_text.specs.declared.fault.FaultKind.TheVariants.{UnknownWord, BadNumber, OutOfRange, OutOfOrder, Missing, AfterEnd};
-ghost use Rattle.store_text.specs.declared.line.Line.TheVariants.{Object, End};
+ghost use Rattle.store_text.specs.declared.line.Line.TheVariants.{Objects, Object, End};
 ghost use Rattle.store_text.specs.Said.{said_objects, entries_of};
 ghost use Rattle.history_text.specs.Events.{event_in_line};
-ghost use Rattle.history_text.specs.Canonical.{canonical_text};
-ghost use Rattle.history_text.specs.Examples.{SaysEvents, RefusesHistory, ended, two_objects_text, history_lines, history_with, some_objects, some_events};
+ghost use Rattle.history_text.specs.Canonical.{canonical_size, canonical_text};
+ghost use Rattle.history_text.specs.Examples.{SaysEvents, RefusesHistory, ended, two_objects_text, history_lines, history_with, some_objects, some_events, sized_history_text, sized_history_lines, sized_history_with, text_of_one, text_of_two, far_objects};
 
 pub fn texts_say_their_lines()
     ensures history { SaysEvents two_objects_text history_lines }
@@ -40,4 +40,35 @@ pub fn faults_of_the_history()
     ensures late_object { RefusesHistory (history_with 8 (codes "object undo 0")) 9 OutOfOrder }
     ensures no_end { RefusesHistory (take 11 two_objects_text) 12 Missing }
     ensures second_end { RefusesHistory (two_objects_text ++ codes "end" ∷ []) 13 AfterEnd }
+{}
+
+/// A text may say that it may have up to 65,536 objects, by its first line that has words.
+pub fn texts_say_their_size()
+    ensures sized { SaysEvents sized_history_text sized_history_lines }
+    ensures one { SaysEvents text_of_one (Objects 1 ∷ Object Undo 0 ∷ End ∷ []) }
+    ensures most { SaysEvents
+        (codes "objects 65536" ∷ codes "object undo 65535" ∷ codes "end" ∷ [])
+        (Objects 65536 ∷ Object Undo 65535 ∷ End ∷ []) }
+{}
+
+pub fn faults_of_the_size()
+    ensures high_object { RefusesHistory (sized_history_with 3 (codes "op 0 0 300 1")) 4 OutOfRange }
+    ensures high_file { RefusesHistory (sized_history_with 2 (codes "object undo 300")) 3 OutOfRange }
+    ensures object_too_many { RefusesHistory text_of_two 3 OutOfRange }
+    ensures no_size { RefusesHistory (sized_history_with 1 (codes "objects 0")) 2 OutOfRange }
+    ensures high_size { RefusesHistory (sized_history_with 1 (codes "objects 65537")) 2 OutOfRange }
+    ensures leading_zero { RefusesHistory (sized_history_with 1 (codes "objects 0300")) 2 BadNumber }
+    ensures more_words { RefusesHistory (sized_history_with 1 (codes "objects 300 300")) 2 UnknownWord }
+    ensures second_size { RefusesHistory (sized_history_with 2 (codes "objects 300")) 3 OutOfOrder }
+    ensures late_size { RefusesHistory (history_with 1 (codes "objects 300")) 2 UnknownWord }
+    ensures size_in_a_comment { RefusesHistory (sized_history_with 1 (codes "# objects 300")) 3 OutOfRange }
+{}
+
+/// The canonical text says how many objects it may have where there are more than 256, or a type's place is above 255.
+pub fn sizes_are_said_where_they_are_needed()
+    ensures few { canonical_size some_objects ≡ None }
+    ensures most { canonical_size (replicate 256 (record { kind = Undo; file = 0 })) ≡ None }
+    ensures more { canonical_size (replicate 257 (record { kind = Undo; file = 0 })) ≡ Some 257 }
+    ensures far { canonical_size far_objects ≡ Some 257 }
+    ensures text { canonical_text far_objects [] ≡ ended (codes "objects 257" ∷ codes "object undo 256" ∷ codes "object undo 0" ∷ codes "end" ∷ []) }
 {}

@@ -3,19 +3,21 @@
 ghost use Rattle.std.specs.Prelude.{◌≡◌, ◌++◌, ◌∷◌, [], map, None};
 ghost use Rattle.line_text.specs.Spelling.{spaced, text_of};
 ghost use Rattle.outputs.specs.Out.{Puts};
+ghost use Rattle.store_text.specs.Kept.{size_lines};
 ghost use Rattle.store_text.specs.declared.line.Line.TheVariants.{End};
-ghost use Rattle.history_text.specs.Canonical.{canonical_text, event_line_words, words_of, object_line, event_line};
+ghost use Rattle.history_text.specs.Canonical.{canonical_size, canonical_text, event_line_words, words_of, object_line, event_line};
 ghost use Rattle.history_text.specs.Events.{op_event_line};
 ghost use Rattle.type_table.specs.Operation.{place_of, amount_of};
 
+use crate::size::canonical_size;
 use itoa::Buffer;
 use object_trait::{Event, EventKind};
 use outputs::{Out, OutFault, items_in_turn, put_line, texts_in_turn};
 use store_text::ObjectLine;
 use type_table::Operation;
 
-/// Writes the canonical text of a history: a line for each object and then for each event, with one
-/// space between words, and `end`. Where every number and count is in its range, what is read from
+/// Writes the canonical text of a history: how many objects it may have where that has to be said, a line for
+/// each object and then for each event, with one space between words, and `end`. Where every number and count is in its range, what is read from
 /// the text is this history (`written_is_read`). It takes no memory itself.
 ///
 /// # Errors
@@ -30,9 +32,29 @@ pub fn write_history<W: Out>(
     ensures { Puts (W.taken out.old) (W.taken out.new) (W.fault out.new) (canonical_text objects.now events.now) result }
 {
     texts_in_turn();
+    write_size(out, objects)?;
     write_objects(out, objects)?;
     write_events(out, events)?;
     put_line(out, b"end", &[])
+}
+
+/// Writes the `objects` line of these objects, where they are more than 256 or a type's place is above 255.
+///
+/// # Errors
+///
+/// The fault that stopped the output, which then took a beginning of the line.
+pub fn write_size<W: Out>(out: &mut W, objects: &[ObjectLine]) -> Result<(), OutFault>
+    requires { W.fault out.old ≡ None }
+    ensures { Puts (W.taken out.old) (W.taken out.new) (W.fault out.new) (text_of words_of (size_lines (canonical_size objects.now))) result }
+{
+    texts_in_turn();
+    match canonical_size(objects) {
+        Some(size) => {
+            let mut digits = Buffer::new();
+            put_line(out, b"objects", &[digits.format(size).as_bytes()])
+        }
+        None => Ok(()),
+    }
 }
 
 /// Writes the `object` lines.

@@ -1,5 +1,5 @@
 -- The numbers and counts of jobs that were read.
-use Rattle.std.proofs.Common.{◌≡◌, ℕ, ◌+◌, ◌≤◌, ◌==◌, Bool, true, false, List, [], ◌∷◌, ◌++◌, length, cond, refl, ap, length-append, arith}
+use Rattle.std.proofs.Common.{ℕ, ◌≤◌, ◌==◌, Bool, true, false, List, [], ◌∷◌, length, cond, refl, ap, length-append, arith}
 use Rattle.std.proofs.lemmas.List.{length-map}
 use Rattle.std.specs.Prelude.{Vec}
 use Rattle.std.specs.declared.alloc.Global.{Global}
@@ -27,10 +27,11 @@ few_jobs w (l ∷ lines) = omega (arith, length-append (job_at w l lines) (jobs_
 
 -- they are those of their parts
 pub is_fit : (workers : ℕ) (parts : Parts (Vec JobLine Global)) (lists : Vec (Vec Job Global) Global) → AreFit (jobs workers) (λ lines. lines.items) parts
-    → AreJobsOf workers parts.entries.items lists.items → AreJobsFit (record { max = parts.max; objects = parts.objects; jobs = lists })
+    → AreJobsOf workers parts.entries.items lists.items → AreJobsFit (record { size = parts.size; max = parts.max; objects = parts.objects; jobs = lists })
 is_fit workers parts lists fit are =
     let limit = fit.max refl in
     record {
+      size = fit.size;
       low = limit.0;
       high = limit.1;
       some_object = fit.some_object;

@@ -2,11 +2,11 @@
 use Rattle.std.specs.Prelude.{◌≡◌, ℕ, List, [], ◌∷◌, ◌++◌, slice_set, Ok, Err, codes}
 use Rattle.std.specs.List.{flat_map}
 use Rattle.type_table.specs.declared.kind.Kind.TheVariants.{Undo}
-use Rattle.line_text.specs.Outcome.{fault_on, outcome_of}
+use Rattle.line_text.specs.Outcome.{fault_on}
 use Rattle.line_text.specs.declared.fault.FaultKind.{FaultKind}
-use Rattle.store_text.specs.Body.{store_rules}
+use Rattle.store_text.specs.Body.{store_outcome}
 use Rattle.store_text.specs.declared.line.Line.{Line}
-use Rattle.store_text.specs.declared.line.Line.TheVariants.{Max, Object, Entry, End}
+use Rattle.store_text.specs.declared.line.Line.TheVariants.{Objects, Max, Object, Entry, End}
 use Rattle.jobs_text.specs.JobLines.{jobs}
 use Rattle.jobs_text.specs.declared.job_line.JobLine.{JobLine}
 use Rattle.jobs_text.specs.declared.job_line.JobLine.TheVariants.{Job, Do}
@@ -49,12 +49,24 @@ ended text = flat_map (λ l. l ++ 10 ∷ []) text
 
 -- for two workers these lines are read as these
 abbrev pub SaysJobs : List (List ℕ) → List (Line JobLine) → Type 0
-SaysJobs text lines = outcome_of (store_rules (jobs 2)) (ended text) ≡ Ok lines
+SaysJobs text lines = store_outcome (jobs 2) (ended text) ≡ Ok lines
 
 -- for two workers a text is refused at a line
 abbrev pub RefusesJobs : List (List ℕ) → ℕ → FaultKind → Type 0
-RefusesJobs text line kind = outcome_of (store_rules (jobs 2)) (ended text) ≡ Err (fault_on line kind)
+RefusesJobs text line kind = store_outcome (jobs 2) (ended text) ≡ Err (fault_on line kind)
 
 -- the text with another line in place of the one at a place, counted from 0
 abbrev pub jobs_with : ℕ → List ℕ → List (List ℕ)
 jobs_with place line = slice_set jobs_text place line
+
+-- the text of a job in a store that may have three hundred objects
+abbrev pub sized_jobs_text : List (List ℕ)
+sized_jobs_text = codes "objects 300" ∷ codes "max 20" ∷ codes "object undo 299" ∷ codes "job 0" ∷ codes "do 299 inc:1" ∷ codes "end" ∷ []
+
+-- what its lines say
+abbrev pub sized_jobs_lines : List (Line JobLine)
+sized_jobs_lines = Objects 300 ∷ Max 20 ∷ Object Undo 299 ∷ Entry (Job 0) ∷ Entry (Do 299 (codes "inc:1")) ∷ End ∷ []
+
+-- it with another line in place of the one at a place, counted from 0
+abbrev pub sized_jobs_with : ℕ → List ℕ → List (List ℕ)
+sized_jobs_with place line = slice_set sized_jobs_text place line

@@ -1,5 +1,5 @@
 -- The lines of the jobs.
-use Rattle.std.specs.Prelude.{ℕ, Bool, true, false, nat_lt, nat_le, List, if◌then◌else◌, Result, Ok, Err, codes}
+use Rattle.std.specs.Prelude.{ℕ, Bool, true, false, nat_lt, List, if◌then◌else◌, Result, Ok, Err, codes}
 use Rattle.line_text.specs.Shapes.{◌>>=◌, exactly, number_at, name_at, is_key}
 use Rattle.line_text.specs.declared.fault.FaultKind.{FaultKind}
 use Rattle.line_text.specs.declared.fault.FaultKind.TheVariants.{UnknownWord}
@@ -27,10 +27,10 @@ job_line_of words =
     else (if is_key words (codes "do") then do_of words
     else Err UnknownWord)
 
--- a worker is one of those that were handed in, and an object has a number of one byte
-abbrev pub is_in_range : ℕ → JobLine → Bool
-is_in_range workers (Job w) = nat_lt w workers
-is_in_range workers (Do x call) = nat_le x 255
+-- a worker is one of those that were handed in, and an object one of as many as the text may have
+abbrev pub is_in_range : ℕ → ℕ → JobLine → Bool
+is_in_range workers objects (Job w) = nat_lt w workers
+is_in_range workers objects (Do x call) = nat_lt x objects
 
 -- a call is one of the job before it
 abbrev pub wants_job : JobLine → Bool

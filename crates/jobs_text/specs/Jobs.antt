@@ -1,12 +1,13 @@
 -- The jobs that the lines of a text describe.
-use Rattle.std.specs.Prelude.{◌≡◌, ℕ, ◌<◌, ◌≤◌, ◌==◌, if◌then◌else◌, List, [], ◌∷◌, ◌++◌, length, map, slice_get, Some, Vec}
-use Rattle.type_table.specs.Limits.{most_events, most_objects}
+use Rattle.std.specs.Prelude.{◌≡◌, ℕ, ◌<◌, ◌≤◌, ◌==◌, if◌then◌else◌, List, [], ◌∷◌, ◌++◌, length, map, slice_get, Some, IfSome, Vec}
+use Rattle.type_table.specs.Limits.{most_events}
 use Rattle.std.specs.declared.alloc.Global.{Global}
 use Rattle.std.specs.List.{AllByRecursion}
+use Rattle.std.specs.Option.{option_to_list}
 use Rattle.store_text.specs.declared.line.Line.{Line}
-use Rattle.store_text.specs.declared.line.Line.TheVariants.{Max}
 use Rattle.store_text.specs.declared.line.ObjectLine.{ObjectLine}
-use Rattle.store_text.specs.Said.{said_objects, entries_of}
+use Rattle.store_text.specs.Said.{said_sizes, said_limits, said_objects, entries_of}
+use Rattle.store_text.specs.Size.{may_have, IsSize}
 use Rattle.jobs_text.specs.declared.job_line.JobLine.{JobLine}
 use Rattle.jobs_text.specs.declared.job_line.JobLine.TheVariants as line
 use Rattle.jobs_text.specs.declared.jobs_file.Job.{Job}
@@ -51,17 +52,19 @@ pub record AddJobs (old new : List (Vec Job Global)) (more : ℕ → List (List 
   pub each : (w : ℕ) (list : Vec Job Global) → slice_get new w ≡ Some list
       → (before : Vec Job Global) × (slice_get old w ≡ Some before) × (calls_in list ≡ calls_in before ++ more w)
 
--- the limit is that of the first line, the objects are those of their lines in order, and so are the jobs of each worker
+-- the size and the limit are those of their lines, the objects are those of theirs in order, and so are the jobs of each worker
 pub record IsJobsOf (workers : ℕ) (lines : List (Line JobLine)) (file : JobsFile) : Type 0 where
-  pub max : slice_get lines 0 ≡ Some (Max file.max)
+  pub size : said_sizes lines ≡ option_to_list file.size
+  pub max : said_limits lines ≡ file.max ∷ []
   pub objects : file.objects.items ≡ said_objects lines
   pub jobs : AreJobsOf workers (entries_of lines) file.jobs.items
 
 -- its numbers and counts are in their ranges
 pub record AreJobsFit (file : JobsFile) : Type 0 where
+  pub size : IfSome file.size IsSize
   pub low : 2 ≤ file.max
   pub high : file.max ≤ most_events
   pub some_object : 0 < length file.objects.items
-  pub objects_fit : length file.objects.items ≤ most_objects
-  pub files_fit : AllByRecursion (λ (o : ObjectLine). o.file ≤ 255) file.objects.items
+  pub objects_fit : length file.objects.items ≤ may_have file.size
+  pub files_fit : AllByRecursion (λ (o : ObjectLine). o.file < may_have file.size) file.objects.items
   pub jobs_fit : (w : ℕ) (list : Vec Job Global) → slice_get file.jobs.items w ≡ Some list → length list.items ≤ most_events

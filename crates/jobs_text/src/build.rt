@@ -12,7 +12,7 @@ use type_table::Name;
 
 /// The jobs of each worker in the order of their lines.
 pub fn jobs_of(alloc: Global, workers: u8, lines: &[JobLine]) -> Result<Vec<Vec<Job>>, AllocError>
-    requires { AllByRecursion (λ line. is_in_range workers line ≡ true) lines.now }
+    requires { (objects : ℕ) × AllByRecursion (λ line. is_in_range workers objects line ≡ true) lines.now }
     ensures { IfOk result (λ lists. AreJobsOf workers lines.now lists.items) }
 {
     let mut lists = no_jobs(alloc, workers)?;

@@ -42,7 +42,12 @@ impl Entries for Jobs {
         Vec::new(alloc)
     }
 
-    fn keep(&self, lines: &mut Vec<JobLine>, entry: JobLine) -> Result<(), AllocError> {
+    fn keep(
+        &self,
+        lines: &mut Vec<JobLine>,
+        _objects: u32,
+        entry: JobLine,
+    ) -> Result<(), AllocError> {
         lines.push(entry)?;
         Ok(())
     }
@@ -51,10 +56,10 @@ impl Entries for Jobs {
         lines.as_slice();
     }
 
-    fn is_in_range(&self, entry: JobLine) -> bool {
+    fn is_in_range(&self, objects: u32, entry: JobLine) -> bool {
         match entry {
             JobLine::Job(w) => w < u32::from(self.workers),
-            JobLine::Do { x, .. } => x <= 255,
+            JobLine::Do { x, .. } => x < objects,
         }
     }
 

@@ -12,6 +12,8 @@ pub struct Job {
 /// The objects of a store, the most events of its history, and the jobs of each worker in order.
 #[derive(Drop)]
 pub struct JobsFile {
+    /// How many objects the text says that it may have; `None` where it doesn't say it, and may have 256.
+    pub size: Option<u32>,
     pub max: u32,
     pub objects: Vec<ObjectLine>,
     pub jobs: Vec<Vec<Job>>,

@@ -8,7 +8,7 @@ use crate::job_lines::Jobs;
 use crate::jobs_file::JobsFile;
 use line_text::{FaultKind, TextFault};
 use std::alloc::Global;
-use store_text::{Parts, StoreGrammar, read_parts};
+use store_text::{Parts, read_parts};
 
 /// The jobs of a text for this many workers, or the text's first fault.
 ///
@@ -18,18 +18,21 @@ pub fn read_jobs(alloc: Global, text: &[u8], workers: u8) -> Result<JobsFile, Te
     ensures exact { ReadsStoreText (jobs workers) (IsJobsOf workers) result text.now }
     ensures fit { IfOk result AreJobsFit }
 {
-    let grammar = StoreGrammar {
-        entries: Jobs { workers },
-    };
-    let parts = read_parts(alloc, &grammar, text)?;
+    let parts = read_parts(alloc, Jobs { workers }, text)?;
     let Parts {
+        size,
         max,
         objects,
         entries: mut lines,
     } = parts;
     lines.shrink_to_fit();
     match jobs_of(alloc, workers, &lines) {
-        Ok(jobs) => Ok(JobsFile { max, objects, jobs }),
+        Ok(jobs) => Ok(JobsFile {
+            size,
+            max,
+            objects,
+            jobs,
+        }),
         Err(_) => Err(TextFault {
             line: 1,
             kind: FaultKind::NoMemory,

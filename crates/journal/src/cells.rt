@@ -87,6 +87,13 @@ pub fn byte(n: u32) -> Option<u8>
     u8::try_from(n).ok()
 }
 
+/// A number of 16 bits.
+pub fn two_bytes(n: u32) -> Option<u16>
+    ensures { IfSome result (λ m. n ≡ m) }
+{
+    u16::try_from(n).ok()
+}
+
 /// The key of the row at this position.
 pub fn begin_key(row: &mut Row, position: u64) -> Result<(), AllocError>
     requires { position < 2 ^ 62 }

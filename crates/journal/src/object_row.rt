@@ -4,7 +4,7 @@ ghost use Rattle.std.specs.Prelude.{◌≡◌, IfSome};
 ghost use Rattle.journal.specs.ObjectRows.{ToldObject, object_keyed, object_read_back, object_row, object_told};
 ghost use Rattle.journal.specs.TypeRow.{type_keyed, type_read_back, type_row, type_told};
 
-use crate::cells::{Cell, begin_row, byte, is_at, text_in};
+use crate::cells::{Cell, begin_row, is_at, text_in, two_bytes};
 use crate::entry::Entry;
 use sqlite_value::row::Row;
 use sqlite_value::value::ValueRef;
@@ -86,7 +86,7 @@ fn object_in(row: &Row) -> Option<ObjectLine>
     match Cell::in_column(row, FILE)? {
         Cell::Number(file) => Some(ObjectLine {
             kind,
-            file: byte(file)?,
+            file: two_bytes(file)?,
         }),
         Cell::Null => None,
     }

@@ -61,11 +61,12 @@ fn accept(
     }
 }
 
-/// The place of a line among others.
+/// The place of a line among others, looked for from the last: equal lines often follow each other.
 fn place_of(lines: &[ObjectLine], line: ObjectLine) -> Option<usize>
     ensures { IfSome result (λ place. slice_get lines.now place ≡ Some line) }
 {
-    for (place, other) in lines.iter().enumerate() {
+    for place in (0..lines.len()).rev() {
+        let other = lines[place];
         if other.kind == line.kind && other.file == line.file {
             return Some(place);
         }

@@ -8,7 +8,7 @@ use table_checker::CheckRefusal;
 #[derive(Clone, Copy, Debug, PartialEq, Eq)]
 pub enum ObjectFault {
     /// No TYPE word is at the place that object x names.
-    NoType { x: usize, place: u8 },
+    NoType { x: usize, place: u16 },
     /// Object x names a number, and is of another kind than escrow.
     NeedsEscrow { x: usize },
     /// The type of object x isn't accepted for its kind.

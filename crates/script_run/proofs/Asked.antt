@@ -19,7 +19,7 @@ use Rattle.script_run.proofs.Turns.{one_turn}
 
 -- one command whose turn is this one
 one_command : (s new : Stored) (command : Command) (memory_refused : Bool) (turn : Turn) {a b : Option (List ℕ)} {f : Option OutFault} {result : Result (Unit {0}) OutFault}
-    → (memory_refused ≡ true → (takes_memory command ≡ true) × (refusal_of s command ≡ None)) → command_turn (objects s) s.max memory_refused s.history command ≡ turn
+    → (memory_refused ≡ true → (takes_memory command ≡ true) × (refusal_of s command ≡ None)) → command_turn (objects s) s.limits memory_refused s.history command ≡ turn
     → new ≡ record s { history = turn.history } → Puts a b f (line_of turn) result → RunsCommands s (command ∷ []) a b f new result
 one_command s new command memory_refused turn {a = a} {b = b} {f = f} {result = result} right is now p =
     record {
@@ -31,7 +31,7 @@ one_command s new command memory_refused turn {a = a} {b = b} {f = f} {result = 
 -- ---- a command that is refused
 
 -- for a reason that holds
-refused_by : (s : Stored) (command : Command) (r : Refusal) → refusal_of s command ≡ Some r → command_turn (objects s) s.max false s.history command ≡ refused_turn s.history r
+refused_by : (s : Stored) (command : Command) (r : Refusal) → refusal_of s command ≡ Some r → command_turn (objects s) s.limits false s.history command ≡ refused_turn s.history r
 refused_by s command r e = ap (λ o. answered_turn s.history o (event_of (objects s) (summary s.history) command)) e
 
 -- it changes nothing
@@ -61,7 +61,7 @@ pub record IsAccepted (s : Stored) (command : Command) (new : Stored) : Type 0 w
 pub asked-accepted : CommandAppends → (s new : Stored) (command : Command) → Asks s command None new → IsAccepted s command new
 asked-accepted appends s new command (inl (reason, now)) =
     let fine : refusal_of s command ≡ None = sym reason in
-    let its = appends (objects s) s.max s.history 0 command fine in
+    let its = appends (objects s) s.limits s.history 0 command fine in
     record {
       happened = its.happened;
       event = its.is;

@@ -1,4 +1,5 @@
 -- Commands that are asked one after another.
+use Rattle.store_limits.specs.declared.limits.Limits.{Limits}
 use Rattle.std.proofs.Common.{◌≡◌, ℕ, zero, suc, ◌+◌, ◌<◌, ◌≤◌, Bool, false, List, [], ◌∷◌, ◌++◌, length, take, drop, get_or, Option, None, Result, Ok, Err, refl, sym, ap, ◌∙◌, subst, arith}
 use Rattle.std.specs.Prelude.{slice_get}
 use Rattle.std.proofs.lemmas.Bool.{false≢true}
@@ -24,30 +25,30 @@ memory_refused_both : {X : Type 0} → List X → (ℕ → Bool) → (ℕ → Bo
 memory_refused_both [] first second = second
 memory_refused_both (x ∷ xs) first second = first_and (first 0) (memory_refused_both xs (λ place. first (suc place)) second)
 
-module _ (objects : List Object) (most : ℕ) where
+module _ (objects : List Object) (limits : Limits) where
   -- the turns of two lists of commands
   turns-join : (first second : ℕ → Bool) (H : List Event) (cs ds : List Command)
-      → command_turns objects most (memory_refused_both cs first second) H (cs ++ ds)
-      ≡ command_turns objects most first H cs ++ command_turns objects most second (history_after H (command_turns objects most first H cs)) ds
+      → command_turns objects limits (memory_refused_both cs first second) H (cs ++ ds)
+      ≡ command_turns objects limits first H cs ++ command_turns objects limits second (history_after H (command_turns objects limits first H cs)) ds
   unfolding memory_refused_both first_and
   turns-join first second H [] ds = refl
   turns-join first second H (c ∷ cs) ds =
-      let turn = command_turn objects most (first 0) H c in
+      let turn = command_turn objects limits (first 0) H c in
       ap (λ l. turn ∷ l) (turns-join (λ place. first (suc place)) second turn.history cs ds)
 
   -- memory may be refused at these places of both lists
-  may_refuse_memory-join : (first second : ℕ → Bool) (H : List Event) (cs ds : List Command) → MayRefuseMemory objects most first H cs
-      → MayRefuseMemory objects most second (history_after H (command_turns objects most first H cs)) ds → MayRefuseMemory objects most (memory_refused_both cs first second) H (cs ++ ds)
+  may_refuse_memory-join : (first second : ℕ → Bool) (H : List Event) (cs ds : List Command) → MayRefuseMemory objects limits first H cs
+      → MayRefuseMemory objects limits second (history_after H (command_turns objects limits first H cs)) ds → MayRefuseMemory objects limits (memory_refused_both cs first second) H (cs ++ ds)
   unfolding memory_refused_both first_and
   may_refuse_memory-join first second H [] ds p q = q
   may_refuse_memory-join first second H (c ∷ cs) ds p q =
-      let turn = command_turn objects most (first 0) H c in
+      let turn = command_turn objects limits (first 0) H c in
       (p.0, may_refuse_memory-join (λ place. first (suc place)) second turn.history cs ds p.1 q)
 
   -- where it is refused nowhere, that is right
-  pub never-memory_refused : (H : List Event) (cs : List Command) → MayRefuseMemory objects most (λ place. false) H cs
+  pub never-memory_refused : (H : List Event) (cs : List Command) → MayRefuseMemory objects limits (λ place. false) H cs
   never-memory_refused H [] = tt
-  never-memory_refused H (c ∷ cs) = (λ memory_refused. absurd (false≢true memory_refused), never-memory_refused (command_turn objects most false H c).history cs)
+  never-memory_refused H (c ∷ cs) = (λ memory_refused. absurd (false≢true memory_refused), never-memory_refused (command_turn objects limits false H c).history cs)
 
 -- ---- commands that are asked
 
@@ -59,18 +60,18 @@ no_commands s a no_fault = record { memory_refused = λ place. false; may_refuse
 pub commands-join : (s mid new : Stored) (cs ds : List Command) {a b c : Option (List ℕ)} {f g : Option OutFault} {result : Result (Unit {0}) OutFault}
     → RunsCommands s cs a b f mid (Ok tt) → RunsCommands mid ds b c g new result → RunsCommands s (cs ++ ds) a c g new result
 commands-join s mid new cs ds {b = b} {c = c} {g = g} {result = result} p q =
-    let K = history_after s.history (command_turns (objects s) s.max p.memory_refused s.history cs) in
-    let now = history_now s mid (command_turns (objects s) s.max p.memory_refused s.history cs) p.writes in
-    let memory : MayRefuseMemory (objects s) s.max q.memory_refused K ds =
-    subst (λ (m : Stored). MayRefuseMemory (objects m) m.max q.memory_refused m.history ds) now q.may_refuse_memory
+    let K = history_after s.history (command_turns (objects s) s.limits p.memory_refused s.history cs) in
+    let now = history_now s mid (command_turns (objects s) s.limits p.memory_refused s.history cs) p.writes in
+    let memory : MayRefuseMemory (objects s) s.limits q.memory_refused K ds =
+    subst (λ (m : Stored). MayRefuseMemory (objects m) m.limits q.memory_refused m.history ds) now q.may_refuse_memory
     in
-    let written : Writes mid (command_turns (objects s) s.max q.memory_refused K ds) b c g new result =
-    subst (λ (m : Stored). Writes mid (command_turns (objects m) m.max q.memory_refused m.history ds) b c g new result) now q.writes
+    let written : Writes mid (command_turns (objects s) s.limits q.memory_refused K ds) b c g new result =
+    subst (λ (m : Stored). Writes mid (command_turns (objects m) m.limits q.memory_refused m.history ds) b c g new result) now q.writes
     in
     record {
       memory_refused = memory_refused_both cs p.memory_refused q.memory_refused;
-      may_refuse_memory = may_refuse_memory-join (objects s) s.max p.memory_refused q.memory_refused s.history cs ds p.may_refuse_memory memory;
-      writes = rw (turns-join (objects s) s.max p.memory_refused q.memory_refused s.history cs ds) (join s mid new _ _ p.writes written);
+      may_refuse_memory = may_refuse_memory-join (objects s) s.limits p.memory_refused q.memory_refused s.history cs ds p.may_refuse_memory memory;
+      writes = rw (turns-join (objects s) s.limits p.memory_refused q.memory_refused s.history cs ds) (join s mid new _ _ p.writes written);
     }
 
 -- some at which the output stopped, and nothing of what would follow
@@ -79,8 +80,8 @@ pub commands-stop : (s new : Stored) (cs ds : List Command) {a b : Option (List 
 commands-stop s new cs ds p =
     record {
       memory_refused = memory_refused_both cs p.memory_refused (λ place. false);
-      may_refuse_memory = may_refuse_memory-join (objects s) s.max p.memory_refused (λ place. false) s.history cs ds p.may_refuse_memory (never-memory_refused (objects s) s.max _ ds);
-      writes = rw (turns-join (objects s) s.max p.memory_refused (λ place. false) s.history cs ds) (stop s new _ _ p.writes);
+      may_refuse_memory = may_refuse_memory-join (objects s) s.limits p.memory_refused (λ place. false) s.history cs ds p.may_refuse_memory (never-memory_refused (objects s) s.limits _ ds);
+      writes = rw (turns-join (objects s) s.limits p.memory_refused (λ place. false) s.history cs ds) (stop s new _ _ p.writes);
     }
 
 -- those before a place, and the one there

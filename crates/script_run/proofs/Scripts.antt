@@ -36,7 +36,7 @@ pub script-objects : (s : Stored) (script : Script) {a b : Option (List ℕ)} {f
 script-objects s script p =
     record {
       memory_refused = λ place. false;
-      may_refuse_memory = never-memory_refused (objects s) s.max s.history script.commands;
+      may_refuse_memory = never-memory_refused (objects s) s.limits s.history script.commands;
       kept = [];
       are_kept = none_kept s;
       all_kept = tt;
@@ -63,7 +63,7 @@ pub script-last : (s mid new : Stored) (script : Script) (kept : List ℕ) {a b 
     → Writes mid (last_turns mid.history kept) c d h new result → AreKept new kept → OnOk result (length kept ≡ length new.types)
     → RunsScript s script a d h new result
 script-last s mid new script kept {c = c} {d = d} {h = h} {result = result} front p behind are all =
-    let asked = command_turns (objects s) s.max p.memory_refused s.history script.commands in
+    let asked = command_turns (objects s) s.limits p.memory_refused s.history script.commands in
     let rest = subst (λ K. Writes mid (last_turns K kept) c d h new result) (history_is s mid asked p.writes) behind in
     record {
       memory_refused = p.memory_refused;

@@ -1,4 +1,5 @@
 -- The lines of a script that aren't comments: the canonical text of its history.
+use Rattle.store_limits.specs.declared.limits.Limits.{Limits}
 use Rattle.std.proofs.Common.{◌≡◌, ℕ, suc, Bool, true, false, List, [], ◌∷◌, ◌++◌, map, filter, cond, Option, Some, None, refl, sym, ap, ◌∙◌, append_assoc, append-nil}
 use Rattle.std.proofs.lemmas.Grind.{flat_map-append}
 use Rattle.std.proofs.lemmas.List.{map-append}
@@ -16,11 +17,12 @@ use Rattle.serial_order.specs.Replay.{refusal, event_of}
 use Rattle.serial_order.specs.declared.command.Command.{Command}
 use Rattle.serial_order.specs.declared.refusal.Refusal.{Refusal}
 use Rattle.serial_order.specs.declared.refusal.Refusal.TheVariants.{NoMemory}
+use Rattle.store_text.specs.Kept.{size_lines}
 use Rattle.store_text.specs.declared.line.Line.TheVariants.{End, Entry}
 use Rattle.store_text.specs.declared.line.ObjectLine.{ObjectLine}
-use Rattle.history_text.specs.Canonical.{words_of, object_line, event_line, canonical_text}
+use Rattle.history_text.specs.Canonical.{words_of, object_line, event_line, canonical_size, canonical_text}
 use Rattle.history_text.specs.Events.{op_event_line}
-use Rattle.script_run.specs.Turns.{Turn, line_of, text_of_turns, history_after, by_script, event_turn, refused_turn, answered_turn, command_turn, object_turn, object_turns, command_turns, abort_turns, closing_turns, open_in, end_turn, kept_turns}
+use Rattle.script_run.specs.Turns.{Turn, line_of, text_of_turns, history_after, by_script, event_turn, refused_turn, answered_turn, command_turn, object_turn, size_turn, object_turns, command_turns, abort_turns, closing_turns, open_in, end_turn, kept_turns}
 use Rattle.script_run.specs.Laws.{turn_tells, TextTellsHistory}
 use Rattle.script_run.proofs.Turns.{history_after-append, text_of-append}
 
@@ -85,23 +87,23 @@ refused-told H r = record { happened = []; history = sym (append-nil H); text = 
 
 -- ---- commands
 
-module _ (appends : CommandAppends) (objects : List Object) (most : ℕ) where
-  answered-told : (H : List Event) (command : Command) (reason : Option Refusal) → refusal objects most H command ≡ reason
+module _ (appends : CommandAppends) (objects : List Object) (limits : Limits) where
+  answered-told : (H : List Event) (command : Command) (reason : Option Refusal) → refusal objects limits H command ≡ reason
       → AreTold H (answered_turn H reason (event_of objects (summary H) command) ∷ [])
   answered-told H command (Some r) e = refused-told H r
   answered-told H command None e =
-      let its = appends objects most H 0 command e in
+      let its = appends objects limits H 0 command e in
       rw its.is (event-told H its.happened)
 
-  command-told : (memory_refused : Bool) (H : List Event) (command : Command) → AreTold H (command_turn objects most memory_refused H command ∷ [])
+  command-told : (memory_refused : Bool) (H : List Event) (command : Command) → AreTold H (command_turn objects limits memory_refused H command ∷ [])
   command-told true H command = refused-told H NoMemory
-  command-told false H command = answered-told H command (refusal objects most H command) refl
+  command-told false H command = answered-told H command (refusal objects limits H command) refl
 
-  commands-told : (memory_refused : ℕ → Bool) (H : List Event) (commands : List Command) → AreTold H (command_turns objects most memory_refused H commands)
+  commands-told : (memory_refused : ℕ → Bool) (H : List Event) (commands : List Command) → AreTold H (command_turns objects limits memory_refused H commands)
   commands-told memory_refused H [] = none_told H
   commands-told memory_refused H (c ∷ commands) =
-      let turn = command_turn objects most (memory_refused 0) H c in
-      told-join H (turn ∷ []) (command_turns objects most (λ place. memory_refused (suc place)) turn.history commands) (command-told (memory_refused 0) H c)
+      let turn = command_turn objects limits (memory_refused 0) H c in
+      told-join H (turn ∷ []) (command_turns objects limits (λ place. memory_refused (suc place)) turn.history commands) (command-told (memory_refused 0) H c)
       (commands-told (λ place. memory_refused (suc place)) turn.history commands)
 
 -- ---- what comes after them
@@ -122,13 +124,34 @@ kept-stays H x (s ∷ kept) = kept-stays H (suc x) kept
 
 -- ---- the whole
 
-objects-told : (H : List Event) (lines : List ObjectLine) → text_of_turns (filter turn_tells (object_turns H lines)) ≡ text_of words_of (map object_line lines)
-objects-told H [] = refl
-objects-told H (o ∷ lines) = ap (λ l. line_of (object_turn H o) ++ l) (objects-told H lines)
+size-told : (H : List Event) (size : Option ℕ) → text_of_turns (filter turn_tells (map (size_turn H) (size_lines size))) ≡ text_of words_of (size_lines size)
+size-told H None = refl
+size-told H (Some n) = refl
+
+each-told : (H : List Event) (lines : List ObjectLine) → text_of_turns (filter turn_tells (map (object_turn H) lines)) ≡ text_of words_of (map object_line lines)
+each-told H [] = refl
+each-told H (o ∷ lines) = ap (λ l. line_of (object_turn H o) ++ l) (each-told H lines)
+
+objects-told : (H : List Event) (lines : List ObjectLine)
+    → text_of_turns (filter turn_tells (object_turns H lines)) ≡ text_of words_of (size_lines (canonical_size lines)) ++ text_of words_of (map object_line lines)
+objects-told H lines =
+    let size = canonical_size lines in
+    tells-append (map (size_turn H) (size_lines size)) (map (object_turn H) lines)
+    ∙ ap (λ l. l ++ text_of_turns (filter turn_tells (map (object_turn H) lines))) (size-told H size)
+    ∙ ap (λ l. text_of words_of (size_lines size) ++ l) (each-told H lines)
+
+size-stays : (H : List Event) (size : Option ℕ) → history_after H (map (size_turn H) (size_lines size)) ≡ H
+size-stays H None = refl
+size-stays H (Some n) = refl
+
+each-stays : (H : List Event) (lines : List ObjectLine) → history_after H (map (object_turn H) lines) ≡ H
+each-stays H [] = refl
+each-stays H (o ∷ lines) = each-stays H lines
 
 pub objects-stay : (H : List Event) (lines : List ObjectLine) → history_after H (object_turns H lines) ≡ H
-objects-stay H [] = refl
-objects-stay H (o ∷ lines) = objects-stay H lines
+objects-stay H lines =
+    let size = map (size_turn H) (size_lines (canonical_size lines)) in
+    history_after-append H size (map (object_turn H) lines) ∙ ap (λ J. history_after J (map (object_turn H) lines)) (size-stays H (canonical_size lines)) ∙ each-stays H lines
 
 -- `end`, and after it nothing but comments
 end-told : (H : List Event) (kept : List ℕ) → text_of_turns (filter turn_tells (end_turn H ∷ kept_turns H 0 kept)) ≡ text_of words_of (End ∷ [])
@@ -136,21 +159,25 @@ end-told H kept = ap (λ l. line_of (end_turn H) ++ l) (kept-told H 0 kept)
 
 -- the canonical text by its parts
 canonical-parts : (lines : List ObjectLine) (H : List Event)
-    → canonical_text lines H ≡ text_of words_of (map object_line lines) ++ (event_text H ++ text_of words_of (End ∷ []))
+    → canonical_text lines H ≡ (text_of words_of (size_lines (canonical_size lines)) ++ text_of words_of (map object_line lines)) ++ (event_text H ++ text_of words_of (End ∷ []))
 canonical-parts lines H =
-    flat_map-append _ (map object_line lines) (map event_line H ++ End ∷ [])
-    ∙ ap (λ l. text_of words_of (map object_line lines) ++ l) (flat_map-append _ (map event_line H) (End ∷ []))
+    let size = text_of words_of (size_lines (canonical_size lines)) in
+    flat_map-append _ (size_lines (canonical_size lines)) (map object_line lines ++ (map event_line H ++ End ∷ []))
+    ∙ ap (λ l. size ++ l)
+    (flat_map-append _ (map object_line lines) (map event_line H ++ End ∷ [])
+    ∙ ap (λ l. text_of words_of (map object_line lines) ++ l) (flat_map-append _ (map event_line H) (End ∷ [])))
+    ∙ sym (append_assoc size (text_of words_of (map object_line lines)) (event_text H ++ text_of words_of (End ∷ [])))
 
 pub text-tells : CommandAppends → TextTellsHistory
-text-tells appends = λ objects most memory_refused kept lines commands.
+text-tells appends = λ objects limits memory_refused kept lines commands.
     let first = object_turns [] lines in
-    let asked = command_turns objects most memory_refused [] commands in
+    let asked = command_turns objects limits memory_refused [] commands in
     let K = history_after [] asked in
     let closing = closing_turns K in
     let closed = history_after K closing in
     let behind = end_turn closed ∷ kept_turns closed 0 kept in
-    let both : AreTold [] (asked ++ closing) = told-join [] asked closing (commands-told appends objects most memory_refused [] commands) (aborts-told K (open_in K)) in
-    let lines_text = text_of words_of (map object_line lines) in
+    let both : AreTold [] (asked ++ closing) = told-join [] asked closing (commands-told appends objects limits memory_refused [] commands) (aborts-told K (open_in K)) in
+    let lines_text = text_of words_of (size_lines (canonical_size lines)) ++ text_of words_of (map object_line lines) in
     let end_text = text_of words_of (End ∷ []) in
     let history : history_after [] (first ++ (asked ++ (closing ++ behind))) ≡ both.happened =
     history_after-append [] first (asked ++ (closing ++ behind)) ∙ ap (λ J. history_after J (asked ++ (closing ++ behind))) (objects-stay [] lines)

@@ -7,6 +7,7 @@ use Rattle.serial_order.specs.Examples.{undo_counter}
 use Rattle.serial_order.specs.declared.command.Command.{Command}
 use Rattle.serial_order.specs.declared.command.Command.TheVariants.{Begin, Call, Commit, Abort}
 use Rattle.store_text.specs.declared.line.ObjectLine.{ObjectLine}
+use Rattle.store_limits.specs.Standard.{standard_with}
 use Rattle.script_run.specs.Turns.{text_of_turns, script_turns}
 
 -- one counter, update in place
@@ -23,7 +24,7 @@ keeps_others =
 
 -- the text of that script with a limit of events, where memory is refused at some places and the counter keeps a state
 abbrev pub counter_run_text : ℕ → (ℕ → Bool) → ℕ → List ℕ
-counter_run_text most memory_refused state = text_of_turns (script_turns one_counter most memory_refused (state ∷ []) [] one_line keeps_others)
+counter_run_text most memory_refused state = text_of_turns (script_turns one_counter (standard_with most) memory_refused (state ∷ []) [] one_line keeps_others)
 
 -- memory is refused nowhere, or at one place
 abbrev pub never_refused : ℕ → Bool

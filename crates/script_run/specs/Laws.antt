@@ -1,11 +1,11 @@
 -- Statements of laws of a script's turns.
+use Rattle.store_limits.specs.declared.limits.Limits.{Limits}
 use Rattle.std.specs.Prelude.{◌≡◌, ℕ, suc, ◌<◌, ◌≤◌, ◌^◌, List, [], ◌++◌, length, map, filter, take, Bool, false, true, Some, IfSome, Ok, slice_get}
 use Rattle.std.specs.List.{AllByRecursion}
-use Rattle.type_table.specs.Limits.{most_events, most_objects}
+use Rattle.type_table.specs.Limits.{most_events}
 use Rattle.type_table.specs.Operation.{amount_of, place_of}
 use Rattle.type_table.specs.Table.{Table, has_op}
 use Rattle.line_text.specs.Comments.{IsComment, lines_text, tells}
-use Rattle.line_text.specs.Outcome.{outcome_of}
 use Rattle.line_text.specs.Spelling.{spaced}
 use Rattle.object_trait.specs.Object.{Object}
 use Rattle.object_trait.specs.declared.event.Event.{Event}
@@ -14,8 +14,9 @@ use Rattle.serial_order.specs.History.{summary, is_open}
 use Rattle.serial_order.specs.Machine.{IsRun}
 use Rattle.serial_order.specs.Replay.{replay}
 use Rattle.serial_order.specs.declared.command.Command.{Command}
+use Rattle.store_text.specs.Size.{most_size}
 use Rattle.store_text.specs.declared.line.ObjectLine.{ObjectLine}
-use Rattle.store_text.specs.Body.{store_rules}
+use Rattle.store_text.specs.Body.{store_outcome}
 use Rattle.history_text.specs.Canonical.{AreInRange, canonical_lines, canonical_text}
 use Rattle.history_text.specs.Events.{history_body, is_event_amount, is_operation}
 use Rattle.script_run.specs.Turns.{Turn, text_of_turns, history_after, command_turns, closing_turns, open_in, by_script, script_turns}
@@ -23,15 +24,15 @@ use Rattle.script_run.specs.Turns.{Turn, text_of_turns, history_after, command_t
 -- the history after the commands' turns is that of their replay
 abbrev pub AllReplayed : Type 0
 AllReplayed =
-    (objects : List Object) (most : ℕ) (memory_refused : ℕ → Bool) (H : List Event) (commands : List Command)
-    → history_after H (command_turns objects most memory_refused H commands) ≡ replay objects most memory_refused H (map (λ command. (0, command)) commands)
+    (objects : List Object) (limits : Limits) (memory_refused : ℕ → Bool) (H : List Event) (commands : List Command)
+    → history_after H (command_turns objects limits memory_refused H commands) ≡ replay objects limits memory_refused H (map (λ command. (0, command)) commands)
 
 -- and that of each of them is the replay of the commands up to its own
 abbrev pub EachReplayed : Type 0
 EachReplayed =
-    (objects : List Object) (most : ℕ) (memory_refused : ℕ → Bool) (H : List Event) (commands : List Command) (i : ℕ) (turn : Turn)
-    → slice_get (command_turns objects most memory_refused H commands) i ≡ Some turn
-    → turn.history ≡ replay objects most memory_refused H (map (λ command. (0, command)) (take (suc i) commands))
+    (objects : List Object) (limits : Limits) (memory_refused : ℕ → Bool) (H : List Event) (commands : List Command) (i : ℕ) (turn : Turn)
+    → slice_get (command_turns objects limits memory_refused H commands) i ≡ Some turn
+    → turn.history ≡ replay objects limits memory_refused H (map (λ command. (0, command)) (take (suc i) commands))
 
 -- the closing turns append an abort of each open transaction, in ascending order
 abbrev pub AllAborted : Type 0
@@ -55,24 +56,24 @@ turn_tells turn = tells (spaced turn.words)
 -- a script's lines but for the comments are the canonical text of its history
 abbrev pub TextTellsHistory : Type 0
 TextTellsHistory =
-    (objects : List Object) (most : ℕ) (memory_refused : ℕ → Bool) (kept : List ℕ) (lines : List ObjectLine) (commands : List Command)
-    → let turns = script_turns objects most memory_refused kept [] lines commands in
+    (objects : List Object) (limits : Limits) (memory_refused : ℕ → Bool) (kept : List ℕ) (lines : List ObjectLine) (commands : List Command)
+    → let turns = script_turns objects limits memory_refused kept [] lines commands in
     text_of_turns (filter turn_tells turns) ≡ canonical_text lines (history_after [] turns)
 
 -- a script's lines, and comments after them, are read as its history, where that is in range and kept states have 32 bits
 abbrev pub ScriptIsRead : Type 0
 ScriptIsRead =
-    (objects : List Object) (most : ℕ) (memory_refused : ℕ → Bool) (kept : List ℕ) (lines : List ObjectLine) (commands : List Command) (behind : List (List ℕ))
-    → let turns = script_turns objects most memory_refused kept [] lines commands in
+    (objects : List Object) (limits : Limits) (memory_refused : ℕ → Bool) (kept : List ℕ) (lines : List ObjectLine) (commands : List Command) (behind : List (List ℕ))
+    → let turns = script_turns objects limits memory_refused kept [] lines commands in
     let H = history_after [] turns in
     AreInRange lines H → length kept < 10 ^ 7 → AllByRecursion (λ state. state < 2 ^ 32) kept → AllByRecursion IsComment behind
-    → outcome_of (store_rules history_body) (text_of_turns turns ++ lines_text behind) ≡ Ok (canonical_lines lines H)
+    → store_outcome history_body (text_of_turns turns ++ lines_text behind) ≡ Ok (canonical_lines lines H)
 
 -- its events are worker 0's
 abbrev pub ScriptIsByOne : Type 0
 ScriptIsByOne =
-    (objects : List Object) (most : ℕ) (memory_refused : ℕ → Bool) (kept : List ℕ) (lines : List ObjectLine) (commands : List Command)
-    → AllByRecursion (λ (e : Event). e.worker ≡ 0) (history_after [] (script_turns objects most memory_refused kept [] lines commands))
+    (objects : List Object) (limits : Limits) (memory_refused : ℕ → Bool) (kept : List ℕ) (lines : List ObjectLine) (commands : List Command)
+    → AllByRecursion (λ (e : Event). e.worker ≡ 0) (history_after [] (script_turns objects limits memory_refused kept [] lines commands))
 
 -- an operation's place, and its amount where it has one, are in the ranges of a history's text
 pub record IsOpInRange (k : ℕ) : Type 0 where
@@ -90,8 +91,8 @@ pub record MayBeTold (lines : List ObjectLine) (objects : List Object) (H : List
   pub ops_fit : (x : ℕ) (o : Object) → slice_get objects x ≡ Some o → AreOpsInRange o.table
   pub as_many : length objects ≡ length lines
   pub some_object : 0 < length lines
-  pub objects_fit : length lines ≤ most_objects
-  pub files_fit : AllByRecursion (λ (o : ObjectLine). o.file ≤ 255) lines
+  pub objects_fit : length lines ≤ most_size
+  pub files_fit : AllByRecursion (λ (o : ObjectLine). o.file < most_size) lines
   pub events_fit : length H ≤ most_events
   pub workers_fit : AllByRecursion (λ (e : Event). e.worker ≤ 255) H
 

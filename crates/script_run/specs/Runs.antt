@@ -1,4 +1,5 @@
 -- What is written, and what is left of the store, by a run that an output may stop.
+use Rattle.store_limits.specs.declared.limits.Limits.{Limits}
 use Rattle.std.specs.Prelude.{◌≡◌, ℕ, suc, ◌<◌, List, [], ◌∷◌, ◌++◌, length, take, Bool, true, false, Option, Some, None, Result, Ok, Err, OnOk, slice_get, ◌⊎◌}
 use Rattle.std.specs.Io.KnownBytes.{Appends}
 use Rattle.std.specs.Result.{result_err}
@@ -61,17 +62,17 @@ Asks old command reason new =
     ⊎ ((takes_memory command ≡ true) × (refusal_of old command ≡ None) × (reason ≡ Some NoMemory) × (new ≡ old))
 
 -- memory is refused only to commands that may take it and aren't refused for another reason
-abbrev pub MayRefuseMemory : List Object → ℕ → (ℕ → Bool) → List Event → List Command → Type 0
-MayRefuseMemory objects most memory_refused H [] = Unit {0}
-MayRefuseMemory objects most memory_refused H (command ∷ commands) =
-    (memory_refused 0 ≡ true → (takes_memory command ≡ true) × (refusal objects most H command ≡ None))
-    × MayRefuseMemory objects most (λ place. memory_refused (suc place)) (command_turn objects most (memory_refused 0) H command).history commands
+abbrev pub MayRefuseMemory : List Object → Limits → (ℕ → Bool) → List Event → List Command → Type 0
+MayRefuseMemory objects limits memory_refused H [] = Unit {0}
+MayRefuseMemory objects limits memory_refused H (command ∷ commands) =
+    (memory_refused 0 ≡ true → (takes_memory command ≡ true) × (refusal objects limits H command ≡ None))
+    × MayRefuseMemory objects limits (λ place. memory_refused (suc place)) (command_turn objects limits (memory_refused 0) H command).history commands
 
 -- commands are asked one after another, and their lines are written
 pub record RunsCommands (old : Stored) (commands : List Command) (before after : Option (List ℕ)) (fault : Option OutFault) (new : Stored) (result : Result (Unit {0}) OutFault) : Type 0 where
   pub memory_refused : ℕ → Bool
-  pub may_refuse_memory : MayRefuseMemory (objects old) old.max memory_refused old.history commands
-  pub writes : Writes old (command_turns (objects old) old.max memory_refused old.history commands) before after fault new result
+  pub may_refuse_memory : MayRefuseMemory (objects old) old.limits memory_refused old.history commands
+  pub writes : Writes old (command_turns (objects old) old.limits memory_refused old.history commands) before after fault new result
 
 -- ---- kept states
 
@@ -98,8 +99,8 @@ pub record WritesKept (s : Stored) (before after : Option (List ℕ)) (fault : O
 -- back: of all objects at `Ok`, else of those to which it came
 pub record RunsScript (old : Stored) (script : Script) (before after : Option (List ℕ)) (fault : Option OutFault) (new : Stored) (result : Result (Unit {0}) OutFault) : Type 0 where
   pub memory_refused : ℕ → Bool
-  pub may_refuse_memory : MayRefuseMemory (objects old) old.max memory_refused old.history script.commands
+  pub may_refuse_memory : MayRefuseMemory (objects old) old.limits memory_refused old.history script.commands
   pub kept : List ℕ
   pub are_kept : AreKept new kept
   pub all_kept : OnOk result (length kept ≡ length new.types)
-  pub writes : Writes old (script_turns (objects old) old.max memory_refused kept old.history script.objects.items script.commands) before after fault new result
+  pub writes : Writes old (script_turns (objects old) old.limits memory_refused kept old.history script.objects.items script.commands) before after fault new result

@@ -1,4 +1,5 @@
 -- The text of a running script, turn by turn: each line, and the history that is there when it is written.
+use Rattle.store_limits.specs.declared.limits.Limits.{Limits}
 use Rattle.std.specs.Prelude.{ℕ, suc, List, [], ◌∷◌, ◌++◌, map, filter, Bool, Option, Some, None, if◌then◌else◌}
 use Rattle.std.specs.List.{flat_map, range_with_len}
 use Rattle.line_text.specs.Spelling.{spaced}
@@ -11,7 +12,11 @@ use Rattle.serial_order.specs.Replay.{refusal, event_of}
 use Rattle.serial_order.specs.declared.command.Command.{Command}
 use Rattle.serial_order.specs.declared.refusal.Refusal.{Refusal}
 use Rattle.serial_order.specs.declared.refusal.Refusal.TheVariants.{NoMemory}
+use Rattle.store_text.specs.Kept.{size_lines}
+use Rattle.store_text.specs.declared.line.Line.{Line}
 use Rattle.store_text.specs.declared.line.ObjectLine.{ObjectLine}
+use Rattle.history_text.specs.Canonical.{canonical_size, words_of}
+use Rattle.history_text.specs.declared.event_line.EventLine.{EventLine}
 use Rattle.script_run.specs.Lines.{object_words, event_turn_words, end_words, refused_words, kept_words}
 
 -- ---- a turn
@@ -59,10 +64,10 @@ answered_turn H (Some r) happened = refused_turn H r
 answered_turn H None happened = accepted_turn H happened
 
 -- the turn of a command, at which memory is refused or isn't
-abbrev pub command_turn : List Object → ℕ → Bool → List Event → Command → Turn
-command_turn objects most memory_refused H command =
+abbrev pub command_turn : List Object → Limits → Bool → List Event → Command → Turn
+command_turn objects limits memory_refused H command =
     if memory_refused then refused_turn H NoMemory
-    else answered_turn H (refusal objects most H command) (event_of objects (summary H) command)
+    else answered_turn H (refusal objects limits H command) (event_of objects (summary H) command)
 
 -- ---- all of them
 
@@ -70,16 +75,21 @@ command_turn objects most memory_refused H command =
 abbrev pub object_turn : List Event → ObjectLine → Turn
 object_turn H o = record { words = object_words o; history = H }
 
+-- that of how many there may be
+abbrev pub size_turn : List Event → Line EventLine → Turn
+size_turn H line = record { words = words_of line; history = H }
+
+-- all of them, where there have to be more than a text may have by itself after the line that says so
 abbrev pub object_turns : List Event → List ObjectLine → List Turn
-object_turns H objects = map (object_turn H) objects
+object_turns H objects = map (size_turn H) (size_lines (canonical_size objects)) ++ map (object_turn H) objects
 
 -- the commands one after another, each from the history of the one before. `memory_refused` says the places, counted from these commands'
 -- first, at which memory is refused
-abbrev pub command_turns : List Object → ℕ → (ℕ → Bool) → List Event → List Command → List Turn
-command_turns objects most memory_refused H [] = []
-command_turns objects most memory_refused H (command ∷ commands) =
-    let turn = command_turn objects most (memory_refused 0) H command in
-    turn ∷ command_turns objects most (λ place. memory_refused (suc place)) turn.history commands
+abbrev pub command_turns : List Object → Limits → (ℕ → Bool) → List Event → List Command → List Turn
+command_turns objects limits memory_refused H [] = []
+command_turns objects limits memory_refused H (command ∷ commands) =
+    let turn = command_turn objects limits (memory_refused 0) H command in
+    turn ∷ command_turns objects limits (λ place. memory_refused (suc place)) turn.history commands
 
 -- the open transactions in ascending order
 abbrev pub open_in : List Event → List ℕ
@@ -113,7 +123,7 @@ last_turns H kept =
     closing_turns H ++ end_turn closed ∷ kept_turns closed 0 kept
 
 -- a script of these objects and commands, from the history H on
-abbrev pub script_turns : List Object → ℕ → (ℕ → Bool) → List ℕ → List Event → List ObjectLine → List Command → List Turn
-script_turns objects most memory_refused kept H lines commands =
-    let asked = command_turns objects most memory_refused H commands in
+abbrev pub script_turns : List Object → Limits → (ℕ → Bool) → List ℕ → List Event → List ObjectLine → List Command → List Turn
+script_turns objects limits memory_refused kept H lines commands =
+    let asked = command_turns objects limits memory_refused H commands in
     object_turns H lines ++ (asked ++ last_turns (history_after H asked) kept)

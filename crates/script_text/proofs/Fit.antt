@@ -7,10 +7,11 @@ use Rattle.script_text.specs.Commands.{commands}
 use Rattle.script_text.specs.Script.{IsFit}
 
 -- they are those of its parts
-pub is_fit : (parts : Parts (List Command)) (cs : List Command) → cs ≡ parts.entries → AreFit commands (λ entries. entries) parts → IsFit (record { max = parts.max; objects = parts.objects; commands = cs })
+pub is_fit : (parts : Parts (List Command)) (cs : List Command) → cs ≡ parts.entries → AreFit commands (λ entries. entries) parts → IsFit (record { size = parts.size; max = parts.max; objects = parts.objects; commands = cs })
 is_fit parts cs same fit =
     let limit = fit.max refl in
     record {
+      size = fit.size;
       low = limit.0;
       high = limit.1;
       some_object = fit.some_object;

@@ -54,6 +54,6 @@ abbrev pub commands : Body Command
 commands = record {
   has_max = true;
   entry_of = command_of;
-  is_in_range = λ x. true;
+  is_in_range = λ objects x. true;
   wants_another = λ x. false;
 }

@@ -2,13 +2,13 @@
 use Rattle.std.specs.Prelude.{◌≡◌, ℕ, List, [], ◌∷◌, ◌++◌, slice_set, Ok, Err, codes}
 use Rattle.std.specs.List.{flat_map}
 use Rattle.type_table.specs.declared.kind.Kind.TheVariants.{Undo, Intentions}
-use Rattle.line_text.specs.Outcome.{fault_on, outcome_of}
+use Rattle.line_text.specs.Outcome.{fault_on}
 use Rattle.line_text.specs.declared.fault.FaultKind.{FaultKind}
 use Rattle.serial_order.specs.declared.command.Command.{Command}
 use Rattle.serial_order.specs.declared.command.Command.TheVariants.{Begin, Call, Commit, Abort, Rollback}
-use Rattle.store_text.specs.Body.{store_rules}
+use Rattle.store_text.specs.Body.{store_outcome}
 use Rattle.store_text.specs.declared.line.Line.{Line}
-use Rattle.store_text.specs.declared.line.Line.TheVariants.{Max, Object, Entry, End}
+use Rattle.store_text.specs.declared.line.Line.TheVariants.{Objects, Max, Object, Entry, End}
 use Rattle.script_text.specs.Commands.{commands}
 
 -- a script over two objects
@@ -45,12 +45,24 @@ ended text = flat_map (λ l. l ++ 10 ∷ []) text
 
 -- these lines are read as these
 abbrev pub SaysCommands : List (List ℕ) → List (Line Command) → Type 0
-SaysCommands text lines = outcome_of (store_rules commands) (ended text) ≡ Ok lines
+SaysCommands text lines = store_outcome commands (ended text) ≡ Ok lines
 
 -- a text is refused at a line
 abbrev pub RefusesScript : List (List ℕ) → ℕ → FaultKind → Type 0
-RefusesScript text line kind = outcome_of (store_rules commands) (ended text) ≡ Err (fault_on line kind)
+RefusesScript text line kind = store_outcome commands (ended text) ≡ Err (fault_on line kind)
 
 -- the script's text with another line in place of the one at a place, counted from 0
 abbrev pub script_with : ℕ → List ℕ → List (List ℕ)
 script_with place line = slice_set script_text place line
+
+-- a script at a store that may have three hundred objects
+abbrev pub sized_script_text : List (List ℕ)
+sized_script_text = codes "objects 300" ∷ codes "max 20" ∷ codes "object undo 299" ∷ codes "begin" ∷ codes "end" ∷ []
+
+-- what its lines say
+abbrev pub sized_script_lines : List (Line Command)
+sized_script_lines = Objects 300 ∷ Max 20 ∷ Object Undo 299 ∷ Entry Begin ∷ End ∷ []
+
+-- it with another line in place of the one at a place, counted from 0
+abbrev pub sized_script_with : ℕ → List ℕ → List (List ℕ)
+sized_script_with place line = slice_set sized_script_text place line

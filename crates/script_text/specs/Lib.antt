@@ -1,4 +1,5 @@
 pub mod Commands
+pub mod Plain
 pub mod Kept
 pub mod Script
 pub mod Examples

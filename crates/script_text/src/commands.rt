@@ -49,11 +49,21 @@ impl Entries for Commands {
         CommandList::new(alloc)
     }
 
-    fn keep(&self, commands: &mut CommandList, entry: Command) -> Result<(), AllocError> {
+    fn keep(
+        &self,
+        commands: &mut CommandList,
+        _objects: u32,
+        entry: Command,
+    ) -> Result<(), AllocError> {
         commands.push(entry)
     }
 
-    fn keep_plain<'a>(&self, commands: &mut CommandList, text: &'a [u8]) -> Option<&'a [u8]> {
+    fn keep_plain<'a>(
+        &self,
+        commands: &mut CommandList,
+        _objects: u32,
+        text: &'a [u8],
+    ) -> Option<&'a [u8]> {
         keep_plain(commands, text)
     }
 
@@ -61,7 +71,7 @@ impl Entries for Commands {
         commands.len();
     }
 
-    fn is_in_range(&self, _entry: Command) -> bool {
+    fn is_in_range(&self, _objects: u32, _entry: Command) -> bool {
         true
     }
 

@@ -3,8 +3,7 @@
 //! Each is kept where it is read, since a command that is handed on is copied on the way.
 
 ghost use Rattle.std.specs.Prelude.{◌≡◌, ◌∷◌, ◌++◌, MatchOption, codes};
-ghost use Rattle.store_text.specs.PlainEntry.{KeepsEntry};
-ghost use Rattle.script_text.specs.Commands.{commands};
+ghost use Rattle.script_text.specs.Plain.{KeepsCommandOf};
 
 use crate::command_list::CommandList;
 use line_text::{bytes_before, names_are_words, number_before};
@@ -16,7 +15,7 @@ use serial_order::Command;
 pub fn keep_plain<'a>(kept: &mut CommandList, text: &'a [u8]) -> Option<&'a [u8]>
     ensures { MatchOption result
         (kept.new ≡ kept.old)
-        (λ behind. KeepsEntry commands text.now behind.now kept.old kept.new) }
+        (λ behind. KeepsCommandOf text.now behind.now kept.old kept.new) }
 {
     match text {
         [b'c', b'a', b'l', b'l', b' ', rest @ ..] => keep_call(kept, rest),
@@ -31,7 +30,7 @@ pub fn keep_plain<'a>(kept: &mut CommandList, text: &'a [u8]) -> Option<&'a [u8]
 fn keep_rarer<'a>(kept: &mut CommandList, text: &'a [u8]) -> Option<&'a [u8]>
     ensures { MatchOption result
         (kept.new ≡ kept.old)
-        (λ behind. KeepsEntry commands text.now behind.now kept.old kept.new) }
+        (λ behind. KeepsCommandOf text.now behind.now kept.old kept.new) }
 {
     match text {
         [b'a', b'b', b'o', b'r', b't', b' ', rest @ ..] => keep_abort(kept, rest),
@@ -55,7 +54,7 @@ fn keep_rarer<'a>(kept: &mut CommandList, text: &'a [u8]) -> Option<&'a [u8]>
 fn keep_begin<'a>(kept: &mut CommandList, behind: &'a [u8]) -> Option<&'a [u8]>
     ensures { MatchOption result
         (kept.new ≡ kept.old)
-        (λ left. KeepsEntry commands (codes "begin" ++ 10 ∷ behind.now) left.now kept.old kept.new) }
+        (λ left. KeepsCommandOf (codes "begin" ++ 10 ∷ behind.now) left.now kept.old kept.new) }
 {
     kept.put(Command::Begin)?;
     Some(behind)
@@ -65,7 +64,7 @@ fn keep_begin<'a>(kept: &mut CommandList, behind: &'a [u8]) -> Option<&'a [u8]>
 fn keep_call<'a>(kept: &mut CommandList, rest: &'a [u8]) -> Option<&'a [u8]>
     ensures { MatchOption result
         (kept.new ≡ kept.old)
-        (λ behind. KeepsEntry commands (codes "call " ++ rest.now) behind.now kept.old kept.new) }
+        (λ behind. KeepsCommandOf (codes "call " ++ rest.now) behind.now kept.old kept.new) }
 {
     let (t, rest) = number_before(rest, b' ')?;
     let (x, rest) = number_before(rest, b' ')?;
@@ -79,7 +78,7 @@ fn keep_call<'a>(kept: &mut CommandList, rest: &'a [u8]) -> Option<&'a [u8]>
 fn keep_commit<'a>(kept: &mut CommandList, rest: &'a [u8]) -> Option<&'a [u8]>
     ensures { MatchOption result
         (kept.new ≡ kept.old)
-        (λ behind. KeepsEntry commands (codes "commit " ++ rest.now) behind.now kept.old kept.new) }
+        (λ behind. KeepsCommandOf (codes "commit " ++ rest.now) behind.now kept.old kept.new) }
 {
     let (t, behind) = number_before(rest, b'\n')?;
     kept.put(Command::Commit { t })?;
@@ -90,7 +89,7 @@ fn keep_commit<'a>(kept: &mut CommandList, rest: &'a [u8]) -> Option<&'a [u8]>
 fn keep_abort<'a>(kept: &mut CommandList, rest: &'a [u8]) -> Option<&'a [u8]>
     ensures { MatchOption result
         (kept.new ≡ kept.old)
-        (λ behind. KeepsEntry commands (codes "abort " ++ rest.now) behind.now kept.old kept.new) }
+        (λ behind. KeepsCommandOf (codes "abort " ++ rest.now) behind.now kept.old kept.new) }
 {
     let (t, behind) = number_before(rest, b'\n')?;
     kept.put(Command::Abort { t })?;
@@ -101,7 +100,7 @@ fn keep_abort<'a>(kept: &mut CommandList, rest: &'a [u8]) -> Option<&'a [u8]>
 fn keep_rollback<'a>(kept: &mut CommandList, rest: &'a [u8]) -> Option<&'a [u8]>
     ensures { MatchOption result
         (kept.new ≡ kept.old)
-        (λ behind. KeepsEntry commands (codes "rollback " ++ rest.now) behind.now kept.old kept.new) }
+        (λ behind. KeepsCommandOf (codes "rollback " ++ rest.now) behind.now kept.old kept.new) }
 {
     let (t, rest) = number_before(rest, b' ')?;
     let (n, behind) = number_before(rest, b'\n')?;

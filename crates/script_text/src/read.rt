@@ -7,7 +7,7 @@ use crate::commands::Commands;
 use crate::script::Script;
 use line_text::TextFault;
 use std::alloc::Global;
-use store_text::{Parts, StoreGrammar, read_parts};
+use store_text::{Parts, read_parts};
 
 /// The script of a text, or the text's first fault.
 ///
@@ -17,15 +17,16 @@ pub fn read_script(alloc: Global, text: &[u8]) -> Result<Script, TextFault>
     ensures exact { ReadsStoreText commands IsScriptOf result text.now }
     ensures fit { IfOk result IsFit }
 {
-    let grammar = StoreGrammar { entries: Commands };
-    let parts = read_parts(alloc, &grammar, text)?;
+    let parts = read_parts(alloc, Commands, text)?;
     let Parts {
+        size,
         max,
         objects,
         entries: mut commands,
     } = parts;
     commands.shrink_to_fit();
     Ok(Script {
+        size,
         max,
         objects,
         commands,

@@ -7,10 +7,11 @@ ghost use Rattle.line_text.specs.declared.fault.FaultKind.TheVariants.{UnknownWo
 ghost use Rattle.store_text.specs.declared.line.Line.TheVariants.{Max, Object, End};
 ghost use Rattle.store_text.specs.Said.{said_objects, entries_of};
 ghost use Rattle.serial_order.specs.declared.command.Command.TheVariants.{Begin, Call, Commit, Abort, Rollback};
-ghost use Rattle.script_text.specs.Examples.{SaysCommands, RefusesScript, script_text, script_lines, script_with};
+ghost use Rattle.script_text.specs.Examples.{SaysCommands, RefusesScript, script_text, script_lines, script_with, sized_script_text, sized_script_lines, sized_script_with};
 
 pub fn texts_say_their_lines()
     ensures script { SaysCommands script_text script_lines }
+    ensures sized { SaysCommands sized_script_text sized_script_lines }
     ensures spaced { SaysCommands
         (codes "# note" ∷ codes " max  2" ∷ [] ∷ codes "object undo 255" ∷ codes "end" ∷ codes "#" ∷ [])
         (Max 2 ∷ Object Undo 255 ∷ End ∷ []) }
@@ -36,4 +37,12 @@ pub fn faults_of_the_script()
     ensures no_object { RefusesScript (codes "max 20" ∷ codes "begin" ∷ []) 2 Missing }
     ensures no_end { RefusesScript (take 8 script_text) 9 Missing }
     ensures second_end { RefusesScript (script_text ++ codes "end" ∷ []) 10 AfterEnd }
+{}
+
+pub fn faults_of_the_size()
+    ensures high_file { RefusesScript (sized_script_with 2 (codes "object undo 300")) 3 OutOfRange }
+    ensures no_size { RefusesScript (sized_script_with 0 (codes "objects 0")) 1 OutOfRange }
+    ensures high_size { RefusesScript (sized_script_with 0 (codes "objects 65537")) 1 OutOfRange }
+    ensures no_limit { RefusesScript (sized_script_with 1 (codes "# max 20")) 3 Missing }
+    ensures late_size { RefusesScript (script_with 1 (codes "objects 300")) 2 UnknownWord }
 {}

@@ -1,3 +1,4 @@
+pub mod Sizes
 pub mod Audits
 pub mod SeveralAudits
 pub mod OrderedAudits

@@ -98,15 +98,15 @@ all_places : (objects : List Object) (x : ℕ) (o : Object) → slice_get object
 all_places objects x o at k has = omega arith
 
 -- the numbers of committed transactions have at most seven digits
-pub commits_short : NumbersInRun → (s : Stored) → HasSerialRun s → s.max ≤ 1000000 → AllByRecursion (λ n. n < 10 ^ 7) (commits s.history)
+pub commits_short : NumbersInRun → (s : Stored) → HasSerialRun s → s.limits.events ≤ 1000000 → AllByRecursion (λ n. n < 10 ^ 7) (commits s.history)
 commits_short numbers s history limit =
     let below = numbers (objects s) 256 s.history history.run (all_places (objects s)) in
     let all = commits_below (length (objects s)) 256 (length s.history) s.history below in
     each-weaker (λ n low. omega (arith, low, history.room, limit)) (commits s.history) all
 
 -- and so have those of a yes, but for states
-pub audit_short : EndsWithin → NumbersInRun → (s : Stored) → ((x : ℕ) (c : Checked) → slice_get s.types x ≡ Some c → IsChecked c) → HasSerialRun s → s.max ≤ 1000000
-    → length s.types ≤ 256 → (a : Audit) → Audits (tables s) s.history (Ok a) → IsShortYes a
+pub audit_short : EndsWithin → NumbersInRun → (s : Stored) → ((x : ℕ) (c : Checked) → slice_get s.types x ≡ Some c → IsChecked c) → HasSerialRun s → s.limits.events ≤ 1000000
+    → length s.types ≤ 65536 → (a : Audit) → Audits (tables s) s.history (Ok a) → IsShortYes a
 audit_short within numbers s checked history limit few a audits =
     record {
       order = subst (AllByRecursion (λ n. n < 10 ^ 7)) (sym audits.1.order_is) (commits_short numbers s history limit);

@@ -20,7 +20,7 @@ use Rattle.command_files.specs.declared.status.Verdict.TheVariants.{Yes, No}
 use Rattle.store_text.specs.declared.line.ObjectLine.{ObjectLine}
 use Rattle.store_files.specs.ObjectTypes.{AreTypesAt, SaysRefused}
 use Rattle.store_files.specs.Types.{Held}
-use Rattle.store_commands.specs.StoreAudit.{TellsAudit, new_store}
+use Rattle.store_commands.specs.StoreAudit.{TellsAudit, new_store, text_limits}
 use Rattle.store_commands.specs.Runs.{BeginsRun, BeginsRunFile, IsScriptAt, IsWholeRun, RunsFile, RunsOf, StopsRun, WritesRunFile}
 use Rattle.store_commands.proofs.Kept.{types_kept}
 
@@ -33,7 +33,7 @@ pub record HasText (old : Stored) (script : Script) (before after : Option (List
 text_of_run : (old : Stored) (script : Script) (before after : Option (List ℕ)) (fault : Option OutFault) (left : Stored) (done : Unit {0})
     → RunsScript old script before after fault left (Ok done) → HasText old script before after left
 text_of_run old script before after fault left done ran = record {
-  text = text_of_turns (script_turns (objects old) old.max ran.memory_refused ran.kept old.history script.objects.items script.commands);
+  text = text_of_turns (script_turns (objects old) old.limits ran.memory_refused ran.kept old.history script.objects.items script.commands);
   ran = record {
     memory_refused = ran.memory_refused;
     may_refuse_memory = ran.may_refuse_memory;
@@ -46,9 +46,9 @@ text_of_run old script before after fault left done ran = record {
 }
 
 module _ (script : Script) (types : List Checked) (old : Stored) (before mid after : Option (List ℕ)) (fault : Option OutFault) (left : Stored) (done : Unit {0})
-    (fresh : old ≡ new_store types script.max) (ran : RunsScript old script before mid fault left (Ok done)) where
-  whole : HasText (new_store types script.max) script before mid left
-  whole = text_of_run (new_store types script.max) script before mid fault left done (subst (λ (s : Stored). RunsScript s script before mid fault left (Ok done)) fresh ran)
+    (fresh : old ≡ new_store types (text_limits script.size script.max)) (ran : RunsScript old script before mid fault left (Ok done)) where
+  whole : HasText (new_store types (text_limits script.size script.max)) script before mid left
+  whole = text_of_run (new_store types (text_limits script.size script.max)) script before mid fault left done (subst (λ (s : Stored). RunsScript s script before mid fault left (Ok done)) fresh ran)
 
   -- a run, and then its audit
   pub run_audited : (result : Result Verdict Fault) → TellsAudit left result mid after
@@ -87,12 +87,12 @@ module _ (script : Script) (types : List Checked) (old : Stored) (before mid aft
 
 -- a run that the output stopped
 module _ (script : Script) (types : List Checked) (old : Stored) (before after : Option (List ℕ)) (fault : Option OutFault) (left : Stored) (e : OutFault)
-    (fresh : old ≡ new_store types script.max) (ran : RunsScript old script before after fault left (Err e)) where
-  here : RunsScript (new_store types script.max) script before after fault left (Err e)
+    (fresh : old ≡ new_store types (text_limits script.size script.max)) (ran : RunsScript old script before after fault left (Err e)) where
+  here : RunsScript (new_store types (text_limits script.size script.max)) script before after fault left (Err e)
   here = subst (λ (s : Stored). RunsScript s script before after fault left (Err e)) fresh ran
 
   taken : List ℕ
-  taken = text_of_turns (take here.writes.written.place (script_turns (objects (new_store types script.max)) script.max here.memory_refused here.kept [] script.objects.items script.commands))
+  taken = text_of_turns (take here.writes.written.place (script_turns (objects (new_store types (text_limits script.size script.max))) (text_limits script.size script.max) here.memory_refused here.kept [] script.objects.items script.commands))
       ++ take here.writes.written.taken (line_of here.writes.written.turn)
 
   stops : StopsRun script types taken

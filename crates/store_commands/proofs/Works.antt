@@ -18,6 +18,7 @@ use Rattle.command_files.specs.Answers.{ComesOr, IsThis}
 use Rattle.command_files.proofs.Comes.{comes_or}
 use Rattle.store_files.specs.ObjectTypes.{AreTypesAt, SaysRefused}
 use Rattle.store_files.specs.Types.{Held}
+use Rattle.store_commands.specs.StoreAudit.{text_limits}
 use Rattle.store_commands.proofs.Kept.{types_kept}
 use Rattle.command_files.specs.declared.fault.Fault.{Fault}
 use Rattle.command_files.specs.declared.fault.Fault.TheVariants.{Usage, Text, NoType, NeedsEscrow, ObjectNeedsEscrow, OtherObjects, Order, HasEvents, BadParameter, TooLarge, CannotRead, Database, NoStore, NoMemory, Output}
@@ -92,10 +93,10 @@ module _ (file : JobsFile) (types : List Checked) (tries : ℕ) (o : Start) (lef
   told (Err (NoStore path)) old new t = absurd t
 
 -- the work begins at a new store of these types
-pub begins : (file : JobsFile) (tries : ℕ) (store : Stored) (types given : List Checked) → store ≡ record { types = given; history = []; max = file.max; forgotten = 0 } → given ≡ types
+pub begins : (file : JobsFile) (tries : ℕ) (store : Stored) (types given : List Checked) → store ≡ record { types = given; history = []; limits = text_limits file.size file.max; forgotten = 0 } → given ≡ types
     → record { store = store; jobs = map calls_in file.jobs.items; tries = tries } ≡ start_of_work file types tries
 begins file tries store types given made are =
-    ap (λ (s : Stored). record { store = s; jobs = map calls_in file.jobs.items; tries = tries }) (made ∙ ap (λ (l : List Checked). record { types = l; history = []; max = file.max; forgotten = 0 }) are)
+    ap (λ (s : Stored). record { store = s; jobs = map calls_in file.jobs.items; tries = tries }) (made ∙ ap (λ (l : List Checked). record { types = l; history = []; limits = text_limits file.size file.max; forgotten = 0 }) are)
 
 -- ---- what was written
 

@@ -8,14 +8,13 @@ use Rattle.std.proofs.lemmas.List.Elements.{All-contains, All-from_recursion, re
 use Rattle.std.proofs.lemmas.Option.{get_or_from_slice_get, slice_get_within}
 use Rattle.type_table.proofs.Elements.{each-places, each-weaker, element_at, found-map}
 use Rattle.type_table.specs.Laws.{EndsWithin}
-use Rattle.line_text.specs.Outcome.{outcome_of}
 use Rattle.table_checker.specs.Checked.{Checked, IsChecked}
 use Rattle.object_trait.specs.Object.{object_of}
 use Rattle.object_trait.specs.declared.event.Event.{Event}
 use Rattle.serial_order.specs.After.{NumbersInRun}
 use Rattle.serial_order.specs.History.{commits}
 use Rattle.store_laws.specs.Stored.{Stored, objects}
-use Rattle.store_text.specs.Body.{store_rules}
+use Rattle.store_text.specs.Body.{store_outcome}
 use Rattle.jobs_text.specs.Jobs.{AreJobsFit, calls_in}
 use Rattle.jobs_text.specs.declared.jobs_file.Job.{Job}
 use Rattle.jobs_text.specs.declared.jobs_file.JobsFile.{JobsFile}
@@ -29,6 +28,7 @@ use Rattle.workers.specs.Worked.{HasWorked}
 use Rattle.work_text.specs.TextHistory.{IsShort, IsShortOutcome, IsShortReport, WorkIsRead}
 use Rattle.store_commands.specs.HistoryTexts.{IsReadAs}
 use Rattle.store_commands.specs.Works.{IsWorkOf, start_of_work}
+use Rattle.store_commands.proofs.Sizes.{size-within, files-within}
 use Rattle.store_commands.proofs.RunTexts.{audit_short, commits_short, mapped}
 use Rattle.store_commands.proofs.RunsRead.{kept_short, read_as}
 
@@ -76,7 +76,7 @@ module _ (file : JobsFile) (types : List Checked) (tries : ℕ) (text : List ℕ
       let left = its.left in
       let lines = file.objects.items in
       let types_are : left.types ≡ types = ap (λ (s : Stored). s.types) worked.store in
-      let limit : left.max ≤ 1000000 = subst (λ n. n ≤ 1000000) (sym (ap (λ (s : Stored). s.max) worked.store)) fit.high in
+      let limit : left.limits.events ≤ 1000000 = subst (λ n. n ≤ 1000000) (sym (ap (λ (s : Stored). s.limits.events) worked.store)) fit.high in
       let each : (x : ℕ) (c : Checked) → slice_get left.types x ≡ Some c → IsChecked c =
       subst (λ (ts : List Checked). (x : ℕ) (c : Checked) → slice_get ts x ≡ Some c → IsChecked c) (sym types_are) checked
       in
@@ -84,7 +84,7 @@ module _ (file : JobsFile) (types : List Checked) (tries : ℕ) (text : List ℕ
       subst (λ (ts : List Checked). (x : ℕ) (c : Checked) → slice_get ts x ≡ Some c → AreOpsInRange c.file.table) (sym types_are) in_ranges
       in
       let many : length left.types ≡ length lines = ap (λ (ts : List Checked). length ts) types_are ∙ as_many in
-      let few : length left.types ≤ 256 = omega (arith, many, fit.objects_fit) in
+      let few : length left.types ≤ 65536 = omega (arith, many, fit.objects_fit, size-within file.size fit.size) in
       let inside : All (λ (e : Event). e.worker < length file.jobs.items) left.history = worked.inside in
       let by : AllByRecursion (λ (e : Event). e.worker ≤ 255) left.history =
       each-weaker (λ e low. omega (arith, low, jobs_few)) left.history (recursion_from_All (λ (e : Event). e.worker < length file.jobs.items) left.history inside)
@@ -96,8 +96,8 @@ module _ (file : JobsFile) (types : List Checked) (tries : ℕ) (text : List ℕ
         ops_fit = mapped object_of (λ o. AreOpsInRange o.table) left.types each_op;
         as_many = length-map left.types object_of ∙ many;
         some_object = fit.some_object;
-        objects_fit = fit.objects_fit;
-        files_fit = fit.files_fit;
+        objects_fit = omega (arith, fit.objects_fit, size-within file.size fit.size);
+        files_fit = files-within file.size lines fit.size fit.files_fit;
         events_fit = omega (arith, its.history.room, limit);
         workers_fit = by;
       })
@@ -112,4 +112,4 @@ module _ (file : JobsFile) (types : List Checked) (tries : ℕ) (text : List ℕ
         jobs = each-places IsShortReport its.reports (report_short short);
       })
       in
-      read_as canonical lines left text ranges (ap (outcome_of (store_rules history_body)) its.told.is ∙ value)
+      read_as canonical lines left text ranges (ap (store_outcome history_body) its.told.is ∙ value)

@@ -1,9 +1,8 @@
 -- That what `run`, `work` and `stress` write is the text of a history, and that an audit of it says what the text says.
 use Rattle.std.specs.Prelude.{◌≡◌, List, Ok, Err, Result, ℕ}
-use Rattle.line_text.specs.Outcome.{outcome_of}
 use Rattle.table_checker.specs.Checked.{Checked}
 use Rattle.store_laws.specs.Stored.{Stored}
-use Rattle.store_text.specs.Body.{store_rules}
+use Rattle.store_text.specs.Body.{store_outcome}
 use Rattle.store_text.specs.Parts.{ReadsStoreText}
 use Rattle.store_text.specs.declared.line.ObjectLine.{ObjectLine}
 use Rattle.script_text.specs.Script.{IsFit}
@@ -27,7 +26,7 @@ use Rattle.store_commands.specs.Works.{IsWorkOf}
 
 -- the text has a value as a history, and what is read of it are these objects and the store's events
 pub record IsReadAs (lines : List ObjectLine) (s : Stored) (text : List ℕ) : Type 0 where
-  pub value : outcome_of (store_rules history_body) text ≡ Ok (canonical_lines lines s.history)
+  pub value : store_outcome history_body text ≡ Ok (canonical_lines lines s.history)
   pub file : (back : HistoryFile) → ReadsStoreText history_body IsHistoryOf (Ok back) text → IsFileWith lines s.history back
 
 -- each audit of the store's events with the tables of its objects has the lines of this one, where memory wasn't refused

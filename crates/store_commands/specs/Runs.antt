@@ -15,14 +15,14 @@ use Rattle.command_files.specs.declared.status.Verdict.TheVariants.{Yes, No}
 use Rattle.store_files.specs.ObjectTypes.{AreTypesAt, HasFault, SaysRefused}
 use Rattle.store_files.specs.Scripts.{DescribesScript, IsFaultyScript}
 use Rattle.store_files.specs.Types.{Held}
-use Rattle.store_commands.specs.StoreAudit.{HasSerialRun, IsPassed, new_store, tables}
+use Rattle.store_commands.specs.StoreAudit.{HasSerialRun, IsPassed, new_store, text_limits, tables}
 
 -- the text is that of a run of the script at a new store of these types, and then the lines of an audit of the store's history that says
 -- yes; and the history is a serial run
 pub record IsRunOf (script : Script) (types : List Checked) (text : List ℕ) : Type 0 where
   pub run : List ℕ
   pub left : Stored
-  pub ran : RunsScript (new_store types script.max) script (Some []) (Some run) None left (Ok tt)
+  pub ran : RunsScript (new_store types (text_limits script.size script.max)) script (Some []) (Some run) None left (Ok tt)
   pub audit : Audit
   pub audited : Audits (tables left) left.history (Ok audit)
   pub history : HasSerialRun left
@@ -32,7 +32,7 @@ pub record IsRunOf (script : Script) (types : List Checked) (text : List ℕ) : 
 pub record IsWholeRun (script : Script) (types : List Checked) (text : List ℕ) : Type 0 where
   pub run : List ℕ
   pub left : Stored
-  pub ran : RunsScript (new_store types script.max) script (Some []) (Some run) None left (Ok tt)
+  pub ran : RunsScript (new_store types (text_limits script.size script.max)) script (Some []) (Some run) None left (Ok tt)
   pub outcome : Result Audit AuditFault
   pub passed : IsPassed left outcome
   pub is : text ≡ run ++ audit_text outcome
@@ -41,7 +41,7 @@ pub record IsWholeRun (script : Script) (types : List Checked) (text : List ℕ)
 pub record StopsRun (script : Script) (types : List Checked) (text : List ℕ) : Type 0 where
   pub left : Stored
   pub fault : OutFault
-  pub ran : RunsScript (new_store types script.max) script (Some []) (Some text) (Some fault) left (Err fault)
+  pub ran : RunsScript (new_store types (text_limits script.size script.max)) script (Some []) (Some text) (Some fault) left (Err fault)
 
 -- what a run begins to write
 abbrev pub BeginsRun : Script → List Checked → List ℕ → Type 0

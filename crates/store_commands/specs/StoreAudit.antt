@@ -1,4 +1,7 @@
 -- The audit of a store's history, which says yes.
+use Rattle.store_limits.specs.declared.limits.Limits.{Limits}
+use Rattle.store_limits.specs.Standard.{standard_with}
+use Rattle.store_text.specs.Size.{may_have}
 use Rattle.std.specs.Prelude.{◌≡◌, ◌≤◌, ℕ, List, [], length, map, take, Option, Result, Ok, Err}
 use Rattle.std.specs.declared.sync.Arc.{Arc}
 use Rattle.std.specs.Io.KnownBytes.{Appends}
@@ -26,15 +29,19 @@ table_of_checked c = (value_of c).file.table
 abbrev pub tables : Stored → List Table
 tables s = map (λ (c : Checked). c.file.table) s.types
 
--- a new store of these types, with this limit
-abbrev pub new_store : List Checked → ℕ → Stored
-new_store types max = record { types = types; history = []; max = max; forgotten = 0 }
+-- the standard limits, but for the events and the objects of a text
+abbrev pub text_limits : Option ℕ → ℕ → Limits
+text_limits size max = record (standard_with max) { objects = may_have size }
+
+-- a new store of these types, with these limits
+abbrev pub new_store : List Checked → Limits → Stored
+new_store types limits = record { types = types; history = []; limits = limits; forgotten = 0 }
 
 -- the history of a store is a run of the machine, serial, and within its limit
 pub record HasSerialRun (s : Stored) : Type 0 where
   pub run : IsRun (objects s) s.history
   pub serial : IsSerial (objects s) s.history
-  pub room : length s.history ≤ s.max
+  pub room : length s.history ≤ s.limits.events
 
 -- the audit of a store's history with the tables of its objects is a yes, and the history is a serial run; or memory was refused
 abbrev pub IsPassed : Stored → Result Audit AuditFault → Type 0

@@ -23,11 +23,11 @@ use Rattle.command_files.specs.declared.status.Verdict.TheVariants.{Yes, No}
 use Rattle.store_files.specs.Jobs.{AreJobsFor, DescribesJobs, IsFaultyJobs}
 use Rattle.store_files.specs.ObjectTypes.{AreTypesAt, HasFault, SaysRefused}
 use Rattle.store_files.specs.Types.{Held}
-use Rattle.store_commands.specs.StoreAudit.{HasSerialRun, IsPassed, new_store, tables}
+use Rattle.store_commands.specs.StoreAudit.{HasSerialRun, IsPassed, new_store, tables, text_limits}
 
 -- the work that begins at a new store of these types: these jobs, each tried this often
 abbrev pub start_of_work : JobsFile → List Checked → ℕ → Start
-start_of_work file types tries = record { store = new_store types file.max; jobs = map calls_in file.jobs.items; tries = tries }
+start_of_work file types tries = record { store = new_store types (text_limits file.size file.max); jobs = map calls_in file.jobs.items; tries = tries }
 
 -- the text is that of what workers did at a store, with an audit and their reports, and with kept states of its first objects
 pub record IsTextOf (lines : List ObjectLine) (left : Stored) (outcome : Result Audit AuditFault) (reports : List Report) (text : List ℕ) : Type 0 where

@@ -3,6 +3,7 @@
 
 mod audit;
 mod laws;
+mod limits;
 mod ordered;
 mod run;
 mod schedule;

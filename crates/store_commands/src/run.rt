@@ -4,9 +4,10 @@ ghost use Rattle.std.specs.Prelude.{◌≡◌, [], None, length, map};
 ghost use Rattle.command_files.specs.Answers.{ComesOr};
 ghost use Rattle.store.specs.Ends.{AreFresh};
 ghost use Rattle.object_types.specs.Types.{value_of};
-ghost use Rattle.store_commands.specs.StoreAudit.{new_store};
+ghost use Rattle.store_commands.specs.StoreAudit.{new_store, text_limits};
 ghost use Rattle.store_commands.specs.Runs.{BeginsRun, BeginsRunFile, HasRunFault, IsWholeRun, RunsFile, RunsOf, WritesRunFile};
 
+use crate::limits::text_limits;
 use crate::store_audit::tell_audit;
 use command_files::{Fault, Source, Verdict, put_answer, read_file};
 use object_trait::Recovery;
@@ -60,9 +61,9 @@ fn run_at<'a, W: Out>(
     ensures { ComesOr (IsWholeRun script.now (map value_of types.now)) (BeginsRun script.now (map value_of types.now)) (RunsOf script.now (map value_of types.now)) ⊥ result (W.taken out.old) (W.taken out.new) }
 {
     let objects = new_objects(alloc, types)?;
-    match Store::new(alloc, objects, script.max) {
+    match Store::with_limits(alloc, objects, text_limits(script.size, script.max)) {
         Ok(store) => run_from(alloc, store, script, types, out),
-        // the objects are new and 1 to 256, and the limit is in its range
+        // the objects are new and as many as the text may have, and the limits are in their ranges
         Err(_) => Err(Fault::NoMemory),
     }
 }
@@ -76,7 +77,7 @@ fn run_from<'a, R: Recovery, W: Out>(
     out: &mut W,
 ) -> Result<Verdict, Fault<'a>>
     requires out_takes { W.fault out.old ≡ None }
-    requires fresh { store ≡ new_store (map value_of types.now) script.now.max }
+    requires fresh { store ≡ new_store (map value_of types.now) (text_limits script.now.size script.now.max) }
     requires objects { length (map value_of types.now) ≡ length script.now.objects.items }
     ensures { ComesOr (IsWholeRun script.now (map value_of types.now)) (BeginsRun script.now (map value_of types.now)) (RunsOf script.now (map value_of types.now)) ⊥ result (W.taken out.old) (W.taken out.new) }
 {

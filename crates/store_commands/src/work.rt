@@ -7,6 +7,7 @@ ghost use Rattle.object_types.specs.Types.{value_of};
 ghost use Rattle.store_commands.specs.Works.{BeginsWork, BeginsWorkFile, HasWorkFault, IsWholeWorkText, TellsWork, WorksFile, WorksOf, WritesWorkFile, did_nothing};
 ghost use Rattle.workers.specs.Worked.{Works};
 
+use crate::limits::text_limits;
 use crate::schedule::Schedule;
 use crate::store_audit::audit_of;
 use command_files::{Fault, Source, Verdict, put_answer, read_file};
@@ -86,16 +87,17 @@ fn work_at<'a, H: AllocGlobal + Threads + Wait + Sync, W: Out>(
     let alloc = rt.alloc();
     let objects = new_objects(alloc, types)?;
     let JobsFile {
+        size,
         max,
         objects: lines,
         jobs,
     } = file;
-    match Store::new(alloc, objects, max) {
+    match Store::with_limits(alloc, objects, text_limits(size, max)) {
         Ok(store) => {
             let worked = do_jobs(rt, store, jobs, work);
             end_work(alloc, worked, types, &lines, out)
         }
-        // the objects are new and 1 to 256, and the limit is in its range
+        // the objects are new and as many as the text may have, and the limits are in their ranges
         Err(_) => Err(Fault::NoMemory),
     }
 }

@@ -1,5 +1,5 @@
 -- Texts of scripts, worked by hand.
-use Rattle.std.specs.Prelude.{◌≡◌, ℕ, List, [], ◌∷◌, take, Some, codes}
+use Rattle.std.specs.Prelude.{◌≡◌, ℕ, List, [], ◌∷◌, take, Some, None, codes}
 use Rattle.type_table.specs.declared.kind.Kind.TheVariants.{Undo, Intentions}
 use Rattle.serial_order.specs.declared.command.Command.{Command}
 use Rattle.serial_order.specs.declared.command.Command.TheVariants.{Begin, Call, Commit, Abort, Rollback}
@@ -8,8 +8,9 @@ use Rattle.store_text.specs.declared.line.ObjectLine.{ObjectLine}
 use Rattle.script_text.specs.Examples.{ended, script_text}
 use Rattle.store_files.specs.Types.{Held}
 
--- the script has this limit, these objects and these commands
+-- the script says no size, and has this limit, these objects and these commands
 pub record HasScript (max : ℕ) (objects : List ObjectLine) (commands : List Command) (script : Script) : Type 0 where
+  pub size_is : script.size ≡ None
   pub max_is : script.max ≡ max
   pub objects_are : script.objects.items ≡ objects
   pub commands_are : script.commands ≡ commands

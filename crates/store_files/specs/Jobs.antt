@@ -1,8 +1,7 @@
 -- Jobs and their texts.
 use Rattle.std.specs.Prelude.{◌≡◌, ℕ, List, length, Ok, Err}
-use Rattle.line_text.specs.Outcome.{outcome_of}
 use Rattle.line_text.specs.declared.fault.TextFault.{TextFault}
-use Rattle.store_text.specs.Body.{store_rules}
+use Rattle.store_text.specs.Body.{store_outcome}
 use Rattle.store_text.specs.declared.line.Line.{Line}
 use Rattle.jobs_text.specs.JobLines.{jobs}
 use Rattle.jobs_text.specs.Jobs.{IsJobsOf, AreJobsFit}
@@ -12,12 +11,12 @@ use Rattle.jobs_text.specs.declared.jobs_file.JobsFile.{JobsFile}
 -- the jobs of this many workers that a text describes
 pub record DescribesJobs (workers : ℕ) (text : List ℕ) (file : JobsFile) : Type 0 where
   pub lines : List (Line JobLine)
-  pub accepted : outcome_of (store_rules (jobs workers)) text ≡ Ok lines
+  pub accepted : store_outcome (jobs workers) text ≡ Ok lines
   pub described : IsJobsOf workers lines file
 
 -- for this many workers the text has a fault
 abbrev pub IsFaultyJobs : ℕ → List ℕ → Type 0
-IsFaultyJobs workers text = (f : TextFault) × (outcome_of (store_rules (jobs workers)) text ≡ Err f)
+IsFaultyJobs workers text = (f : TextFault) × (store_outcome (jobs workers) text ≡ Err f)
 
 -- whatever the text was: there is a list of jobs for each worker, and the numbers and counts are in their ranges
 pub record AreJobsFor (workers : ℕ) (file : JobsFile) : Type 0 where

@@ -1,7 +1,7 @@
 //! Worked examples of the definitions: each function does nothing, and its contract is the example.
 #![tactic(auto)]
 
-ghost use Rattle.std.specs.Prelude.{◌≡◌, [], ◌∷◌, codes};
+ghost use Rattle.std.specs.Prelude.{◌≡◌, [], ◌∷◌, Some, codes};
 ghost use Rattle.type_table.specs.Examples.{counter_table, one_way};
 ghost use Rattle.script_text.specs.declared.script.Script.{Script as ScriptValue};
 ghost use Rattle.script_text.specs.Examples.{ended, script_text};
@@ -40,6 +40,7 @@ pub fn the_first_type_has_the_fault()
 pub fn a_text_describes_its_script()
     ensures described { (s : ScriptValue) → HasScript 20 script_objects script_commands s → DescribesScript (ended script_text) s }
     ensures limit { (s : ScriptValue) → s.max ≡ 21 → DescribesScript (ended script_text) s → ⊥ }
+    ensures size { (s : ScriptValue) → s.size ≡ Some 256 → DescribesScript (ended script_text) s → ⊥ }
     ensures faultless { IsFaultyScript (ended script_text) → ⊥ }
     ensures faulty { IsFaultyScript endless_script }
 {

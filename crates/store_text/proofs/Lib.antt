@@ -1,2 +1,4 @@
+pub mod Sizes
 pub mod Keeping
 pub mod Accepted
+pub mod Says

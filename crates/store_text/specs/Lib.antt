@@ -1,3 +1,4 @@
+pub mod Size
 pub mod Body
 pub mod Said
 pub mod Kept

@@ -2,13 +2,26 @@
 use Rattle.std.specs.Prelude.{ℕ, List, Option, Some, None}
 use Rattle.std.specs.List.{filter_map}
 use Rattle.store_text.specs.declared.line.Line.{Line}
-use Rattle.store_text.specs.declared.line.Line.TheVariants.{Max, Object, Entry}
+use Rattle.store_text.specs.declared.line.Line.TheVariants.{Objects, Max, Object, Entry}
 use Rattle.store_text.specs.declared.line.ObjectLine.{ObjectLine}
 
+-- the number of an `objects` line
+abbrev pub size_in_line : {A : Type 0} → Line A → Option ℕ
+size_in_line (Objects n) = Some n
+size_in_line _ = None
+
+-- the numbers of the `objects` lines, of which a text has one at most
+abbrev pub said_sizes : {A : Type 0} → List (Line A) → List ℕ
+said_sizes lines = filter_map size_in_line lines
+
 -- the number of a `max` line
-abbrev pub max_of_line : {A : Type 0} → Option (Line A) → ℕ
-max_of_line (Some (Max most)) = most
-max_of_line _ = 0
+abbrev pub limit_in_line : {A : Type 0} → Line A → Option ℕ
+limit_in_line (Max most) = Some most
+limit_in_line _ = None
+
+-- the numbers of the `max` lines, of which a text has one at most
+abbrev pub said_limits : {A : Type 0} → List (Line A) → List ℕ
+said_limits lines = filter_map limit_in_line lines
 
 -- the object of an `object` line
 abbrev pub object_in : {A : Type 0} → Line A → Option ObjectLine

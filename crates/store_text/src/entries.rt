@@ -32,18 +32,28 @@ pub trait Entries {
     fn nothing(&self, alloc: Global) -> Self::Kept
         ensures { said result ≡ [] };
 
-    /// Keeps an entry after those before it.
-    fn keep(&self, kept: &mut Self::Kept, entry: Self::Entry) -> Result<(), AllocError>
-        requires { (body self.now).is_in_range entry ≡ true }
+    /// Keeps an entry after those before it, in a text that may have so many objects.
+    fn keep(
+        &self,
+        kept: &mut Self::Kept,
+        objects: u32,
+        entry: Self::Entry,
+    ) -> Result<(), AllocError>
+        requires { (body self.now).is_in_range objects entry ≡ true }
         ensures { OnOk result (said kept.new ≡ said kept.old ++ entry ∷ []) };
 
     /// Keeps what a text's first line says, where it is the plain line of an entry, with one space between
-    /// two words and none elsewhere, whose numbers are in range, and gives what comes after it. `None` says
-    /// nothing of the line: nothing was kept.
-    fn keep_plain<'a>(&self, _kept: &mut Self::Kept, _text: &'a [u8]) -> Option<&'a [u8]>
+    /// two words and none elsewhere, whose numbers are in range where the text may have so many objects, and
+    /// gives what comes after it. `None` says nothing of the line: nothing was kept.
+    fn keep_plain<'a>(
+        &self,
+        _kept: &mut Self::Kept,
+        _objects: u32,
+        _text: &'a [u8],
+    ) -> Option<&'a [u8]>
         ensures { MatchOption result
             (said _kept.new ≡ said _kept.old)
-            (λ behind. KeepsEntry (body self.now) _text.now behind.now (said _kept.old) (said _kept.new)) }
+            (λ behind. KeepsEntry (body self.now) _objects _text.now behind.now (said _kept.old) (said _kept.new)) }
     {
         None
     }
@@ -52,9 +62,9 @@ pub trait Entries {
     fn are_few(&self, kept: &Self::Kept)
         ensures { length (said kept.now) < 2 ^ 63 };
 
-    /// Whether the entry's numbers are in range.
-    fn is_in_range(&self, entry: Self::Entry) -> bool
-        ensures { result ≡ (body self.now).is_in_range entry };
+    /// Whether the entry's numbers are in range, in a text that may have so many objects.
+    fn is_in_range(&self, objects: u32, entry: Self::Entry) -> bool
+        ensures { result ≡ (body self.now).is_in_range objects entry };
 
     /// Whether the entry can't be the first of the text.
     fn wants_another(&self, entry: Self::Entry) -> bool

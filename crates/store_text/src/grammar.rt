@@ -1,60 +1,50 @@
 //! The grammar of a text about a store's objects: what a line says, and its tests after the lines
 //! before it.
 
-ghost use Rattle.std.specs.Prelude.{◌≡◌, map};
-ghost use Rattle.store_text.specs.Body.{store_rules, line_of, max_of_words, object_of_words, end_of_words};
+ghost use Rattle.std.specs.Prelude.{◌≡◌, map, IfSome};
+ghost use Rattle.store_text.specs.Body.{store_rules, line_of, size_of_words, max_of_words, object_of_words, end_of_words};
 ghost use Rattle.store_text.specs.Kept.{kept_store_lines};
+ghost use Rattle.store_text.specs.Size.{IsSize};
 
 use crate::entries::Entries;
 use crate::kept::KeptParts;
 use crate::line::{Line, ObjectLine};
+use crate::sections::Sections;
+use crate::size::MOST_SIZE;
 use line_text::{FaultKind, Grammar, Section, exactly, is_key, kind_at, number_at};
 use std::alloc::{AllocError, Global};
-use type_table::{MOST_EVENTS, MOST_OBJECTS};
-
-const ONE_LINE: Section = Section {
-    is_single: true,
-    is_needed: true,
-    most: None,
-};
-
-const NO_LINE: Section = Section {
-    is_single: true,
-    is_needed: false,
-    most: Some(0),
-};
-
-const OBJECT_LINES: Section = Section {
-    is_single: false,
-    is_needed: true,
-    most: Some(MOST_OBJECTS),
-};
-
-const ENTRY_LINES: Section = Section {
-    is_single: false,
-    is_needed: false,
-    most: Some(MOST_EVENTS as usize),
-};
-
-/// The sections by rank of a text that begins with a `max` line.
-static WITH_MAX: [Section; 4] = [ONE_LINE, OBJECT_LINES, ENTRY_LINES, ONE_LINE];
-
-/// The same of a text that has no such line.
-static WITHOUT_MAX: [Section; 4] = [NO_LINE, OBJECT_LINES, ENTRY_LINES, ONE_LINE];
+use type_table::MOST_EVENTS;
 
 // The ranks of the sections, which are their places among them.
-const MAX_RANK: usize = 0;
+const SIZE_RANK: usize = 0;
 
-const OBJECT_RANK: usize = 1;
+const MAX_RANK: usize = 1;
 
-const ENTRY_RANK: usize = 2;
+const OBJECT_RANK: usize = 2;
 
-const END_RANK: usize = 3;
+const ENTRY_RANK: usize = 3;
 
-/// The grammar of a text with these entries.
+const END_RANK: usize = 4;
+
+/// The grammar of a text with these entries, by what it says of the number of its objects.
 #[derive(Clone, Copy)]
 pub struct StoreGrammar<E> {
-    pub entries: E,
+    entries: E,
+    sections: Sections,
+}
+
+impl<E: Copy> StoreGrammar<E> {
+    /// The number is one from 1 to 65,536, as `text_size` finds it in the text.
+    pub fn new(entries: E, size: Option<u32>) -> StoreGrammar<E>
+        requires { IfSome size IsSize }
+        ensures entries { result.entries ≡ entries }
+        ensures size { result.sections.size ≡ size }
+    {
+        StoreGrammar {
+            entries,
+            sections: Sections::new(size),
+        }
+    }
 }
 
 impl<E: Entries> Grammar for StoreGrammar<E> {
@@ -62,7 +52,7 @@ impl<E: Entries> Grammar for StoreGrammar<E> {
 
     type Kept = KeptParts<E::Kept>;
 
-    ghost rules = { λ g. store_rules (E.body g.entries) };
+    ghost rules = { λ g. store_rules (E.body g.entries) g.sections.size };
 
     ghost kept = { λ kept. kept_store_lines E.said kept };
 
@@ -77,12 +67,16 @@ impl<E: Entries> Grammar for StoreGrammar<E> {
     ) -> Result<(), AllocError> {
         self.entries.are_few(&before.entries);
         match item {
+            Line::Objects(size) => before.size = Some(size),
             Line::Max(most) => before.max = Some(most),
             Line::Object { kind, file } => {
-                let file = file as u8;
+                let file = file as u16;
                 before.objects.push(ObjectLine { kind, file })?;
             }
-            Line::Entry(entry) => self.entries.keep(&mut before.entries, entry)?,
+            Line::Entry(entry) => {
+                self.entries
+                    .keep(&mut before.entries, self.sections.objects, entry)?;
+            }
             Line::End => before.has_ended = true,
         }
         Ok(())
@@ -90,7 +84,9 @@ impl<E: Entries> Grammar for StoreGrammar<E> {
 
     #[tactic(auto, unfolding(crate::specs::Body::line_of))]
     fn item(&self, words: &[&[u8]]) -> Result<Line<E::Entry>, FaultKind> {
-        if self.entries.has_max() && is_key(words, "max") {
+        if is_key(words, "objects") && self.sections.size.is_some() {
+            size_of_words(words)
+        } else if self.entries.has_max() && is_key(words, "max") {
             max_of_words(words)
         } else if is_key(words, "object") {
             object_of_words(words)
@@ -111,21 +107,24 @@ impl<E: Entries> Grammar for StoreGrammar<E> {
         if rank != ENTRY_RANK {
             return None;
         }
-        let behind = self.entries.keep_plain(&mut before.entries, text)?;
+        let behind = self
+            .entries
+            .keep_plain(&mut before.entries, self.sections.objects, text)?;
         self.entries.are_few(&before.entries);
         Some(behind)
     }
 
     fn sections(&self) -> &[Section] {
         if self.entries.has_max() {
-            &WITH_MAX
+            &self.sections.with_max
         } else {
-            &WITHOUT_MAX
+            &self.sections.without_max
         }
     }
 
     fn rank(&self, item: Line<E::Entry>) -> usize {
         match item {
+            Line::Objects(_) => SIZE_RANK,
             Line::Max(_) => MAX_RANK,
             Line::Object { .. } => OBJECT_RANK,
             Line::Entry(_) => ENTRY_RANK,
@@ -147,9 +146,10 @@ impl<E: Entries> Grammar for StoreGrammar<E> {
         item: Line<E::Entry>,
     ) -> bool {
         match item {
+            Line::Objects(size) => 1 <= size && size <= MOST_SIZE,
             Line::Max(most) => 2 <= most && most <= MOST_EVENTS,
-            Line::Object { file, .. } => file <= 255,
-            Line::Entry(entry) => self.entries.is_in_range(entry),
+            Line::Object { file, .. } => file < self.sections.objects,
+            Line::Entry(entry) => self.entries.is_in_range(self.sections.objects, entry),
             Line::End => true,
         }
     }
@@ -161,6 +161,15 @@ impl<E: Entries> Grammar for StoreGrammar<E> {
     fn has_twin(&self, _before: &KeptParts<E::Kept>, _item: Line<E::Entry>) -> bool {
         false
     }
+}
+
+#[tactic(auto, unfolding(crate::specs::Body::size_of_words))]
+fn size_of_words<Entry>(words: &[&[u8]]) -> Result<Line<Entry>, FaultKind>
+    ensures { result ≡ size_of_words (map (λ w. w.now) words.now) }
+{
+    exactly(words, 2)?;
+    let size = number_at(words, 1)?;
+    Ok(Line::Objects(size))
 }
 
 #[tactic(auto, unfolding(crate::specs::Body::max_of_words))]

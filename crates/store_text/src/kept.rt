@@ -1,4 +1,5 @@
 ghost use Rattle.std.specs.Prelude.{◌≤◌, length};
+ghost use Rattle.store_text.specs.Size.{most_size};
 
 use crate::line::ObjectLine;
 use crate::parts::Parts;
@@ -7,12 +8,13 @@ use std::alloc::Global;
 /// The parts that the lines so far say, with what is kept of the entries.
 #[derive(Drop)]
 pub struct KeptParts<Kept: Drop> {
+    pub size: Option<u32>,
     pub max: Option<u32>,
     pub objects: Vec<ObjectLine>,
     pub entries: Kept,
     /// Whether `end` has come.
     pub has_ended: bool,
-    ghost few_objects: { length objects.items ≤ 256 },
+    ghost few_objects: { length objects.items ≤ most_size },
 }
 
 impl<Kept: Drop> KeptParts<Kept> {
@@ -21,12 +23,14 @@ impl<Kept: Drop> KeptParts<Kept> {
 
     /// No line, and what is kept of no entry.
     pub fn new(alloc: Global, entries: Kept) -> KeptParts<Kept>
+        ensures size { result.size ≡ None }
         ensures max { result.max ≡ None }
         ensures objects { result.objects.items ≡ [] }
         ensures entries { result.entries ≡ entries }
         ensures unended { result.has_ended ≡ false }
     {
         KeptParts {
+            size: None,
             max: None,
             objects: Vec::new(alloc),
             entries,
@@ -36,17 +40,20 @@ impl<Kept: Drop> KeptParts<Kept> {
 
     /// The parts of a text that was read to its end.
     pub fn into_parts(self) -> Parts<Kept>
+        ensures size { result.size ≡ self.size }
         ensures max { result.max ≡ limit_of self.max }
         ensures objects { result.objects.items ≡ self.objects.items }
         ensures entries { result.entries ≡ self.entries }
     {
         let KeptParts {
+            size,
             max,
             objects,
             entries,
             has_ended: _,
         } = self;
         Parts {
+            size,
             max: max.unwrap_or(0),
             objects,
             entries,

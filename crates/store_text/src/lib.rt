@@ -8,6 +8,8 @@ mod kept;
 mod line;
 mod parts;
 mod read;
+mod sections;
+mod size;
 
 pub use entries::Entries;
 pub use grammar::StoreGrammar;
@@ -15,3 +17,4 @@ pub use kept::KeptParts;
 pub use line::{Line, ObjectLine};
 pub use parts::Parts;
 pub use read::read_parts;
+pub use size::{MOST_SIZE, may_have, text_size};

@@ -3,6 +3,8 @@ use type_table::Kind;
 /// What a line says of a text about a store's objects.
 #[derive(Clone, Copy)]
 pub enum Line<Entry> {
+    /// `objects N`: how many objects the text may have.
+    Objects(u32),
     /// `max N`: the most events of the store's history.
     Max(u32),
     /// `object KIND F`: the next object, of the type in file F.
@@ -17,5 +19,5 @@ pub enum Line<Entry> {
 #[derive(Clone, Copy, Debug, PartialEq, Eq)]
 pub struct ObjectLine {
     pub kind: Kind,
-    pub file: u8,
+    pub file: u16,
 }

@@ -4,13 +4,12 @@ use Rattle.std.specs.List.{AllByRecursion}
 use Rattle.std.proofs.lemmas.Grind.{flat_map-append}
 use Rattle.std.proofs.lemmas.List.Elements.{filter-append}
 use Rattle.line_text.specs.Comments.{MaySkip, ended, lines_text, tells}
-use Rattle.line_text.specs.Outcome.{outcome_of}
 use Rattle.line_text.specs.Spelling.{spaced, text_of}
 use Rattle.line_text.specs.Text.{is_comment}
 use Rattle.line_text.proofs.CommentLines.{comments_skip, nothing_told, skips_append, told_skips}
-use Rattle.store_text.specs.Body.{store_rules}
+use Rattle.store_text.specs.Body.{store_outcome}
 use Rattle.store_text.specs.declared.line.Line.{Line}
-use Rattle.store_text.specs.declared.line.Line.TheVariants.{Max, Object, Entry, End}
+use Rattle.store_text.specs.declared.line.Line.TheVariants.{Objects, Max, Object, Entry, End}
 use Rattle.history_text.specs.Canonical.{CanonicalIsRead, CommentsAreSkipped, canonical_lines, canonical_text, words_of}
 use Rattle.history_text.specs.Events.{history_body}
 use Rattle.history_text.specs.declared.event_line.EventLine.{EventLine}
@@ -37,6 +36,7 @@ tells_event (Abort w t) = refl
 tells_event (Rollback w t n) = refl
 
 tells_line : (l : Line EventLine) → is_comment (line l) ≡ false
+tells_line (Objects n) = refl
 tells_line (Max most) = refl
 tells_line (Object kind file) = refl
 tells_line (Entry x) = tells_event x
@@ -67,7 +67,7 @@ work_read skipped canonical = λ objects H kept audit reports fit short.
     let whole : lines_text all ≡ canonical_text objects H ++ lines_text rest.lines =
     flat_map-append ended (lines said) rest.lines ∙ ap (λ (t : List ℕ). t ++ lines_text rest.lines) (sym (text-lines said))
     in
-    let read = subst (λ (t : List ℕ). outcome_of (store_rules history_body) t ≡ Ok said) (sym alone) (canonical objects H fit).read in
+    let read = subst (λ (t : List ℕ). store_outcome history_body t ≡ Ok said) (sym alone) (canonical objects H fit).read in
     let may = skips_append (lines said) rest.lines (all_skip said) (comments_skip rest.lines rest.are) in
     let both = skipped all said may read in
-    subst (λ (t : List ℕ). outcome_of (store_rules history_body) t ≡ Ok said) (whole ∙ ap (λ (t : List ℕ). canonical_text objects H ++ t) (sym rest.is)) both
+    subst (λ (t : List ℕ). store_outcome history_body t ≡ Ok said) (whole ∙ ap (λ (t : List ℕ). canonical_text objects H ++ t) (sym rest.is)) both

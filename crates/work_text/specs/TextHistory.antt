@@ -1,9 +1,8 @@
 -- That the text of what workers did is read as its history: the lines after it are comments.
 use Rattle.std.specs.Prelude.{◌≡◌, ℕ, ◌<◌, ◌^◌, List, length, Result, Ok, Err}
 use Rattle.std.specs.List.{AllByRecursion}
-use Rattle.line_text.specs.Outcome.{outcome_of}
 use Rattle.object_trait.specs.declared.event.Event.{Event}
-use Rattle.store_text.specs.Body.{store_rules}
+use Rattle.store_text.specs.Body.{store_outcome}
 use Rattle.store_text.specs.declared.line.ObjectLine.{ObjectLine}
 use Rattle.history_text.specs.Canonical.{AreInRange, canonical_lines}
 use Rattle.history_text.specs.Events.{history_body}
@@ -59,4 +58,4 @@ pub record AreShort (kept : List ℕ) (audit : Result Audit AuditFault) (reports
 abbrev pub WorkIsRead : Type 0
 WorkIsRead =
     (objects : List ObjectLine) (H : List Event) (kept : List ℕ) (audit : Result Audit AuditFault) (reports : List Report) → AreInRange objects H → AreShort kept audit reports
-    → outcome_of (store_rules history_body) (work_text objects H kept audit reports) ≡ Ok (canonical_lines objects H)
+    → store_outcome history_body (work_text objects H kept audit reports) ≡ Ok (canonical_lines objects H)

@@ -8,6 +8,6 @@ abbrev pub invariant-loop-place : goal.invariant-loop-place
 invariant-loop-place l = record {
   types : l.store.types ≡ l.fn.store.types;
   history : l.store.history ≡ l.fn.store.history ++ events_of_kinds (take l.place l.happened);
-  limit : l.store.max ≡ l.fn.store.max;
+  limit : l.store.limits ≡ l.fn.store.limits;
   made : AreMade l.fn.store (events_of_kinds (take l.place l.happened));
 }

@@ -1,4 +1,4 @@
-use Rattle.std.proofs.Common.{sym, rules}
+use Rattle.std.proofs.Common.{◌-◌, arith, sym, rules}
 use denote.Enum.Bare.{same_true}
 use Rattle.type_table.specs.contracts.kind.Kind.{the_type}
 use Rattle.object_types.proofs.Objects.{same_line}
@@ -6,4 +6,4 @@ use Rattle.object_types.proofs.accept.place_of.Goals as goal
 
 pub returns-then-other-line : goal.returns-then-other-line
 returns-then-other-line c =
-    same_line c.args.lines.now c.loop-place.place _ c.args.line c.loop-place-test.true (same_true the_type (search rules) _ _ (sym c.if-eq.ensures)) c.if-other-line.true
+    same_line c.args.lines.now (c.loop-place.place - 1) _ c.args.line (omega (arith, c.loop-place-test.true, c.loop-place.auto.place)) (same_true the_type (search rules) _ _ (sym c.if-eq.ensures)) c.if-other-line.true

@@ -5,8 +5,10 @@ use Rattle.script_text.proofs.plain.keep_abort.Goals as goal
 
 pub returns : goal.returns
 returns c = record {
-  entry = Abort c.in_ok-t.t;
-  says = abort_plainly c.in_ok-t.t c.args.rest.now c.in_ok-t.behind.now c.in_ok-t.ensures;
-  in_range = refl;
-  kept = c.in_ok-put.ensures;
+  keeps = λ objects. record {
+    entry = Abort c.in_ok-t.t;
+    says = λ size. abort_plainly size c.in_ok-t.t c.args.rest.now c.in_ok-t.behind.now c.in_ok-t.ensures;
+    in_range = refl;
+    kept = c.in_ok-put.ensures;
+  };
 }

@@ -5,8 +5,10 @@ use Rattle.script_text.proofs.plain.keep_begin.Goals as goal
 
 pub returns : goal.returns
 returns c = record {
-  entry = Begin;
-  says = begin_plainly c.args.behind.now;
-  in_range = refl;
-  kept = c.in_ok-put.ensures;
+  keeps = λ objects. record {
+    entry = Begin;
+    says = λ size. begin_plainly size c.args.behind.now;
+    in_range = refl;
+    kept = c.in_ok-put.ensures;
+  };
 }

@@ -5,8 +5,10 @@ use Rattle.script_text.proofs.plain.keep_call.Goals as goal
 
 pub returns : goal.returns
 returns c = record {
-  entry = Call c.in_ok-t.t c.in_ok-x.x c.in_ok-word.word.now;
-  says = call_plainly c.in_ok-t.t c.in_ok-x.x c.in_ok-word.word.now c.args.rest.now c.in_ok-t.rest.now c.in_ok-x.rest.now c.in_ok-word.behind.now c.in_ok-t.ensures c.in_ok-x.ensures c.in_ok-word.ensures c.in_ok-put_call.ensures.0 (c.names_are_words.ensures c.in_ok-word.word.now);
-  in_range = refl;
-  kept = c.in_ok-put_call.ensures.1;
+  keeps = λ objects. record {
+    entry = Call c.in_ok-t.t c.in_ok-x.x c.in_ok-word.word.now;
+    says = λ size. call_plainly size c.in_ok-t.t c.in_ok-x.x c.in_ok-word.word.now c.args.rest.now c.in_ok-t.rest.now c.in_ok-x.rest.now c.in_ok-word.behind.now c.in_ok-t.ensures c.in_ok-x.ensures c.in_ok-word.ensures c.in_ok-put_call.ensures.0 (c.names_are_words.ensures c.in_ok-word.word.now);
+    in_range = refl;
+    kept = c.in_ok-put_call.ensures.1;
+  };
 }

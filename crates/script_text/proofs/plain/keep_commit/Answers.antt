@@ -5,8 +5,10 @@ use Rattle.script_text.proofs.plain.keep_commit.Goals as goal
 
 pub returns : goal.returns
 returns c = record {
-  entry = Commit c.in_ok-t.t;
-  says = commit_plainly c.in_ok-t.t c.args.rest.now c.in_ok-t.behind.now c.in_ok-t.ensures;
-  in_range = refl;
-  kept = c.in_ok-put.ensures;
+  keeps = λ objects. record {
+    entry = Commit c.in_ok-t.t;
+    says = λ size. commit_plainly size c.in_ok-t.t c.args.rest.now c.in_ok-t.behind.now c.in_ok-t.ensures;
+    in_range = refl;
+    kept = c.in_ok-put.ensures;
+  };
 }

@@ -1,4 +1,7 @@
 use Rattle.std.proofs.Common.{◌≡◌, List, [], map, sym, ap, ◌∙◌}
+use Rattle.std.specs.Option.{option_to_list}
+use Rattle.line_text.specs.Outcome.{fault_on}
+use Rattle.line_text.specs.declared.fault.FaultKind.TheVariants.{Missing}
 use Rattle.store_text.specs.Said.{entries_of}
 use Rattle.store_text.specs.declared.line.Line.{Line}
 use Rattle.history_text.specs.Events.{event_in_line}
@@ -12,7 +15,7 @@ returns-clause-described c = λ h has.
     record {
       lines = history_lines;
       accepted = c.texts_say_their_lines.ensures.history;
-      described = record { objects = has.objects_are ∙ sym says.objects; events = has.events_are ∙ sym says.events };
+      described = record { size = sym (ap option_to_list has.size_is); objects = has.objects_are ∙ sym says.objects; events = has.events_are ∙ sym says.events };
     }
 
 -- the text has events
@@ -23,3 +26,6 @@ returns-clause-other c = λ h has other.
     let told : some_events ≡ [] = sym c.lines_say_their_history.ensures.events ∙ ap (λ (lines : List (Line EventLine)). map event_in_line (entries_of lines)) same
     ∙ sym other.described.events ∙ has.events_are in
     cc
+
+pub returns-clause-faulty : goal.returns-clause-faulty
+returns-clause-faulty c = (fault_on 12 Missing, c.faults_of_the_history.ensures.no_end)

@@ -1,11 +1,11 @@
-use Rattle.std.proofs.Common.{ap, sym, refl, Some}
+use Rattle.std.proofs.Common.{[], ◌∷◌, ap, sym, refl}
+use Rattle.std.specs.Option.{option_to_list}
 use Rattle.type_table.specs.Name.{is_name}
 use Rattle.line_text.specs.Shapes.{is_key, exactly, name_at, number_at, kind_at}
 use Rattle.line_text.specs.LineTests.{line_fault, words_fault, item_fault}
 use Rattle.line_text.specs.Outcome.{outcome_of, first_fault, fault_on}
 use Rattle.line_text.specs.declared.fault.FaultKind.TheVariants.{OutOfRange}
 use Rattle.store_text.specs.Body.{line_of, max_of_words, object_of_words, end_of_words}
-use Rattle.store_text.specs.declared.line.Line.TheVariants.{Max}
 use Rattle.jobs_text.specs.Examples.{jobs_lines}
 use Rattle.jobs_text.specs.JobLines.{job_line_of, job_of, do_of}
 use Rattle.store_files.proofs.JobLists.{both-jobs}
@@ -16,7 +16,8 @@ returns-clause-described c = λ file has. record {
   lines = jobs_lines;
   accepted = c.texts_say_their_lines.ensures.jobs;
   described = record {
-    max = ap (λ most. Some (Max most)) (sym has.max_is);
+    size = sym (ap option_to_list has.size_is);
+    max = ap (λ most. most ∷ []) (sym has.max_is);
     objects = has.objects_are;
     jobs = both-jobs file.jobs.items has.jobs_are;
   };
