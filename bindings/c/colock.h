@@ -74,7 +74,7 @@ typedef enum colock_code {
     COLOCK_NOT_OPEN = 1,          /* the transaction isn't open */
     COLOCK_NO_OBJECT = 2,         /* the store has no object of this number */
     COLOCK_NO_CALL = 3,           /* no operation of the object's type has this call */
-    COLOCK_TOO_MANY_OPEN = 4,     /* 1,024 transactions are open */
+    COLOCK_TOO_MANY_OPEN = 4,     /* as many transactions are open as the store may have */
     COLOCK_HISTORY_FULL = 5,      /* the history has no room for the event and the end of each open transaction */
     COLOCK_NO_MEMORY = 6,         /* memory was refused */
     COLOCK_BAD_ROLLBACK = 7,      /* a rollback of no operation, or of more than the transaction has */
@@ -84,9 +84,9 @@ typedef enum colock_code {
     COLOCK_REFUSED = 11,          /* the checker refuses the type for this kind */
     COLOCK_BAD_KIND = 12,         /* no kind of recovery has this number */
     COLOCK_NO_OBJECTS = 13,       /* a store of no object */
-    COLOCK_TOO_MANY_OBJECTS = 14, /* a store of more than 256 objects */
+    COLOCK_TOO_MANY_OBJECTS = 14, /* a store of more objects than it may have */
     COLOCK_NOT_FRESH = 15,        /* an object isn't as it was made (no caller of these calls sees it) */
-    COLOCK_BAD_MAX = 16,          /* a limit below 2, or above 4,294,967,295 */
+    COLOCK_BAD_MAX = 16,          /* a limit of the store is out of its range */
     COLOCK_STILL_OPEN = 17,       /* a transaction is open */
     COLOCK_NOT_MADE = 18,         /* no command makes this event now */
     COLOCK_FORGOTTEN = 19,        /* these events were forgotten, or some of them */
@@ -120,7 +120,7 @@ static inline const char *colock_strerror(uint32_t code) {
     case COLOCK_NO_OBJECTS: return "a store of no object";
     case COLOCK_TOO_MANY_OBJECTS: return "a store of too many objects";
     case COLOCK_NOT_FRESH: return "an object isn't as it was made";
-    case COLOCK_BAD_MAX: return "the limit of events is out of its range";
+    case COLOCK_BAD_MAX: return "a limit of the store is out of its range";
     case COLOCK_STILL_OPEN: return "a transaction is open";
     case COLOCK_NOT_MADE: return "no command makes this event now";
     case COLOCK_FORGOTTEN: return "these events were forgotten";
@@ -303,10 +303,14 @@ uint32_t colock_store_new(colock_store *store);
 /* Adds an object of a type, in its initial state. Objects are numbered from 0; several may have one type. The
  * type may be closed before the store. COLOCK_NOT_HELD, COLOCK_NO_MEMORY. */
 uint32_t colock_store_add(colock_store *store, colock_type *type);
-/* Makes the store of its objects, whose history will have at most `max_events` events, those that were
- * forgotten among them. COLOCK_NOT_HELD, COLOCK_NO_OBJECTS, COLOCK_TOO_MANY_OBJECTS, COLOCK_BAD_MAX,
+/* Makes the store of its objects, of which there may be 256. At most 1,024 transactions are open at once, and its
+ * history has at most `max_events` events, 2 to 4,294,967,295, those that were forgotten among them. It returns the
+ * first that holds of COLOCK_NOT_HELD, COLOCK_NO_OBJECTS, COLOCK_TOO_MANY_OBJECTS, COLOCK_BAD_MAX and
  * COLOCK_NO_MEMORY: the objects stay. */
 uint32_t colock_store_open(colock_store *store, uint64_t max_events);
+/* The same with limits of the store's own: 2 to 4,294,967,295 events, 1 to 65,536 open transactions, and 1 to 65,536
+ * objects. COLOCK_BAD_MAX where one of them is out of its range. */
+uint32_t colock_store_open_with(colock_store *store, uint64_t events, uint32_t open, uint32_t objects);
 
 /* ---- Transactions
  *
@@ -367,7 +371,7 @@ uint32_t colock_follow(colock_store *store, const colock_event *events, size_t e
 
 /* ---- Ends */
 
-/* Begins anew at the states that are kept, with no event and the same limit: transactions count from 0 again.
+/* Begins anew at the states that are kept, with no event and the same limits: transactions count from 0 again.
  * COLOCK_STILL_OPEN, COLOCK_NO_MEMORY. */
 uint32_t colock_renew(colock_store *store);
 /* Ends what the handle holds; a store aborts what is open. The handle may be used again. COLOCK_NOT_HELD where it

@@ -109,7 +109,10 @@ static void make_store(int h) {
         WANT((code == COLOCK_NOT_HELD) == (holds[h] != OBJECTS || holds[of] != A_TYPE));
         counted(code);
     }
-    code = meant_for(h, OBJECTS, colock_store_open(&handles[h].store, draw(2) ? 1000 : number()));
+    uint64_t events = draw(2) ? 1000 : number();
+    code = draw(2) ? colock_store_open(&handles[h].store, events)
+                   : colock_store_open_with(&handles[h].store, events, (uint32_t)number(), (uint32_t)number());
+    meant_for(h, OBJECTS, code);
     if (!code) holds[h] = A_STORE;
 }
 

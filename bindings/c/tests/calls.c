@@ -298,6 +298,32 @@ static void a_store_is_made(void) {
     WANT(begin(&store, 0) == 0 && colock_store_close(&store) == COLOCK_OK);
 }
 
+/* A store with limits of its own, which is refused by the first reason that holds. */
+static void limits_have_ranges(void) {
+    static const uint64_t events[] = {0, 1, (uint64_t)1 << 32, UINT64_MAX};
+    static const uint32_t others[] = {0, 65537, UINT32_MAX};
+    colock_store store = COLOCK_EMPTY;
+    colock_type type = COLOCK_EMPTY;
+    colock_fault fault = NO_FAULT;
+    WANT(colock_type_read(&type, COLOCK_UNDO, TEXT(CTR2), &fault) == COLOCK_OK);
+    WANT(colock_store_open_with(&store, 9, 1, 1) == COLOCK_NOT_HELD && colock_store_open_with(as_store(&type), 9, 1, 1) == COLOCK_NOT_HELD);
+    WANT(colock_store_new(&store) == COLOCK_OK && colock_store_open_with(&store, 0, 0, 0) == COLOCK_NO_OBJECTS);
+    WANT(colock_store_add(&store, &type) == COLOCK_OK && colock_store_add(&store, &type) == COLOCK_OK);
+    for (uint32_t objects = 0; objects < 2; objects++) {
+        WANT(colock_store_open_with(&store, 9, 1, objects) == COLOCK_TOO_MANY_OBJECTS);
+        WANT(colock_store_open_with(&store, 0, 0, objects) == COLOCK_TOO_MANY_OBJECTS);
+    }
+    for (int i = 0; i < 4; i++) WANT(colock_store_open_with(&store, events[i], 1, 2) == COLOCK_BAD_MAX);
+    for (int i = 0; i < 3; i++) WANT(colock_store_open_with(&store, 9, others[i], 2) == COLOCK_BAD_MAX);
+    for (int i = 1; i < 3; i++) WANT(colock_store_open_with(&store, 9, 1, others[i]) == COLOCK_BAD_MAX);
+    is_no_store(&store);
+    WANT(colock_store_open_with(&store, 2, 1, 2) == COLOCK_OK && colock_store_open_with(&store, 2, 1, 2) == COLOCK_NOT_HELD);
+    WANT(begin(&store, 0) == 0 && colock_commit(&store, 0, 0) == COLOCK_OK && colock_store_close(&store) == COLOCK_OK);
+    add_counters(&store, 1);
+    WANT(colock_store_open_with(&store, UINT32_MAX, 65536, 65536) == COLOCK_OK && begin(&store, 0) == 0);
+    WANT(colock_store_close(&store) == COLOCK_OK && colock_type_close(&type) == COLOCK_OK);
+}
+
 static bool is_told(uint32_t code, const colock_answer *answer, uint64_t kind, uint64_t number) {
     return code == COLOCK_OK && answer->kind == kind && answer->number == number;
 }
@@ -532,6 +558,7 @@ int main(void) {
     a_type_is_read();
     tables_are_made();
     a_store_is_made();
+    limits_have_ranges();
     a_store_is_used();
     a_store_is_made_and_closed();
     events_cross_and_are_made_again();

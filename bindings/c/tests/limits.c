@@ -1,35 +1,124 @@
-/* The limits: 1,024 open transactions, 256 objects, a full history, the largest type, the bounds of numbers; a
- * store that forgets goes on. */
+/* The limits: open transactions and objects, 1,024 and 256 of them or a limit of the store's own; a full history, the
+ * largest type, the bounds of numbers; a store that forgets goes on. */
 #include "want.h"
 
-static void only_so_many_are_open(void) {
-    colock_store store = COLOCK_EMPTY;
+enum { MOST = 65536 };
+
+/* As many as may be open, of which one in the middle ends and another one begins. */
+static void only_so_many_are_open(colock_store *store, uint64_t most) {
     uint64_t t = UNTOUCHED, count = UNTOUCHED;
-    open_counters(&store, 1, 1000000);
-    for (uint64_t i = 0; i < 1024; i++) WANT(begin(&store, (uint8_t)i) == i);
-    WANT(colock_begin(&store, 0, &t) == COLOCK_TOO_MANY_OPEN && t == UNTOUCHED);
-    WANT(colock_open_count(&store, &count) == COLOCK_OK && count == 1024);
-    WANT(colock_abort(&store, 0, 500) == COLOCK_OK && begin(&store, 0) == 1024);
-    WANT(colock_begin(&store, 0, &t) == COLOCK_TOO_MANY_OPEN);
-    WANT(colock_abort_all(&store) == COLOCK_OK && begin(&store, 0) == 1025);
-    WANT(colock_store_close(&store) == COLOCK_OK);
+    for (uint64_t i = 0; i < most; i++) WANT(begin(store, (uint8_t)i) == i);
+    WANT(colock_begin(store, 0, &t) == COLOCK_TOO_MANY_OPEN && t == UNTOUCHED);
+    WANT(colock_open_count(store, &count) == COLOCK_OK && count == most);
+    WANT(colock_abort(store, 0, most / 2) == COLOCK_OK && begin(store, 0) == most);
+    WANT(colock_begin(store, 0, &t) == COLOCK_TOO_MANY_OPEN);
+    WANT(colock_abort_all(store) == COLOCK_OK && begin(store, 0) == most + 1);
+    WANT(colock_store_close(store) == COLOCK_OK);
 }
 
-static void only_so_many_objects_are_there(void) {
+static void open_transactions_are_limited(void) {
+    static const uint32_t limits[] = {1, 2, 1023, 1024, 1025, MOST - 1, MOST};
+    colock_store store = COLOCK_EMPTY;
+    open_counters(&store, 1, 1000000);
+    only_so_many_are_open(&store, 1024);
+    for (int i = 0; i < 7; i++) {
+        add_counters(&store, 1);
+        WANT(colock_store_open_with(&store, 1000000, limits[i], 1) == COLOCK_OK);
+        only_so_many_are_open(&store, limits[i]);
+    }
+}
+
+/* Each object is one by itself: one in three is counted up, and the last is there. */
+static void each_object_is_kept(colock_store *store, uint32_t objects) {
+    colock_answer answer = {UNTOUCHED, UNTOUCHED};
+    colock_event event;
+    uint64_t kept, count;
+    WANT(begin(store, 0) == 0);
+    for (uint32_t x = objects - 1; x < objects; x -= 3) WANT(colock_call_op(store, 0, 0, x, 0, &answer) == COLOCK_OK && answer.kind == COLOCK_REPLY);
+    answer.kind = UNTOUCHED;
+    WANT(colock_call_op(store, 0, 0, objects, 0, &answer) == COLOCK_NO_OBJECT && colock_call(store, 0, 0, UINT32_MAX, TEXT("inc:1"), &answer) == COLOCK_NO_OBJECT);
+    WANT(colock_would_op(store, 0, objects, 0, &answer) == COLOCK_NO_OBJECT && answer.kind == UNTOUCHED);
+    WANT(colock_events(store, 1, &event, 1, &count) == COLOCK_OK && event.object == objects - 1);
+    WANT(colock_commit(store, 0, 0) == COLOCK_OK && colock_kept(store, objects, &kept) == COLOCK_NO_OBJECT);
+    WANT(colock_renew(store) == COLOCK_OK && begin(store, 0) == 0);
+    for (uint32_t x = 0; x < objects; x++) WANT(colock_kept(store, x, &kept) == COLOCK_OK && kept == (x % 3 == (objects - 1) % 3));
+    WANT(colock_store_close(store) == COLOCK_OK);
+}
+
+static void objects_are_limited(void) {
+    colock_store store = COLOCK_EMPTY;
+    add_counters(&store, 257);
+    WANT(colock_store_open(&store, 1000000) == COLOCK_TOO_MANY_OBJECTS && colock_store_open_with(&store, 1000000, 1, 256) == COLOCK_TOO_MANY_OBJECTS);
+    WANT(colock_store_open_with(&store, 1000000, 1, 257) == COLOCK_OK); /* they have stayed */
+    each_object_is_kept(&store, 257);
+    open_counters(&store, 256, 1000000);
+    each_object_is_kept(&store, 256);
+    add_counters(&store, MOST);
+    WANT(colock_store_open(&store, 1000000) == COLOCK_TOO_MANY_OBJECTS && colock_store_open_with(&store, 1000000, 1, MOST - 1) == COLOCK_TOO_MANY_OBJECTS);
+    WANT(colock_store_open_with(&store, 1000000, 1, MOST + 1) == COLOCK_BAD_MAX && colock_store_open_with(&store, 1, 1, MOST) == COLOCK_BAD_MAX);
+    WANT(colock_store_open_with(&store, 1000000, 1, MOST) == COLOCK_OK);
+    each_object_is_kept(&store, MOST);
+}
+
+/* One more than any store may have. They stay, and more may be added. */
+static void more_objects_than_any_store_has(void) {
+    colock_store store = COLOCK_EMPTY;
+    colock_type type = COLOCK_EMPTY;
+    colock_fault fault;
+    add_counters(&store, MOST + 1);
+    WANT(colock_type_read(&type, COLOCK_UNDO, TEXT(CTR2), &fault) == COLOCK_OK);
+    for (int i = 0; i < 2; i++) {
+        WANT(colock_store_open_with(&store, 1000000, 1, MOST) == COLOCK_TOO_MANY_OBJECTS);
+        WANT(colock_store_open_with(&store, 1000000, 1, UINT32_MAX) == COLOCK_BAD_MAX);
+        WANT(colock_store_add(&store, &type) == COLOCK_OK);
+    }
+    WANT(colock_store_close(&store) == COLOCK_OK && colock_type_close(&type) == COLOCK_OK);
+}
+
+/* Many at one object, each with an operation, which end from both sides. */
+static void many_work_at_one_object(const char *text, uint32_t kind, uint64_t wanted) {
+    enum { MANY = 16384 };
     colock_store store = COLOCK_EMPTY;
     colock_type type = COLOCK_EMPTY;
     colock_fault fault;
     colock_answer answer;
-    WANT(colock_type_read(&type, COLOCK_INTENTIONS, TEXT(CTR2), &fault) == COLOCK_OK);
-    for (int objects = 256; objects <= 257; objects++) {
-        WANT(colock_store_new(&store) == COLOCK_OK);
-        for (int x = 0; x < objects; x++) WANT(colock_store_add(&store, &type) == COLOCK_OK);
-        WANT(colock_store_open(&store, 9) == (objects == 256 ? COLOCK_OK : COLOCK_TOO_MANY_OBJECTS));
-        if (objects == 256) WANT(begin(&store, 0) == 0 && colock_call_op(&store, 0, 0, 255, 0, &answer) == COLOCK_OK);
-        if (objects == 256) WANT(colock_call_op(&store, 0, 0, 256, 0, &answer) == COLOCK_NO_OBJECT);
-        WANT(colock_store_close(&store) == COLOCK_OK);
+    uint64_t kept, count, forgotten;
+    WANT(colock_type_read(&type, kind, TEXT(text), &fault) == COLOCK_OK);
+    WANT(colock_store_new(&store) == COLOCK_OK && colock_store_add(&store, &type) == COLOCK_OK && colock_type_close(&type) == COLOCK_OK);
+    WANT(colock_store_open_with(&store, 1000000, MANY, 1) == COLOCK_OK);
+    for (uint64_t t = 0; t < MANY; t++) {
+        WANT(begin(&store, 0) == t && colock_call(&store, 0, t, 0, TEXT("give:1"), &answer) == COLOCK_OK);
+        WANT(answer.kind == COLOCK_REPLY && answer.number == 0);
     }
-    WANT(colock_type_close(&type) == COLOCK_OK);
+    for (uint64_t t = 0; t < MANY / 2; t++) WANT(colock_commit(&store, 0, t) == COLOCK_OK && colock_abort(&store, 0, MANY - 1 - t) == COLOCK_OK);
+    WANT(colock_kept(&store, 0, &kept) == COLOCK_OK && kept == wanted);
+    WANT(colock_open_count(&store, &count) == COLOCK_OK && count == 0);
+    WANT(colock_event_count(&store, &count, &forgotten) == COLOCK_OK && count == 3 * MANY);
+    WANT(colock_store_close(&store) == COLOCK_OK);
+}
+
+/* A transaction over many objects takes its operations back, the last ones first. */
+static void operations_at_many_objects_are_taken_back(uint32_t kind) {
+    enum { OBJECTS = 8192 };
+    static const uint64_t one[] = {1};
+    colock_store store = COLOCK_EMPTY;
+    colock_type type = COLOCK_EMPTY;
+    colock_fault fault;
+    colock_answer answer;
+    uint64_t kept;
+    WANT(colock_type_counter(&type, kind, 2, one, 1, &fault) == COLOCK_OK && colock_store_new(&store) == COLOCK_OK);
+    for (int x = 0; x < OBJECTS; x++) WANT(colock_store_add(&store, &type) == COLOCK_OK);
+    WANT(colock_store_open_with(&store, 1000000, 2, OBJECTS) == COLOCK_OK && colock_type_close(&type) == COLOCK_OK);
+    WANT(begin(&store, 0) == 0 && begin(&store, 0) == 1);
+    for (int i = 0; i < 2; i++)
+        for (uint32_t x = 0; x < OBJECTS; x++) WANT(colock_call(&store, 0, 0, x, TEXT("inc:1"), &answer) == COLOCK_OK && answer.kind == COLOCK_REPLY);
+    WANT(colock_rollback(&store, 0, 0, 2 * OBJECTS + 1) == COLOCK_BAD_ROLLBACK);
+    WANT(colock_rollback(&store, 0, 0, OBJECTS + OBJECTS / 2) == COLOCK_OK); /* it has one at each of the first half */
+    WANT(colock_rollback(&store, 0, 0, OBJECTS / 2 + 1) == COLOCK_BAD_ROLLBACK);
+    WANT(colock_call(&store, 0, 1, OBJECTS - 1, TEXT("inc:1"), &answer) == COLOCK_OK && answer.kind == COLOCK_REPLY);
+    WANT(colock_commit(&store, 0, 0) == COLOCK_OK && colock_abort(&store, 0, 1) == COLOCK_OK);
+    for (uint32_t x = 0; x < OBJECTS; x++) WANT(colock_kept(&store, x, &kept) == COLOCK_OK && kept == (x < OBJECTS / 2));
+    WANT(colock_store_close(&store) == COLOCK_OK);
 }
 
 /* There is always room for the end of each open transaction. */
@@ -178,12 +267,21 @@ static void a_number_is_made_of_amounts(void) {
 }
 
 int main(void) {
+    static const char anything[] = "type free\nstates 1\ninitial 0\nop give:1 ok\nstep 0 0 0\nend\n";
+    static const char number[] = "number large\nmax 4294967295\ninitial 0\ngive 1\nend\n";
     the_largest_type_is_read();
     only_so_many_count_up();
     a_number_has_32_bits();
     a_number_is_made_of_amounts();
-    only_so_many_are_open();
-    only_so_many_objects_are_there();
+    open_transactions_are_limited();
+    objects_are_limited();
+    more_objects_than_any_store_has();
+    many_work_at_one_object(anything, COLOCK_UNDO, 0);
+    many_work_at_one_object(anything, COLOCK_INTENTIONS, 0);
+    many_work_at_one_object(number, COLOCK_ESCROW, 8192);
+    operations_at_many_objects_are_taken_back(COLOCK_UNDO);
+    operations_at_many_objects_are_taken_back(COLOCK_INTENTIONS);
+    operations_at_many_objects_are_taken_back(COLOCK_ESCROW);
     a_history_is_full();
     much_is_forgotten();
     puts("limits: as they have to be");

@@ -30,10 +30,9 @@ static void make_types(colock_type types[TYPES]) {
     DO(colock_type_semiqueue(&types[9], COLOCK_INTENTIONS, TEXT("a b"), 2, &f));
 }
 
-static void make_store(colock_store *store, colock_type types[TYPES]) {
+static void make_objects(colock_store *store, colock_type types[TYPES]) {
     DO(colock_store_new(store));
     for (int i = 0; i < TYPES; i++) DO(colock_store_add(store, &types[i]));
-    DO(colock_store_open(store, 100000));
 }
 
 /* Transactions that are all open before the first of them ends. */
@@ -85,8 +84,10 @@ static void go(uint64_t transactions) {
     colock_type types[TYPES] = {COLOCK_EMPTY};
     colock_store store = COLOCK_EMPTY, other = COLOCK_EMPTY;
     make_types(types);
-    make_store(&store, types);
-    make_store(&other, types);
+    make_objects(&store, types);
+    DO(colock_store_open(&store, 100000));
+    make_objects(&other, types);
+    DO(colock_store_open_with(&other, 100000, 2000, 20));
     use(&store, transactions);
     follow(&store, &other);
     DO(colock_renew(&store));
@@ -107,7 +108,7 @@ int main(int argc, char **argv) {
         WANT(refusals <= 1);
     }
     for (int line = 0; line < 400; line++) met += is_met[line];
-    WANT(met == 18); /* each call that may take memory, and no other */
+    WANT(met == 19); /* each call that may take memory, and no other */
     printf("%ld allocations, each refused in turn, at %ld calls: one code, the same call is done then, no leak\n", n, met);
     return 0;
 }

@@ -44,15 +44,20 @@ static const char CENTS[] = "number cents\nmax 100000\ninitial 0\ntake 250\ngive
 static const char PURSE[] = "number purse\nmax 10000\ninitial 500\ntake 100\ntake any\ngive any\nvalue\nend\n";
 enum { TAKE_100 = 0, TAKE_ANY = 2, TAKE_SHORT = 3, GIVE_ANY = 4, GIVE_FULL = 5, VALUE = 6 };
 
-/* A store of this many objects of the type of CTR2, updated in place. */
-static inline void open_counters(colock_store *store, int objects, uint64_t max_events) {
+/* Objects of the type of CTR2, updated in place, of which a store is to be made. */
+static inline void add_counters(colock_store *store, int objects) {
     colock_type type = COLOCK_EMPTY;
     colock_fault fault;
     WANT(colock_type_read(&type, COLOCK_UNDO, TEXT(CTR2), &fault) == COLOCK_OK);
     WANT(colock_store_new(store) == COLOCK_OK);
     for (int x = 0; x < objects; x++) WANT(colock_store_add(store, &type) == COLOCK_OK);
-    WANT(colock_store_open(store, max_events) == COLOCK_OK);
     WANT(colock_type_close(&type) == COLOCK_OK);
+}
+
+/* A store of this many such objects. */
+static inline void open_counters(colock_store *store, int objects, uint64_t max_events) {
+    add_counters(store, objects);
+    WANT(colock_store_open(store, max_events) == COLOCK_OK);
 }
 
 static inline uint64_t begin(colock_store *store, uint8_t worker) {

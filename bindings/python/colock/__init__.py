@@ -78,6 +78,12 @@ A number that has no table may take and give any amount, and answer what it is:
     0 hold ok    . x
     1 release ok x .
 
+A store in memory has 256 objects at most, and 1,024 open transactions, or limits of its own:
+
+    >>> many = colock.Store.with_limits([counter] * 10_000, colock.Limits(objects=10_000))
+    >>> many.kept(9_999)
+    0
+
 A store has a lock, which each call takes: threads may share it and its transactions.
 """
 from typing import TYPE_CHECKING as _TYPE_CHECKING
@@ -123,6 +129,7 @@ from ._errors import (
     UnexpectedError,
 )
 from ._events import Event, EventKind
+from ._limits import Limits
 from ._old_names import renamed as _renamed
 from ._replies import Busy, Illegal, Operation, Reply
 from ._stats import Stats
@@ -155,6 +162,7 @@ __all__ = [
     "InMemoryOnly",
     "InUse",
     "Kind",
+    "Limits",
     "NeedsEscrow",
     "NoCall",
     "NoMemory",

@@ -25,6 +25,14 @@ SECONDS_TO_MEND = 1.0
 Finish = Optional[Callable[[], None]]
 
 
+class Holder(ref["Transaction"]):
+    """Who has an open transaction, as long as anybody does, and the number of it, as soon as that is noted."""
+
+    __slots__ = ("number",)
+
+    number: int
+
+
 # Several requests, one after another: each is put and given out, and then has its answer.
 Steps = Generator[Slot, None, T]
 # An answer, or what is to be asked for it where it isn't here.
@@ -66,11 +74,11 @@ class Backend(ABC):
         self.doing: Optional[Callable[[], None]] = None
         # who has each open transaction, by its number, and those that are gone. A deque notes that, and so no bytecode,
         # in which a handler might raise what Python would drop.
-        self.holders: Dict[int, "ref[Transaction]"] = {}
-        self.gone: Deque["ref[Transaction]"] = deque()
+        self.holders: Dict[int, Holder] = {}
+        self.gone: Deque[Holder] = deque()
         # the number of the request that was answered last
         self.answered = 0
-        self._goes = self.gone.append
+        self._goes = cast(Callable[["ref[Transaction]"], None], self.gone.append)
         # the requests of transactions that began for calls which were interrupted
         self.left: Deque[Slot] = deque()
 
@@ -88,7 +96,9 @@ class Backend(ABC):
             self.doing()
             self.doing = None
         while self.gone:
-            for number in [number for number, holder in self.holders.items() if holder is self.gone[0]]:
+            number = getattr(self.gone[0], "number", -1)
+            # it may be that of another one by now
+            if self.holders.get(number) is self.gone[0]:
                 is_open = self.is_open(self.life, number)
                 self.abort_forsaken(number)
                 self.holders.pop(number, None)
@@ -98,7 +108,9 @@ class Backend(ABC):
 
     def hold(self, t: "Transaction") -> None:
         """A transaction is aborted where it is open and nobody has it any more."""
-        self.holders[t._number] = ref(t, self._goes)
+        holder = Holder(t, self._goes)
+        holder.number = t._number
+        self.holders[t._number] = holder
 
     @abstractmethod
     def abort_forsaken(self, number: int) -> None:

@@ -109,6 +109,7 @@ SIGNATURES: Dict[str, Any] = {
     "store_new": (_H,),
     "store_add": (_H, _H),
     "store_open": (_H, _64),
+    "store_open_with": (_H, _64, _32, _32),
     "begin": (_H, _8, _P(_64)),
     "call": (_H, _8, _64, _32, _TEXT, _SIZE, _P(Answer)),
     "call_op": (_H, _8, _64, _32, _64, _P(Answer)),

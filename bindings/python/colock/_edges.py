@@ -1,5 +1,5 @@
 """The waiters, and for whom each of them waits. There is no circle while it is walked."""
-from typing import Dict, Iterable, List, NamedTuple, Optional, Set, Tuple
+from typing import Collection, Dict, List, NamedTuple, Optional, Set, Tuple
 
 from ._decisions import Asker, Conflicts, Rank
 from ._lanes import ASKING, LANE, MEMBER, STORE, Lane, Lanes, State
@@ -99,9 +99,11 @@ class Graph:
         """Those behind a transaction as a member of its lane."""
         return list(self._named.get(number, ()))
 
-    def freed(self, number: int, touched: Iterable[int]) -> Set[Rank]:
+    def freed(self, number: int, touched: Collection[int]) -> Set[Rank]:
         """Those behind the store who may be free where a transaction lets go of what it touched."""
-        return set().union(self._blocked.get(number, ()), *(self._stored.get(x, ()) for x in touched))
+        # it may have touched thousands of objects, and those who wait may be at a few, or the other way round
+        few, many = (touched, self._stored) if len(touched) < len(self._stored) else (self._stored, touched)
+        return set().union(self._blocked.get(number, ()), *(self._stored[x] for x in few if x in many))
 
     def all_stored(self) -> Set[Rank]:
         """All behind the store."""

@@ -29,7 +29,7 @@ class NoCall(Error, LookupError):
 
 
 class TooManyOpenError(Error):
-    """1,024 transactions are open."""
+    """As many transactions are open as may be."""
 
 
 class HistoryFullError(Error):
@@ -163,11 +163,11 @@ class NoObjects(Error, ValueError):
 
 
 class TooManyObjects(Error, ValueError):
-    """A store of more than 256 objects."""
+    """A store of more objects than it may have."""
 
 
 class BadMax(Error, ValueError):
-    """A limit below 2, or above 4,294,967,295."""
+    """A limit of the store is out of its range."""
 
 
 class StillOpenError(Error):

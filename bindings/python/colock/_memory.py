@@ -2,13 +2,13 @@
 import ctypes
 import time
 from typing import TYPE_CHECKING, Callable, Iterable, List, Optional, Tuple
-from weakref import ref
 
 from . import _library
 from ._backend import Backend, Finish
 from ._errors import Error, NotFollowedError, NotOpenError, done, error_of
 from ._events import Event, event_of, words_of
 from ._library import functions, quick, unsigned
+from ._limits import Limits
 from ._outcomes import outcome_among
 from ._replies import Busy, Illegal, Reply
 from ._sleepers import Blocker, Sleeper
@@ -31,9 +31,10 @@ _NOBODY = (1 << 64) - 1
 class Memory(Backend):
     """Transactions over the library. What it is asked is done when it answers."""
 
-    def __init__(self, types: Iterable[Type], max_events: int) -> None:
+    def __init__(self, types: Iterable[Type], limits: Limits) -> None:
         self._handle = _library.Handle()
-        limit = unsigned("max_events", max_events, 64)
+        events, opens = unsigned("the limit of events", limits.events, 64), unsigned("the limit of open transactions", limits.open, 32)
+        objects = unsigned("the limit of objects", limits.objects, 32)
         added: List[Type] = []
         done(functions["store_new"](self._handle))
         for of in types:
@@ -50,7 +51,7 @@ class Memory(Backend):
         self._begun = ctypes.c_uint64(_NOBODY)
         # a transaction that ends, and how many commits and aborts there are with it; or `_BEGINS`
         self._half: Optional[Half] = None
-        done(functions["store_open"](self._handle, limit))
+        done(functions["store_open_with"](self._handle, events, opens, objects))
 
     # ---- transactions
 
@@ -62,9 +63,8 @@ class Memory(Backend):
         if code:
             self._half = None
             raise error_of(code)
-        number = self._begun.value
-        t._life, t._number = self.life, number
-        self.holders[number] = ref(t, self._goes)
+        t._life, t._number = self.life, self._begun.value
+        self.hold(t)
         self._half = None
         return True
 

@@ -15,6 +15,7 @@ from ._errors import ConnectionLost, DeadlockError, OutcomeUnknown, Retryable, T
 from ._events import Event
 from ._let_go import warn_of_store
 from ._library import unsigned
+from ._limits import Limits
 from ._memory import Memory
 from ._opening import Opening, open_child
 from ._outcomes import read_id
@@ -45,10 +46,20 @@ class Store:
     def __init__(self, types: Iterable[Type], max_events: int) -> None:
         """A store in memory of an object of each of these types, each in its initial state.
 
-        Its history will have at most `max_events` events, those that were forgotten among them. Raises
-        `NoObjects`, `TooManyObjects`, `BadMax`, `NoMemory`, or `ClosedError` of a type.
+        Its history will have at most `max_events` events, those that were forgotten among them; the other limits are
+        those of `Limits()`. Raises `NoObjects`, `TooManyObjects`, `BadMax`, `NoMemory`, or `ClosedError` of a type.
         """
-        self._start(Memory(types, max_events), 0.0)
+        self._start(Memory(types, Limits(max_events)), 0.0)
+
+    @classmethod
+    def with_limits(cls, types: Iterable[Type], limits: Limits) -> "Store":
+        """A store in memory of an object of each of these types, with limits of its own.
+
+        Raises what `Store` raises, `BadMax` where any limit is out of its range.
+        """
+        store = cls.__new__(cls)
+        store._start(Memory(types, limits), 0.0)
+        return store
 
     @classmethod
     def open(

@@ -164,6 +164,14 @@ class Rules(unittest.TestCase):
         self.engine.ended(70, {3, 5})
         self.assertEqual(drained(self.engine), [Ask(asker(1, x=3))])
 
+    def test_an_end_is_no_more_work_where_many_objects_were_touched(self):
+        for age, x in ((1, 3), (2, 67), (3, 4)):
+            self.enter_behind(asker(age, x=x), 90)
+        self.engine.took_back(70, range(4, 1 << 40))  # more than could be gone through
+        self.assertEqual(drained(self.engine), [Ask(asker(2, x=67)), Ask(asker(3, x=4))])
+        self.engine.ended(80, range(5, 1 << 40))
+        self.assertEqual(drained(self.engine), [])
+
     def test_who_is_behind_its_own_lane_stays_there_when_an_older_one_of_others_leaves(self):
         self.enter_behind(asker(1, UP), 90)
         self.engine.enter(asker(2))

@@ -10,6 +10,7 @@ from support import LONG, InMemory, OverChild, Run, asleep, folder_of, is_runnin
 
 import colock
 from colock import Type
+from colock._backend import Holder
 
 
 class Warned:
@@ -76,6 +77,16 @@ class Transactions:
             del t
             self.assertRaises(colock.ClosedError, store.open_count)
         self.assertEqual(warned.texts, [])
+
+    def test_one_that_has_gone_before(self):
+        # its number may be that of another one by now, or it wasn't noted yet
+        store = self.make([Type.counter(5, [1])])
+        t = store.begin()
+        former, unnumbered = Holder(t, print), Holder(t, print)
+        former.number = t.number
+        store._backend.gone.extend([former, unnumbered])
+        self.assertEqual((store.open_count(), len(store._backend.gone)), (1, 0))
+        t.commit()
 
     def test_within_a_turn(self):
         # the thread has the lock of the store then

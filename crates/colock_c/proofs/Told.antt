@@ -29,7 +29,7 @@ closed_call s t x name closed =
     ap (λ b. if not b then Some refusal.NotOpen
     else (if not (is_some (slice_get (objects s) x)) then Some refusal.NoObject
     else (if not (is_some (call_at (slice_get (objects s) x) name)) then Some refusal.NoCall
-    else (if is_history_full s.max s.history 1 then Some refusal.HistoryFull else None)))) closed
+    else (if is_history_full s.limits s.history 1 then Some refusal.HistoryFull else None)))) closed
 
 pub closed_unnumbered : (s : Stored) (t x : ℕ) → is_open (summary s.history) t ≡ false → unnumbered s t x ≡ refusal.NotOpen
 closed_unnumbered s t x closed = ap (λ b. if not b then refusal.NotOpen else (if not (is_some (slice_get (objects s) x)) then refusal.NoObject else refusal.NoCall)) closed
@@ -60,7 +60,7 @@ far_refused s t n far =
     let more : nat_lt (length (of t (summary s.history).survives)) n ≡ true = grind (arith, nat_tests, far) in
     let bad : (n == 0 || nat_lt (length (of t (summary s.history).survives)) n) ≡ true = ap (λ b. n == 0 || b) more ∙ or-true (n == 0) in
     ap (λ b. if not (is_open (summary s.history) t) then Some refusal.NotOpen
-    else (if b then Some refusal.BadRollback else (if is_history_full s.max s.history 1 then Some refusal.HistoryFull else None))) bad
+    else (if b then Some refusal.BadRollback else (if is_history_full s.limits s.history 1 then Some refusal.HistoryFull else None))) bad
 
 none_refused : (s : Stored) (t : ℕ) → is_some (refusal_of s (Rollback t 0)) ≡ true
 none_refused s t = either (is_open (summary s.history) t)

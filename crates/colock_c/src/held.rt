@@ -5,6 +5,7 @@ use objects::Object;
 use std::alloc::Global;
 use std::sync::Arc;
 use store::Store;
+use store_limits::Limits;
 use table_checker::CheckedType;
 
 /// What a handle holds. Its end is the end of what it holds: a store aborts what is open.
@@ -92,12 +93,12 @@ impl Held {
     }
 
     /// The store of these objects; else what there was, and why not.
-    pub(crate) fn made(self, alloc: Global, max_events: u32) -> (Held, Code)
-        ensures makes { (ms : List Meaning) → objects_at (Some self) ≡ Some ms → MakesStore ms max_events (number result.1) (Some result.0) }
+    pub(crate) fn made(self, alloc: Global, limits: Limits) -> (Held, Code)
+        ensures makes { (ms : List Meaning) → objects_at (Some self) ≡ Some ms → MakesStore ms limits (number result.1) (Some result.0) }
         ensures no_objects { objects_at (Some self) ≡ None → (result.1 ≡ Code.NotHeld) × (result.0 ≡ self) }
     {
         match self {
-            Held::OfObjects(objects) => match Store::lasting(alloc, objects, max_events) {
+            Held::OfObjects(objects) => match Store::with_limits(alloc, objects, limits) {
                 Ok(store) => (Held::OfStore(store), Code::Done),
                 Err((objects, refusal)) => (Held::OfObjects(objects), new_code(refusal)),
             },

@@ -5,7 +5,8 @@ ghost use Rattle.table_checker.specs.Checked.{Checked};
 ghost use Rattle.object_trait.specs.Meaning.{Meaning};
 ghost use Rattle.colock_c.specs.Codes.{number};
 ghost use Rattle.colock_c.specs.Holding.{objects_at, type_at};
-ghost use Rattle.colock_c.specs.Making.{AddsObject, MakesStore};
+ghost use Rattle.store_limits.specs.Standard.{standard_with};
+ghost use Rattle.colock_c.specs.Making.{AddsObject, MakesStore, limits_of};
 
 use crate::code::Code;
 use crate::held::Held;
@@ -13,6 +14,7 @@ use crate::held_types::hold;
 use crate::slot::Slot;
 use crate::store_objects;
 use std::alloc::Global;
+use store_limits::Limits;
 
 /// The beginning of a store, behind a handle that holds nothing: no object yet. `InUse` or `NoMemory`.
 #[unsafe(no_mangle)]
@@ -52,13 +54,30 @@ pub extern "C" fn colock_store_add(alloc: Global, slot: &mut Slot, of: &mut Slot
 /// `NoObjects`, `TooManyObjects`, `NotFresh`, `BadMax` or `NoMemory`, and the objects stay.
 #[unsafe(no_mangle)]
 pub extern "C" fn colock_store_open(alloc: Global, slot: &mut Slot, max_events: u64) -> u32
-    ensures makes { (ms : List Meaning) → objects_at slot.old.handle.held ≡ Some ms → MakesStore ms max_events result slot.new.handle.held }
+    ensures makes { (ms : List Meaning) → objects_at slot.old.handle.held ≡ Some ms → MakesStore ms (standard_with max_events) result slot.new.handle.held }
+    ensures no_objects { objects_at slot.old.handle.held ≡ None → (result ≡ number Code.NotHeld) × (slot.new.handle.held ≡ slot.old.handle.held) }
+{
+    let standard = Limits::standard();
+    colock_store_open_with(alloc, slot, max_events, standard.open, standard.objects)
+}
+
+/// The same with limits of the store's own: from 2 to 4,294,967,295 events, from 1 to 65,536 open transactions, and from 1 to
+/// 65,536 objects. `BadMax` where one is out of its range.
+#[unsafe(no_mangle)]
+pub extern "C" fn colock_store_open_with(
+    alloc: Global,
+    slot: &mut Slot,
+    events: u64,
+    open: u32,
+    objects: u32,
+) -> u32
+    ensures makes { (ms : List Meaning) → objects_at slot.old.handle.held ≡ Some ms → MakesStore ms (limits_of events «open» objects) result slot.new.handle.held }
     ensures no_objects { objects_at slot.old.handle.held ≡ None → (result ≡ number Code.NotHeld) × (slot.new.handle.held ≡ slot.old.handle.held) }
 {
     let Some(mut held) = slot.take(alloc) else {
         return Code::NotHeld.number();
     };
-    let code = store_objects::make(alloc, &mut held, max_events);
+    let code = store_objects::make(alloc, &mut held, events, open, objects);
     slot.put(held);
     code.number()
 }

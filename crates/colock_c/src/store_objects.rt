@@ -1,15 +1,14 @@
 //! A store made of types, at what a handle holds.
 
-ghost use Rattle.std.specs.Prelude.{◌≡◌, ◌⊎◌, ◌++◌, ◌∷◌, [], List, map, false, Some, None};
+ghost use Rattle.std.specs.Prelude.{◌≡◌, ◌<◌, ◌⊎◌, ◌++◌, ◌∷◌, [], List, map, false, Some, None};
 ghost use Rattle.table_checker.specs.Checked.{Checked};
 ghost use Rattle.object_trait.specs.Meaning.{Meaning};
 ghost use Rattle.object_trait.specs.Steps.{IsFresh};
 ghost use Rattle.objects.specs.Object.{meaning_of};
-ghost use Rattle.store.specs.Ends.{is_limit};
 ghost use Rattle.type_table.specs.Limits.{longest_history};
 ghost use Rattle.colock_c.specs.Codes.{number};
 ghost use Rattle.colock_c.specs.Holding.{objects_at, type_at};
-ghost use Rattle.colock_c.specs.Making.{AddsObject, MakesStore};
+ghost use Rattle.colock_c.specs.Making.{AddsObject, MakesStore, limits_of};
 
 use crate::code::Code;
 use crate::held::Held;
@@ -17,6 +16,7 @@ use objects::Object;
 use std::alloc::Global;
 use std::mem;
 use std::sync::Arc;
+use store_limits::Limits;
 use table_checker::CheckedType;
 
 /// Another object, of this type, after those of which the store will be made.
@@ -51,19 +51,23 @@ fn push_object(alloc: Global, objects: &mut Vec<Object>, checked: &Arc<CheckedTy
 }
 
 /// The store of these objects, in their place. Where it is refused the objects stay.
-pub(crate) fn make(alloc: Global, held: &mut Held, max_events: u64) -> Code
-    ensures makes { (ms : List Meaning) → objects_at (Some held.old) ≡ Some ms → MakesStore ms max_events (number result) (Some held.new) }
+pub(crate) fn make(alloc: Global, held: &mut Held, events: u64, open: u32, objects: u32) -> Code
+    ensures makes { (ms : List Meaning) → objects_at (Some held.old) ≡ Some ms → MakesStore ms (limits_of events «open» objects) (number result) (Some held.new) }
     ensures no_objects { objects_at (Some held.old) ≡ None → (number result ≡ number Code.NotHeld) × (held.new ≡ held.old) }
 {
-    let max = limit_of(max_events);
-    let (now, code) = mem::replace(held, Held::OfObjects(Vec::new(alloc))).made(alloc, max);
+    let limits = Limits {
+        events: limit_of(events),
+        open,
+        objects,
+    };
+    let (now, code) = mem::replace(held, Held::OfObjects(Vec::new(alloc))).made(alloc, limits);
     *held = now;
     code
 }
 
 /// A limit of events, as a store takes it. What is too large for a limit is as 0, which is none.
 fn limit_of(max_events: u64) -> u32
-    ensures { (result ≡ max_events) ⊎ ((is_limit longest_history result ≡ false) × (is_limit longest_history max_events ≡ false)) }
+    ensures { (result ≡ max_events) ⊎ ((result ≡ 0) × (longest_history < max_events)) }
 {
     if max_events <= u64::from(u32::MAX) {
         max_events as u32

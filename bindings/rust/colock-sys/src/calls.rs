@@ -25,7 +25,7 @@ pub mod code {
     pub const NO_OBJECT: u32 = 2;
     /// no operation of the object's type has this call
     pub const NO_CALL: u32 = 3;
-    /// 1,024 transactions are open
+    /// as many transactions are open as the store may have
     pub const TOO_MANY_OPEN: u32 = 4;
     /// the history has no room for the event and the end of each open transaction
     pub const HISTORY_FULL: u32 = 5;
@@ -45,11 +45,11 @@ pub mod code {
     pub const BAD_KIND: u32 = 12;
     /// a store of no object
     pub const NO_OBJECTS: u32 = 13;
-    /// a store of more than 256 objects
+    /// a store of more objects than it may have
     pub const TOO_MANY_OBJECTS: u32 = 14;
     /// an object isn't as it was made (no caller of these calls sees it)
     pub const NOT_FRESH: u32 = 15;
-    /// a limit below 2, or above 4,294,967,295
+    /// a limit of the store is out of its range
     pub const BAD_MAX: u32 = 16;
     /// a transaction is open
     pub const STILL_OPEN: u32 = 17;
@@ -181,10 +181,14 @@ extern "C" {
     /// Adds an object of a type, in its initial state. Objects are numbered from 0; several may have one type. The type
     /// may be closed before the store. [`code::NOT_HELD`], [`code::NO_MEMORY`].
     pub fn colock_store_add(store: *mut Handle, type_: *mut Handle) -> u32;
-    /// Makes the store of its objects, whose history will have at most `max_events` events, those that were forgotten
-    /// among them. [`code::NOT_HELD`], [`code::NO_OBJECTS`], [`code::TOO_MANY_OBJECTS`], [`code::BAD_MAX`],
+    /// Makes the store of its objects, of which there may be 256. At most 1,024 transactions are open at once, and its
+    /// history has at most `max_events` events, 2 to 4,294,967,295, those that were forgotten among them. It returns the
+    /// first that holds of [`code::NOT_HELD`], [`code::NO_OBJECTS`], [`code::TOO_MANY_OBJECTS`], [`code::BAD_MAX`] and
     /// [`code::NO_MEMORY`]: the objects stay.
     pub fn colock_store_open(store: *mut Handle, max_events: u64) -> u32;
+    /// The same with limits of the store's own: 2 to 4,294,967,295 events, 1 to 65,536 open transactions, and 1 to 65,536
+    /// objects. [`code::BAD_MAX`] where one of them is out of its range.
+    pub fn colock_store_open_with(store: *mut Handle, events: u64, open: u32, objects: u32) -> u32;
     /// Begins a transaction, and gives its number: they count from 0. [`code::TOO_MANY_OPEN`], [`code::HISTORY_FULL`],
     /// [`code::NO_MEMORY`].
     pub fn colock_begin(store: *mut Handle, worker: u8, transaction: *mut u64) -> u32;
@@ -228,7 +232,7 @@ extern "C" {
     /// Makes events again, one after another, each as its worker: a store becomes what another was. `made` gets how many
     /// were made, at [`code::NOT_MADE`] and [`code::NO_MEMORY`] too: those before that place are made.
     pub fn colock_follow(store: *mut Handle, events: *const Event, events_count: usize, made: *mut u64) -> u32;
-    /// Begins anew at the states that are kept, with no event and the same limit: transactions count from 0 again.
+    /// Begins anew at the states that are kept, with no event and the same limits: transactions count from 0 again.
     /// [`code::STILL_OPEN`], [`code::NO_MEMORY`].
     pub fn colock_renew(store: *mut Handle) -> u32;
     /// Ends what the handle holds; a store aborts what is open. The handle may be used again. [`code::NOT_HELD`] where it

@@ -13,7 +13,7 @@ pub enum Error {
     NoObject,
     /// No operation of the object's type has this call.
     NoCall,
-    /// 1,024 transactions are open.
+    /// As many transactions are open as may be: 1,024, or what its [`Limits`](crate::Limits) say.
     TooManyOpen,
     /// The history has no room for the event, and for the end of each open transaction.
     HistoryFull,
@@ -32,9 +32,9 @@ pub enum Error {
     Refused(CheckRefusal),
     /// A store of no object.
     NoObjects,
-    /// A store of more than 256 objects.
+    /// A store of more objects than it may have: 256, or what its [`Limits`](crate::Limits) say.
     TooManyObjects,
-    /// A limit below 2, or above 4,294,967,295.
+    /// A limit of the store is out of its range. [`Limits`](crate::Limits) has the range of each.
     BadMax,
     /// A transaction is open.
     StillOpen,
@@ -281,7 +281,7 @@ impl fmt::Display for Error {
             Error::Refused(refusal) => write!(f, "the checker refuses the type: {refusal}"),
             Error::NoObjects => f.write_str("a store of no object"),
             Error::TooManyObjects => f.write_str("a store of too many objects"),
-            Error::BadMax => f.write_str("the limit of events is out of its range"),
+            Error::BadMax => f.write_str("a limit of the store is out of its range"),
             Error::StillOpen => f.write_str("a transaction is open"),
             Error::NotMade => f.write_str("no command makes this event now"),
             Error::Forgotten => f.write_str("these events were forgotten"),

@@ -11,6 +11,7 @@ pub(crate) mod turn;
 
 use crate::error::Error;
 use crate::fork::Origin;
+use crate::limits::Limits;
 use crate::locks::locked;
 use crate::memory::store::{calls_at, Store};
 use crate::reply::{Outcome, Reply};
@@ -69,7 +70,8 @@ pub(crate) enum Lock {
 }
 
 impl SharedStore {
-    /// A store in memory, of an object of each of these types. Its history will have at most `max_events` events.
+    /// A store in memory, of an object of each of these types. Its history will have at most `max_events` events; the other
+    /// limits are [`Limits::STANDARD`].
     ///
     /// ```
     /// use colock::{Kind, SharedStore, Type};
@@ -93,8 +95,28 @@ impl SharedStore {
     ///
     /// As of [`Store::new`](crate::Store::new).
     pub fn new<'t>(types: impl IntoIterator<Item = &'t Type>, max_events: u64) -> Result<SharedStore, Error> {
+        SharedStore::with_limits(types, Limits::of_events(max_events))
+    }
+
+    /// A store in memory, of an object of each of these types, with limits of its own.
+    ///
+    /// ```
+    /// use colock::{Kind, Limits, SharedStore, Type};
+    ///
+    /// let counter = Type::counter(100, &[1], Kind::Undo)?;
+    /// let limits = Limits { open: 65_536, objects: 65_536, ..Limits::STANDARD };
+    /// let store = SharedStore::with_limits(std::iter::repeat_n(&counter, 65_536), limits)?;
+    /// store.transact(|turn| turn.expect(65_535, "inc:1", "ok"))?;
+    /// assert_eq!(store.kept(65_535)?, 1);
+    /// # Ok::<(), colock::Error>(())
+    /// ```
+    ///
+    /// # Errors
+    ///
+    /// As of [`Store::with_limits`](crate::Store::with_limits).
+    pub fn with_limits<'t>(types: impl IntoIterator<Item = &'t Type>, limits: Limits) -> Result<SharedStore, Error> {
         let types: Vec<Type> = types.into_iter().cloned().collect();
-        let store = Store::new(&types, max_events)?;
+        let store = Store::with_limits(&types, limits)?;
         let state = State::new(Held::Memory(store), &types, 0);
         Ok(SharedStore::of(state, types, None))
     }

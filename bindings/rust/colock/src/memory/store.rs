@@ -1,5 +1,6 @@
 use crate::error::{Error, NotFollowed};
 use crate::event::Event;
+use crate::limits::Limits;
 use crate::memory::handle::{done, Handle};
 use crate::memory::transaction::{LeftOpen, Transaction};
 use crate::operation_id::OperationId;
@@ -33,7 +34,7 @@ fn next_mark() -> u64 {
 
 impl Store {
     /// A store of an object of each of these types, each in its initial state. Its history will have at most
-    /// `max_events` events, those that were forgotten among them.
+    /// `max_events` events, those that were forgotten among them; the other limits are [`Limits::STANDARD`].
     ///
     /// ```
     /// use colock::{Error, Kind, Store, Type};
@@ -50,6 +51,27 @@ impl Store {
     ///
     /// [`Error::NoObjects`], [`Error::TooManyObjects`], [`Error::BadMax`] or [`Error::NoMemory`].
     pub fn new<'t>(types: impl IntoIterator<Item = &'t Type>, max_events: u64) -> Result<Store, Error> {
+        Store::with_limits(types, Limits::of_events(max_events))
+    }
+
+    /// A store of an object of each of these types, with limits of its own.
+    ///
+    /// ```
+    /// use colock::{Error, Kind, Limits, Store, Type};
+    ///
+    /// let counter = Type::counter(5, &[1], Kind::Undo)?;
+    /// let store = Store::with_limits([&counter], Limits { open: 1, ..Limits::STANDARD })?;
+    /// let transaction = store.begin()?;
+    /// assert_eq!(store.begin().err(), Some(Error::TooManyOpen));
+    /// transaction.commit()?;
+    /// assert!(store.begin().is_ok());
+    /// # Ok::<(), Error>(())
+    /// ```
+    ///
+    /// # Errors
+    ///
+    /// As of [`Store::new`]; [`Error::BadMax`] where any limit is out of its range.
+    pub fn with_limits<'t>(types: impl IntoIterator<Item = &'t Type>, limits: Limits) -> Result<Store, Error> {
         // SAFETY: `made` gives a handle of its own.
         let handle = Handle::made(|handle| unsafe { sys::colock_store_new(handle) }).map_err(|(code, _)| Error::of_code(code))?;
         let types: Vec<Type> = types.into_iter().cloned().collect();
@@ -58,7 +80,7 @@ impl Store {
             done(unsafe { sys::colock_store_add(handle.at(), of.handle().at()) })?;
         }
         // SAFETY: a handle as `Handle::at` says, as in all below.
-        done(unsafe { sys::colock_store_open(handle.at(), max_events) })?;
+        done(unsafe { sys::colock_store_open_with(handle.at(), limits.events, limits.open, limits.objects) })?;
         Ok(Store { handle, mark: next_mark(), life: 0, types })
     }
 

@@ -1,12 +1,9 @@
-use Rattle.std.proofs.Common.{◌≡◌, ◌∙◌, ℕ, Option, Some, sym, ap, subst}
-use Rattle.colock_c.specs.Codes.{number}
-use Rattle.colock_c.specs.Holding.{objects_at}
-use Rattle.colock_c.specs.Making.{MakesStore}
-use Rattle.colock_c.specs.declared.held.Held.{Held}
+use Rattle.std.proofs.Common.{subst}
+use Rattle.store_limits.specs.declared.limits.Limits.{Limits}
+use Rattle.colock_c.specs.Making.{MakesStore, limits_of}
 use Rattle.colock_c.proofs.new_stores.colock_store_open.Goals as goal
 
 pub returns-clause-makes : goal.returns-clause-makes
 returns-clause-makes c = λ ms e.
-    let same : c.args.slot.now.handle.held ≡ Some c.deref_mut.result.now = c.in-Some.ensures.0 ∙ ap Some (sym c.deref_mut.ensures.value) in
-    subst (λ (n : ℕ). MakesStore ms c.args.max_events n c.put.new.self.handle.held) (sym c.number-2.ensures)
-    (subst (λ (q : Option Held). MakesStore ms c.args.max_events (number c.make-code.result) q) (sym c.put.ensures) (c.make-code.ensures.makes ms (ap objects_at (sym same) ∙ e)))
+    subst (λ (its : Limits). MakesStore ms (limits_of c.args.max_events its.«open» its.objects) c.colock_store_open_with.result c.colock_store_open_with.new.slot.handle.held) c.standard-standard.ensures
+    (c.colock_store_open_with.ensures.makes ms e)

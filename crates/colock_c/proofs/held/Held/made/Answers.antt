@@ -15,5 +15,5 @@ pub returns-in-Err-clause-makes : goal.returns-in-Err-clause-makes
 returns-in-Err-clause-makes c = λ ms e.
     let is : map meaning_of c.in-OfObjects.objects.items ≡ ms =
     same_Some (map meaning_of c.in-OfObjects.objects.items) ms (sym (ap (λ (h : Held). objects_at (Some h)) c.in-OfObjects.is) ∙ e) in
-    not_made c.in-Err.refusal (ap number c.new_code.ensures) (subst (λ (q : List Meaning). RefusesNew longest_history q c.args.max_events c.in-Err.refusal) is c.in-Err.ensures.refused)
+    not_made c.in-Err.refusal (ap number c.new_code.ensures) (subst (λ (q : List Meaning). RefusesNew longest_history q c.args.limits c.in-Err.refusal) is c.in-Err.ensures.refused)
     (ap (λ (xs : List Object). Some (map meaning_of xs)) c.in-Err.ensures.back ∙ ap Some is)

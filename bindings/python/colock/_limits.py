@@ -1,0 +1,14 @@
+"""How much a store in memory may have."""
+from dataclasses import dataclass
+
+
+@dataclass(frozen=True)
+class Limits:
+    """How many events, open transactions and objects a store in memory may have, for `Store.with_limits`."""
+
+    events: int = 1_000_000
+    """The events of its history, 2 to 4,294,967,295, those that were forgotten among them."""
+    open: int = 1_024
+    """The transactions that are open at once, 1 to 65,536."""
+    objects: int = 256
+    """Its objects, 1 to 65,536."""
