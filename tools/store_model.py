@@ -8,6 +8,8 @@ goes through all fronts of what each transaction did, and through all numbers th
 import re
 
 LONGEST, MOST_OPEN, MOST_TOLD = 256, 1024, 65_536
+# How many objects a text may have that doesn't say it.
+FEW = 256
 # What comes after each verb: a transaction, a number or a name.
 WORDS = {"begin": "", "call": "txn", "would": "txn", "commit": "t", "abort": "t", "rollback": "tx", "kept": "x",
          "objects": "", "types": "", "events": "xx", "stats": "", "end": ""}
@@ -406,13 +408,24 @@ class Model:
         self.events, self.durable, self.life = [], 0, self.life + 1
 
     def history(self):
-        lines = [f"object {kind} {place}" for kind, place in self.objects] + [line_of(e) for e in self.events]
-        return "".join(line + "\n" for line in [*lines, "end"])
+        lines = [*object_lines(self.objects), *map(line_of, self.events), "end"]
+        return "".join(line + "\n" for line in lines)
 
     def audit(self):
         s = Seen(self.events)
         serial = [f"# serial {x} {self.serial(s, x)}" for x in range(len(self.objects))]
         return "".join(line + "\n" for line in ["# audit yes", *[f"# commit {t}" for t in s.committed], *serial])
+
+
+def size_lines(objects):
+    """How many objects a text of these may have, which it says where that is more than 256."""
+    size = max(len(objects), *(place + 1 for _, place in objects))
+    return [f"objects {size}"] * (size > FEW)
+
+
+def object_lines(objects):
+    """How a history of these objects begins."""
+    return size_lines(objects) + [f"object {kind} {place}" for kind, place in objects]
 
 
 def line_of(event):

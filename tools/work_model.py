@@ -2,7 +2,7 @@
 
 It is written from docs/formats.md and shares nothing with the program. PCG32 is written from its own description.
 """
-from store_model import Model, Seen, line_of
+from store_model import Model, Seen, line_of, object_lines
 
 REFUSALS = {"NotOpen": 1, "NoObject": 2, "NoCall": 3, "TooManyOpen": 4, "HistoryFull": 5, "NoMemory": 6}
 WORD, LONG = (1 << 32) - 1, (1 << 64) - 1
@@ -126,7 +126,7 @@ class Work:
     def text(self):
         """What is written of it. No transaction is open at the end."""
         s = Seen(self.model.events)
-        lines = [f"object {kind} {place}" for kind, place in self.model.objects]
+        lines = object_lines(self.model.objects)
         for w, event in zip(self.by, self.model.events):
             word, _, rest = line_of(event).split(" ", 2)
             lines.append(f"{word} {w} {rest}")

@@ -1,16 +1,19 @@
-//! What happens to a store of two counters, step by step: commits, epochs, and stops of the machine.
+//! What happens to a store of two counters or of many, step by step: commits, epochs, and stops of the machine.
 
 ghost use Rattle.durable_store.specs.Durable.{IsDurable};
 
 use super::counters::{
-    Act, NewTrees, commits, does, has, has_no_event, has_settled, new_store, opened_but, renewed,
-    restarted,
+    Act, NewTrees, commits, contents, created, does, has, has_no_event, has_settled, new_store,
+    opened_but, renewed, restarted,
 };
-use durable_store::Durable;
+use durable_store::{Durable, open};
 use sqlite_trees::memory::MemStore;
 use sqlite_trees::store::{Alter, Reopen};
 use std::process::Abort;
 use store::RenewRefusal;
+use store_text::ObjectLine;
+use test_support::type_texts::COUNTER;
+use type_table::Kind;
 
 /// What happens to a store.
 #[derive(Clone, Copy)]
@@ -233,6 +236,53 @@ fn end_so<S: NewTrees + Drop, R: Abort + AllocGlobal>(rt: &R, scenes: &[Scene]) 
             Found::NoEvent(state, life) => has_no_event(rt, store, state, life),
         }
     }
+}
+
+/// What happens to the first and to the last of 300 counters: both commits are settled, in two epochs.
+static AT_THE_LAST: [Step; 13] = [
+    Step::Does(Act::Begin(0)),
+    Step::Does(Act::Count(0, 299)),
+    Step::Does(Act::Commit(0)),
+    Step::Does(Act::Settle),
+    Step::Restart,
+    Step::Does(Act::Has(3, 2)),
+    Step::Renew(Ok(())),
+    Step::Does(Act::Begin(0)),
+    Step::Does(Act::Count(0, 0)),
+    Step::Does(Act::Count(0, 299)),
+    Step::Does(Act::Commit(0)),
+    Step::Does(Act::Settle),
+    Step::Restart,
+];
+
+/// A new store of 300 counters in place.
+fn many_counters<S: NewTrees + Drop, R: Abort + AllocGlobal>(rt: &R) -> Durable<S>
+    ensures { IsDurable S.Store result }
+{
+    let line = ObjectLine {
+        kind: Kind::Undo,
+        file: 0,
+    };
+    let mut lines = Vec::new(rt.alloc());
+    lines.resize(300, line).expect(rt, "no lines");
+    let said = contents(rt, COUNTER, &lines, 0);
+    let store = open(rt.alloc(), created(rt, S::no_trees(rt), &said), &[]).ok();
+    store.expect(rt, "the file isn't opened")
+}
+
+/// That what was done at the first and at the last is found, and that there is no object behind the last.
+fn the_last_is_found<S: NewTrees + Drop, R: Abort + AllocGlobal>(rt: &R) {
+    let store: Durable<S> = many_counters(rt);
+    let store = played(rt, store, &AT_THE_LAST);
+    let seen = store.store();
+    let told = (seen.kept(0), seen.kept(299), seen.kept(300));
+    let _ = store.into_trees();
+    assert!(rt; told == (Some(1), Some(2), None));
+}
+
+#[test]
+fn the_last_of_many_is_found(rt: HostRuntime) {
+    the_last_is_found::<MemStore, HostRuntime>(&rt);
 }
 
 #[test]

@@ -124,8 +124,47 @@ do 5 inc:1
 end
 ";
 
+/// A script that may have 300 objects. Its store has one, and refuses the call.
+const SIZED_SCRIPT: &[u8] = b"objects 300
+max 20
+object undo 299
+begin
+call 0 300 inc:1
+end
+";
+
+/// A history that may have 300 objects, since it has that many types.
+pub const SIZED_HISTORY: &[u8] = b"objects 300
+object undo 299
+object escrow 0
+begin 0 0
+op 0 0 299 0
+busy 0 0 299 0 0
+none 0 0 256 0
+end
+";
+
+/// The greatest numbers of a history that may have the most objects.
+pub const WIDE_HISTORY: &[u8] = b"objects 65536
+object intentions 65535
+op 255 999999 65535 63
+op 255 999999 65535 63 4294967295
+busy 255 999999 65535 63 999999
+none 255 999999 65535 63
+end
+";
+
+/// Jobs at the last of 300 objects that there may be.
+const SIZED_JOBS: &[u8] = b"objects 300
+max 20
+object undo 299
+job 0
+do 299 inc:1
+end
+";
+
 /// Canonical texts, and how many lines each has.
-static TEXTS: [(Reader, &[u8], usize); 9] = [
+static TEXTS: [(Reader, &[u8], usize); 13] = [
     (Reader::Script, SCRIPT, 12),
     (Reader::Script, SHORT_SCRIPT, 3),
     (Reader::History, HISTORY, 13),
@@ -135,6 +174,10 @@ static TEXTS: [(Reader, &[u8], usize); 9] = [
     (Reader::Jobs(1), THREE_JOBS, 9),
     (Reader::Jobs(1), NO_CALL, 5),
     (Reader::Jobs(1), NO_OBJECT, 5),
+    (Reader::Script, SIZED_SCRIPT, 6),
+    (Reader::History, SIZED_HISTORY, 8),
+    (Reader::History, WIDE_HISTORY, 7),
+    (Reader::Jobs(1), SIZED_JOBS, 6),
 ];
 
 /// The fault that the reader names.
@@ -168,6 +211,91 @@ fn no_workers_have_no_job(rt: HostRuntime) {
     );
     let kind = FaultKind::OutOfRange;
     assert!(rt; fault == Some(TextFault { line: 3, kind }));
+}
+
+/// How many objects a text says that it may have.
+fn size_of(alloc: Global, reader: Reader, text: &[u8]) -> Result<Option<u32>, TextFault> {
+    match reader {
+        Reader::Script => Ok(read_script(alloc, text)?.size),
+        Reader::History => Ok(read_history(alloc, text)?.size),
+        Reader::Jobs(workers) => Ok(read_jobs(alloc, text, workers)?.size),
+    }
+}
+
+/// Texts, and how many objects each says that it may have.
+static SIZES: [(Reader, &[u8], Option<u32>); 8] = [
+    (Reader::Script, SCRIPT, None),
+    (Reader::History, HIGH_HISTORY, None),
+    (Reader::Jobs(3), JOBS, None),
+    (Reader::Script, SIZED_SCRIPT, Some(300)),
+    (Reader::History, SIZED_HISTORY, Some(300)),
+    (Reader::History, WIDE_HISTORY, Some(65_536)),
+    (Reader::Jobs(1), SIZED_JOBS, Some(300)),
+    (
+        Reader::History,
+        b"# One.\n objects  1\nobject undo 0\nend\n",
+        Some(1),
+    ),
+];
+
+#[test]
+fn texts_say_how_many_objects_they_may_have(rt: HostRuntime) {
+    for (reader, text, size) in &SIZES {
+        assert!(rt; size_of(rt.alloc(), *reader, text) == Ok(*size));
+    }
+}
+
+/// Texts that are refused for how many objects they may have, and the line and the fault.
+static REFUSED: [(Reader, &[u8], usize, FaultKind); 8] = [
+    (Reader::Script, b"objects 0\n", 1, FaultKind::OutOfRange),
+    (
+        Reader::History,
+        b"objects 65537\n",
+        1,
+        FaultKind::OutOfRange,
+    ),
+    (Reader::Jobs(1), b"objects x\n", 1, FaultKind::BadNumber),
+    (
+        Reader::History,
+        b"objects 2\nobjects 2\n",
+        2,
+        FaultKind::OutOfOrder,
+    ),
+    (
+        Reader::Script,
+        b"max 2\nobjects 2\n",
+        2,
+        FaultKind::UnknownWord,
+    ),
+    (
+        Reader::History,
+        b"objects 1\nobject undo 0\nobject undo 0\n",
+        3,
+        FaultKind::OutOfRange,
+    ),
+    (
+        Reader::History,
+        b"objects 300\nobject undo 0\nop 0 0 300 0\n",
+        3,
+        FaultKind::OutOfRange,
+    ),
+    (
+        Reader::Jobs(1),
+        b"objects 300\nmax 2\nobject undo 0\njob 0\ndo 300 inc:1\n",
+        5,
+        FaultKind::OutOfRange,
+    ),
+];
+
+#[test]
+fn texts_beyond_what_they_say_are_refused(rt: HostRuntime) {
+    for (reader, text, line, kind) in &REFUSED {
+        let fault = TextFault {
+            line: *line,
+            kind: *kind,
+        };
+        assert!(rt; fault_of(rt.alloc(), *reader, text) == Some(fault));
+    }
 }
 
 /// Whether this is no fault, or refused memory at one of the first lines.

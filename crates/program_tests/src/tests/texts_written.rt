@@ -2,7 +2,7 @@
 
 ghost use Rattle.std.specs.Prelude.{None};
 
-use super::texts::{HIGH_HISTORY, HISTORY};
+use super::texts::{HIGH_HISTORY, HISTORY, SIZED_HISTORY, WIDE_HISTORY};
 use history_text::{
     HistoryFile, ObjectLine, Out, OutFault, read_history, write_event, write_history, write_object,
 };
@@ -10,6 +10,7 @@ use object_trait::{Event, EventKind};
 use outputs::{Failed, Sink};
 use std::process::Abort;
 use test_support::sinks::{AtEnd, narrow_sink};
+use type_table::Kind;
 
 /// The history with comments and spaces, as a run of the program writes it and as one may write it by
 /// hand.
@@ -34,6 +35,19 @@ end
 # audit yes
 ";
 
+/// A history that says how many objects it may have, and needn't.
+const SIZED: &[u8] = b"objects 65536
+object undo 255
+begin 0 0
+end
+";
+
+/// The same, as it is written.
+const UNSIZED: &[u8] = b"object undo 255
+begin 0 0
+end
+";
+
 /// The canonical text of a file.
 fn written(rt: &(impl Abort + AllocGlobal), file: &HistoryFile) -> Vec<u8> {
     let mut out = Sink::new(Vec::new(rt.alloc()));
@@ -52,10 +66,13 @@ fn are_same(file: &HistoryFile, other: &HistoryFile) -> bool {
 }
 
 /// Texts of histories, and how they are written.
-static TEXTS: [(&[u8], &[u8]); 3] = [
+static TEXTS: [(&[u8], &[u8]); 6] = [
     (HISTORY, HISTORY),
     (HIGH_HISTORY, HIGH_HISTORY),
     (COMMENTED, HISTORY),
+    (SIZED_HISTORY, SIZED_HISTORY),
+    (WIDE_HISTORY, WIDE_HISTORY),
+    (SIZED, UNSIZED),
 ];
 
 /// That a history is written so, and that what is read of this is the history.
@@ -68,6 +85,29 @@ fn is_written_as(rt: &(impl Abort + AllocGlobal), file: &HistoryFile, wanted: &[
 fn histories_are_written_and_read_again(rt: HostRuntime) {
     for (text, wanted) in &TEXTS {
         is_written_as(&rt, &history_of(&rt, text), wanted);
+    }
+}
+
+/// A history of this many objects, and no events, that is written and read again.
+fn read_again(rt: &(impl Abort + AllocGlobal), count: usize) -> HistoryFile {
+    let object = ObjectLine {
+        kind: Kind::Undo,
+        file: 0,
+    };
+    let alloc = rt.alloc();
+    let mut objects = Vec::new(alloc);
+    objects.resize(count, object).expect(rt, "no objects");
+    let mut out = Sink::new(Vec::new(alloc));
+    write_history(&objects, &[], &mut out).expect(rt, "not written");
+    history_of(rt, &out.into_inner())
+}
+
+/// A text of more than 256 objects says how many there are.
+#[test]
+fn many_objects_are_written_and_read_again(rt: HostRuntime) {
+    for (count, size) in [(256, None), (257, Some(257)), (3_000, Some(3_000))] {
+        let file = read_again(&rt, count);
+        assert!(rt; (file.objects.len() == count) & (file.size == size));
     }
 }
 
