@@ -29,7 +29,7 @@ pub enum Fault<'a> {
     NoType {
         path: &'a str,
         x: usize,
-        place: u8,
+        place: u16,
     },
     /// The text at a path declares a number, where a table was asked for.
     NeedsEscrow {

@@ -107,7 +107,11 @@ fn read_objects<'a, S: Source>(
 {
     let history = read_file(alloc, &HistoryFormat, path, source)?;
     if has_none(&history.events) {
-        let HistoryFile { objects, events: _ } = history;
+        let HistoryFile {
+            size: _,
+            objects,
+            events: _,
+        } = history;
         Ok(objects)
     } else {
         Err(Fault::HasEvents { path })
