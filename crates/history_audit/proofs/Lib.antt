@@ -2,6 +2,8 @@ pub mod PlacedTexts
 pub mod Serials
 pub mod Said
 pub mod EpochTables
+pub mod FirstTables
+pub mod NotThere
 pub mod EpochAudits
 pub mod SerialsOver
 pub mod EpochsPassed

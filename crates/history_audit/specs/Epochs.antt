@@ -1,7 +1,8 @@
--- What an audit says of histories one after another, of which each begins at the serial states in which the one before it ends.
-use Rattle.std.specs.Prelude.{◌≡◌, ◌≢◌, ◌↔◌, ℕ, List, [], ◌∷◌, ◌++◌, length, map, take, Some, Result, Ok, Err, IsOk, slice_get, Vec}
+-- What an audit says of histories one after another, of which each begins at the serial states in which the one before it ends. A later
+-- one may have more objects.
+use Rattle.std.specs.Prelude.{◌≡◌, ◌≢◌, ◌↔◌, ℕ, ◌+◌, List, [], ◌∷◌, ◌++◌, length, map, take, Some, Result, Ok, Err, IsOk, slice_get, Vec}
 use Rattle.std.specs.declared.alloc.Global.{Global}
-use Rattle.std.specs.List.{AllByRecursion}
+use Rattle.std.specs.List.{AllByRecursion, flat_map}
 use Rattle.type_table.specs.Table.{Table, table_at}
 use Rattle.type_table.specs.Run.{run, IsLegal}
 use Rattle.table_checker.specs.Checked.{Checked}
@@ -16,6 +17,15 @@ use Rattle.history_judge.specs.declared.outcome.Audit.{Audit}
 use Rattle.history_judge.specs.declared.outcome.AuditFault.{AuditFault}
 use Rattle.history_judge.specs.declared.outcome.AuditFault.TheVariants.{NoMemory}
 use Rattle.history_audit.specs.declared.epoch_fault.EpochFault.{EpochFault}
+use Rattle.history_audit.specs.declared.epoch_history.EpochHistory.{EpochHistory}
+
+-- what is told of an epoch: how many objects it has, which are the first of all, and its events
+pub record Told : Type 0 where
+  pub objects : ℕ
+  pub events : List Event
+
+abbrev pub told_epoch : EpochHistory → Told
+told_epoch h = record { objects = h.objects; events = h.events.now }
 
 -- each table, beginning at the state that is given for it
 abbrev pub tables_at : List Table → List ℕ → List Table
@@ -23,10 +33,10 @@ tables_at [] states = []
 tables_at (T ∷ tables) [] = T ∷ tables
 tables_at (T ∷ tables) (s ∷ states) = table_at T s ∷ tables_at tables states
 
--- each history has a yes, from the serial states in which the one before it ends
-abbrev pub AreAudits : List Table → List (List Event) → List Audit → Type 0
+-- each history has a yes, from the serial states in which the one before it ends; an object that is added begins at its initial state
+abbrev pub AreAudits : List Table → List Told → List Audit → Type 0
 AreAudits tables [] [] = Unit {0}
-AreAudits tables (H ∷ Hs) (a ∷ more) = Audits tables H (Ok a) × AreAudits (tables_at tables a.finals.items) Hs more
+AreAudits tables (h ∷ hs) (a ∷ more) = Audits (take h.objects tables) h.events (Ok a) × AreAudits (tables_at tables a.finals.items) hs more
 AreAudits tables _ _ = ⊥
 
 -- the tables, beginning at the serial states in which the last history ends
@@ -35,51 +45,51 @@ tables_after tables [] = tables
 tables_after tables (a ∷ more) = tables_after (tables_at tables a.finals.items) more
 
 -- the n-th history has no yes for this reason, and each before it has one
-pub record IsFirstEpochFault (tables : List Table) (Hs : List (List Event)) (n : ℕ) (fault : AuditFault) : Type 0 where
+pub record IsFirstEpochFault (tables : List Table) (hs : List Told) (n : ℕ) (fault : AuditFault) : Type 0 where
   pub audits : List Audit
-  pub history : List Event
-  pub before : AreAudits tables (take n Hs) audits
-  pub there : slice_get Hs n ≡ Some history
-  pub faulty : Audits (tables_after tables audits) history (Err fault)
+  pub history : Told
+  pub before : AreAudits tables (take n hs) audits
+  pub there : slice_get hs n ≡ Some history
+  pub faulty : Audits (take history.objects (tables_after tables audits)) history.events (Err fault)
 
 -- what an audit without a yes says of the n-th history. Where memory was refused nothing is said
-abbrev pub HasEpochFault : List Table → List (List Event) → ℕ → AuditFault → Type 0
-HasEpochFault tables Hs n NoMemory = Unit {0}
-HasEpochFault tables Hs n fault = IsFirstEpochFault tables Hs n fault
+abbrev pub HasEpochFault : List Table → List Told → ℕ → AuditFault → Type 0
+HasEpochFault tables hs n NoMemory = Unit {0}
+HasEpochFault tables hs n fault = IsFirstEpochFault tables hs n fault
 
 -- a yes to each history, or the first that has none
-abbrev pub AuditsEpochs : List Table → List (List Event) → Result (Vec Audit Global) EpochFault → Type 0
-AuditsEpochs tables Hs (Ok audits) = AreAudits tables Hs audits.items
-AuditsEpochs tables Hs (Err f) = HasEpochFault tables Hs f.epoch f.fault
+abbrev pub AuditsEpochs : List Table → List Told → Result (Vec Audit Global) EpochFault → Type 0
+AuditsEpochs tables hs (Ok audits) = AreAudits tables hs audits.items
+AuditsEpochs tables hs (Err f) = HasEpochFault tables hs f.epoch f.fault
 
 -- ---- what it means
 
 -- the operations of the committed transactions at x, history after history, and in each in commit order
-abbrev pub serial_over_histories : ℕ → List (List Event) → List ℕ
+abbrev pub serial_over_histories : ℕ → List Told → List ℕ
 serial_over_histories x [] = []
-serial_over_histories x (H ∷ Hs) = ops (serial_at x H) ++ serial_over_histories x Hs
+serial_over_histories x (h ∷ hs) = ops (serial_at x h.events) ++ serial_over_histories x hs
 
 -- at each object the serial order over all histories is legal from the first initial state
-abbrev pub AreSerialOver : List Table → List (List Event) → Type 0
-AreSerialOver tables Hs = (x : ℕ) (T : Table) → slice_get tables x ≡ Some T → IsLegal T (Some T.initial) (serial_over_histories x Hs)
+abbrev pub AreSerialOver : List Table → List Told → Type 0
+AreSerialOver tables hs = (x : ℕ) (T : Table) → slice_get tables x ≡ Some T → IsLegal T (Some T.initial) (serial_over_histories x hs)
 
--- each is a history at these tables
-abbrev pub AreHistories : List Table → List (List Event) → Type 0
-AreHistories tables Hs = AllByRecursion (λ H. IsHistory tables H) Hs
+-- each is a history at the tables of its objects
+abbrev pub AreHistories : List Table → List Told → Type 0
+AreHistories tables hs = AllByRecursion (λ (h : Told). IsHistory (take h.objects tables) h.events) hs
 
 -- a yes says that each is a history, that the serial order over all is legal at each object, and where it leads
 abbrev pub YesIsSerialOver : Type 0
 YesIsSerialOver =
-    (tables : List Table) (Hs : List (List Event)) (audits : List Audit) → AreAudits tables Hs audits
-    → AreHistories tables Hs
-    × ((x : ℕ) (T : Table) → slice_get tables x ≡ Some T → (s : ℕ) × (run T (Some T.initial) (serial_over_histories x Hs) ≡ Some s) × (slice_get (tables_after tables audits) x ≡ Some (table_at T s)))
+    (tables : List Table) (hs : List Told) (audits : List Audit) → AreAudits tables hs audits
+    → AreHistories tables hs
+    × ((x : ℕ) (T : Table) → slice_get tables x ≡ Some T → (s : ℕ) × (run T (Some T.initial) (serial_over_histories x hs) ≡ Some s) × (slice_get (tables_after tables audits) x ≡ Some (table_at T s)))
 
 -- where memory wasn't refused, there is a yes exactly where each is a history and the serial order over all is legal
 abbrev pub EpochsDecide : Type 0
 EpochsDecide =
-    (tables : List Table) (Hs : List (List Event)) (outcome : Result (Vec Audit Global) EpochFault) → AuditsEpochs tables Hs outcome
+    (tables : List Table) (hs : List Told) (outcome : Result (Vec Audit Global) EpochFault) → AuditsEpochs tables hs outcome
     → ((f : EpochFault) → outcome ≡ Err f → f.fault ≢ NoMemory)
-    → IsOk outcome ↔ (AreHistories tables Hs × AreSerialOver tables Hs)
+    → IsOk outcome ↔ (AreHistories tables hs × AreSerialOver tables hs)
 
 -- ---- epochs of checked types
 
@@ -88,10 +98,18 @@ abbrev pub PassEpochs : Result (Vec Audit Global) EpochFault → Type 0
 PassEpochs (Ok audits) = Unit {0}
 PassEpochs (Err f) = f.fault ≡ NoMemory
 
+-- what is told of epochs, of which the first has so many objects, and each later one those that were added too
+abbrev pub told_from : ℕ → List Epoch → List Told
+told_from objects [] = []
+told_from objects (e ∷ es) = record { objects = objects; events = e.history } ∷ told_from (objects + length e.added) es
+
+-- the types of all objects, as they first begin
+abbrev pub types_of_all : List Checked → List Epoch → List Checked
+types_of_all types es = types ++ flat_map (λ (e : Epoch). e.added) es
+
 -- the histories of epochs of checked types, at whose ends a state of each object was kept, pass; a kept state may only look like the
 -- serial one, at which the audit goes on
 abbrev pub EpochsPass : Type 0
 EpochsPass =
     (types : List Checked) (es : List Epoch) (outcome : Result (Vec Audit Global) EpochFault) → AreChecked types → AreEpochs types es
-    → AllByRecursion (λ (e : Epoch). length e.kept ≡ length types) es
-    → AuditsEpochs (map (λ (c : Checked). c.file.table) types) (map (λ (e : Epoch). e.history) es) outcome → PassEpochs outcome
+    → AuditsEpochs (map (λ (c : Checked). c.file.table) (types_of_all types es)) (told_from (length types) es) outcome → PassEpochs outcome

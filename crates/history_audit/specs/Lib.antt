@@ -1,5 +1,6 @@
 pub mod InOrder
 pub mod Epochs
+pub mod Examples
 pub mod Auditor
 pub mod Commits
 pub mod OrderTests

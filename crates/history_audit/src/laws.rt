@@ -7,6 +7,7 @@ ghost use Rattle.history_audit.specs.Laws.{YesIsSerial, SerialHistoriesPass, Run
 use serial_order::{
     epochs_are_serial, headline, history_opens_after, own_after, run_is_history, summary_after,
 };
+use table_checker::at_is_checked;
 use type_table::{runs_alike, runs_along};
 
 /// What the audit says yes to is serially legal, for any objects of these tables.
@@ -95,6 +96,7 @@ pub fn epochs_pass()
     ensures { EpochsPass }
 {
     run_is_history();
+    at_is_checked();
     epochs_are_serial();
     epochs_decide();
 }

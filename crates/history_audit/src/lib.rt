@@ -6,6 +6,7 @@ mod auditor;
 mod commits;
 mod dates;
 mod epoch_fault;
+mod epoch_history;
 mod epoch_lines;
 mod in_order;
 mod in_order_fault;
@@ -16,6 +17,7 @@ mod write;
 
 pub use auditor::audit;
 pub use epoch_fault::EpochFault;
+pub use epoch_history::EpochHistory;
 pub use epoch_lines::write_epochs;
 pub use history_judge::{Audit, AuditFault};
 pub use in_order::audit_in_order;

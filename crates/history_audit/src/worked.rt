@@ -1,7 +1,7 @@
 //! Worked audits: each function does nothing, and its contract is what comes out of a small history.
 #![tactic(auto, unfolding(type_table::specs::Table::next))]
 
-ghost use Rattle.std.specs.Prelude.{◌≡◌, [], ◌∷◌, Some, None, Ok, Err, codes};
+ghost use Rattle.std.specs.Prelude.{◌≡◌, take, [], ◌∷◌, Some, None, Ok, Err, codes};
 ghost use Rattle.type_table.specs.Run.{run};
 ghost use Rattle.type_table.specs.Examples.{counter_table, one_way};
 ghost use Rattle.type_table.specs.Table.{table_at};
@@ -13,7 +13,8 @@ ghost use Rattle.history_audit.specs.Epochs.{AreAudits, AreHistories, serial_ove
 ghost use Rattle.history_audit.specs.EpochText.{commit_line_in, epoch_fault_line, numbered_in};
 ghost use Rattle.history_audit.specs.Text.{comment, committed_line, serial_line, audit_text};
 ghost use Rattle.history_judge.specs.declared.outcome.Audit.{Audit as AuditValue};
-ghost use Rattle.history_judge.specs.Examples.{two_counters, too_many_history, two_stops_history, up_then_down};
+ghost use Rattle.history_judge.specs.Examples.{two_counters, too_many_history, two_stops_history};
+ghost use Rattle.history_audit.specs.Examples.{down_and_up, up_alone, two_histories};
 
 use history_judge::AuditFault;
 
@@ -66,15 +67,18 @@ pub fn outcomes_say_alike()
 {}
 
 /// A counter is counted up in one history and down in the next: each has a yes, since the second begins where
-/// the first ends, and the serial order is both. In the other order the first isn't legal.
+/// the first ends, and the serial order is both. In the other order the first isn't legal. A counter that is
+/// added between them begins at 0; in the first history it isn't there.
 pub fn histories_follow_one_another()
-    ensures begins { tables_at two_counters (1 ∷ 0 ∷ []) ≡ table_at counter_table 1 ∷ table_at counter_table 0 ∷ [] }
-    ensures all { AreHistories two_counters up_then_down }
-    ensures serial { serial_over_histories 0 up_then_down ≡ 0 ∷ 1 ∷ [] }
-    ensures leads { run counter_table (Some 0) (serial_over_histories 0 up_then_down) ≡ Some 0 }
-    ensures audits { (a b : AuditValue) → a.order.items ≡ 0 ∷ [] → a.finals.items ≡ 1 ∷ [] → b.order.items ≡ 0 ∷ [] → b.finals.items ≡ 0 ∷ []
-        → AreAudits (counter_table ∷ []) up_then_down (a ∷ b ∷ []) }
+    ensures begins { tables_at two_counters (1 ∷ []) ≡ table_at counter_table 1 ∷ counter_table ∷ [] }
+    ensures all { AreHistories two_counters two_histories }
+    ensures serial { serial_over_histories 0 two_histories ≡ 0 ∷ 1 ∷ [] }
+    ensures added { serial_over_histories 1 two_histories ≡ 0 ∷ [] }
+    ensures leads { run counter_table (Some 0) (serial_over_histories 0 two_histories) ≡ Some 0 }
+    ensures audits { (a b : AuditValue) → a.order.items ≡ 0 ∷ [] → a.finals.items ≡ 1 ∷ [] → b.order.items ≡ 0 ∷ [] → b.finals.items ≡ 0 ∷ 1 ∷ []
+        → AreAudits two_counters two_histories (a ∷ b ∷ []) }
     ensures turned { run counter_table (Some 0) (1 ∷ 0 ∷ []) ≡ None }
+    ensures too_early { IsHistory (take up_alone.objects two_counters) down_and_up.events → ⊥ }
 {}
 
 /// The lines of an audit of several histories have the history's place before its numbers.

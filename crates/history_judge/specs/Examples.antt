@@ -54,10 +54,6 @@ two_ups_rows = Some (operation 1 0 ∷ operation 0 0 ∷ []) ∷ None ∷ []
 abbrev pub one_up_rows : List (Option (List Executed))
 one_up_rows = Some (operation 1 0 ∷ []) ∷ None ∷ []
 
--- one counts up and commits, and in the next history one counts down and commits
-abbrev pub up_then_down : List (List Event)
-up_then_down = events (Begin 0 ∷ Op 0 0 0 ∷ Commit 0 ∷ []) ∷ events (Begin 0 ∷ Op 1 0 0 ∷ Commit 0 ∷ []) ∷ []
-
 -- ---- a number
 
 -- the purse of 0 to 9, which begins at 0. It lists to take 3; any other amount may be taken and any given, and it may be read

@@ -80,25 +80,20 @@ impl CallTable {
         Ok(CallTable { calls })
     }
 
-    /// The same calls, held once with those of another table, where these are the same.
+    /// The same calls, held once by both.
     ///
     /// # Errors
     ///
     /// Memory was refused.
-    pub fn shared_with(self, other: Option<&CallTable>) -> Result<CallTable, AllocError>
-        ensures { IfOk result (λ its. its ≡ self) }
+    pub fn share(&self) -> Result<CallTable, AllocError>
+        ensures { IfOk result (λ its. its ≡ self.now) }
     {
-        match other {
-            Some(other) if other.has_those_of(&self) => {
-                let calls = Arc::clone(&other.calls)?;
-                Ok(CallTable { calls })
-            }
-            _ => Ok(self),
-        }
+        let calls = Arc::clone(&self.calls)?;
+        Ok(CallTable { calls })
     }
 
     /// Whether the calls are the same. A no says nothing.
-    fn has_those_of(&self, other: &CallTable) -> bool
+    pub fn has_those_of(&self, other: &CallTable) -> bool
         ensures { result ≡ true → self.now ≡ other.now }
     {
         are_same(self.calls.as_slice(), other.calls.as_slice())

@@ -2,6 +2,7 @@
 use Rattle.std.proofs.Common.{◌≡◌, ℕ, true, List, map, Some, slice_get, sym, ap, subst, ◌∙◌}
 use Rattle.std.specs.Option.{option_map}
 use Rattle.std.proofs.lemmas.Option.{same_Some, slice_get-map}
+use Rattle.std.proofs.lemmas.List.{length-map}
 use Rattle.type_table.proofs.Elements.{found-map}
 use Rattle.type_table.specs.Laws.{EndsInside}
 use Rattle.type_table.specs.declared.kind.Kind.{Kind}
@@ -29,11 +30,13 @@ states-are-inside covered ends m s checked sound is =
     inside-by ends m.checked.kind (object m) m.base m.log s (covered m.checked checked).0 sound is
 
 pub closed-is-epoch : CheckedIsCovered → CheckedHeadline → EndsInside → ClosedIsEpoch
-closed-is-epoch covered headline ends = λ ms e checked going none objects states.
+closed-is-epoch covered headline ends = λ ms e checked going none many added objects states.
     let types = map (λ (m : Meaning). m.checked) ms in
     let owed = headline types e.history checked going in
     record {
       run = going;
+      as_many = many ∙ sym (length-map ms (λ (m : Meaning). m.checked));
+      added = added;
       kept = λ x c s there kept.
           let found = found-map (λ (m : Meaning). m.checked) ms x c there in
           let m = found.0 in

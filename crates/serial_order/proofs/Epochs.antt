@@ -1,5 +1,5 @@
 -- Epochs are serial, one after another.
-use Rattle.std.proofs.Common.{◌≡◌, ℕ, List, [], ◌∷◌, ◌++◌, map, Option, Some, slice_get, refl, sym, ap, subst, ◌∙◌}
+use Rattle.std.proofs.Common.{◌≡◌, ℕ, List, [], ◌∷◌, ◌++◌, map, Option, Some, slice_get, refl, sym, ap, subst, ◌∙◌, inl, inr}
 use Rattle.std.specs.Option.{option_map}
 use Rattle.std.proofs.lemmas.Option.{same_Some, slice_get-map}
 use Rattle.type_table.specs.Table.{Table, table_at}
@@ -17,17 +17,21 @@ use Rattle.serial_order.specs.Machine.{IsRun}
 use Rattle.serial_order.specs.Serial.{serial_at, serial_state}
 use Rattle.serial_order.specs.Represent.{KeptAgreesBy}
 use Rattle.serial_order.specs.Laws.{AreChecked, CheckedHeadline}
-use Rattle.serial_order.specs.Epochs.{Epoch, types_at, IsKeptAt, IsEpoch, AreEpochs, types_after, serial_over, EpochsAreSerial, EpochsGoOn}
-use Rattle.serial_order.proofs.EpochTypes.{is-at}
+use Rattle.serial_order.specs.Epochs.{Epoch, types_at, types_behind, IsKeptAt, IsEpoch, AreEpochs, types_after, serial_over, EpochsAreSerial, EpochsGoOn}
+use Rattle.serial_order.proofs.EpochTypes.{is-at, found-parts, goes-on}
 use Rattle.serial_order.proofs.EpochStarts.{legal-from, looks-from, looks-to, equi-from, equi-to}
 
 -- ---- types at kept states
 
--- they are checked
-at-checked : AtIsChecked → (types : List Checked) (e : Epoch) → AreChecked types → IsEpoch types e → AreChecked (types_at types e.kept)
-at-checked law types e checked epoch = λ x d there.
-    let it = is-at types e.kept x d there in
-    subst IsChecked it.is (law it.c it.s (checked x it.c it.type) (epoch.kept x it.c it.s it.type it.state).inside)
+-- they are checked, and so is what is added
+pub behind-checked : AtIsChecked → (types : List Checked) (e : Epoch) → AreChecked types → IsEpoch types e → AreChecked (types_behind types e)
+behind-checked law types e checked epoch = λ x d there.
+    elim (found-parts (types_at types e.kept) e.added x d there) [
+      | inl old ↦
+          let it = is-at types e.kept x d old in
+          subst IsChecked it.is (law it.c it.s (checked x it.c it.type) (epoch.kept x it.c it.s it.type it.state).inside)
+      | inr new ↦ epoch.added new.0 d new.1
+    ]
 
 -- ---- serial runs
 
@@ -36,14 +40,6 @@ pub serial-in : CheckedHeadline → (types : List Checked) (H : List Event) → 
     → (x : ℕ) (c : Checked) → slice_get types x ≡ Some c → IsLegal c.file.table (Some c.file.table.initial) (ops (serial_at x H))
 serial-in headline types H checked going x c there =
     (headline types H checked going).serially_legal x (object_of c) (slice_get-map object_of types x ∙ ap (option_map object_of) there)
-
--- a type that is there after the epochs was there at the beginning of each
-first-of : (types : List Checked) (es : List Epoch) (x : ℕ) (last : Checked) → slice_get (types_after types es) x ≡ Some last → (c : Checked) × (slice_get types x ≡ Some c)
-first-of types [] x last there = (last, there)
-first-of types (e ∷ es) x last there =
-    let rest = first-of (types_at types e.kept) es x last there in
-    let it = is-at types e.kept x rest.0 rest.1 in
-    (it.c, it.type)
 
 -- ---- over all epochs, by a relation of states that goes on along operations
 
@@ -72,14 +68,10 @@ module _ (R : Table → Option ℕ → Option ℕ → Type 0) (extends : (T : Ta
       let w = ops (serial_at x e.history) in
       let legal = serial-in headline types e.history checked epochs.0.run x c there in
       let after = (extends T).after (Some T.initial) b w related legal in
-      let next = first-of (types_at types e.kept) es x last end in
-      let it = is-at types e.kept x next.0 next.1 in
-      let same : it.c ≡ c = same_Some it.c c (sym it.type ∙ there) in
-      let d_is : checked_at c it.s ≡ next.0 = subst (λ (k : Checked). checked_at k it.s ≡ next.0) same it.is in
-      let begins : slice_get (types_at types e.kept) x ≡ Some (checked_at c it.s) = next.1 ∙ ap Some (sym d_is) in
+      let it = goes-on types e x c epochs.0.as_many there in
       let kept = agrees c it.s x e.history (checked x c there) holds (epochs.0.kept x c it.s there it.state) in
       let reached : R T (Some it.s) (run T b w) = (extends T).through (Some it.s) (run T (Some T.initial) w) (run T b w) kept after.1 in
-      let rest = over (types_at types e.kept) es x (checked_at c it.s) last (run T b w) (at-checked at_law types e checked epochs.0) epochs.1 begins end (stays c it.s holds)
+      let rest = over (types_behind types e) es x (checked_at c it.s) last (run T b w) (behind-checked at_law types e checked epochs.0) epochs.1 it.behind end (stays c it.s holds)
       (to T it.s (Some it.s) (run T b w) reached) in
       record {
         legal = rw (along T b w (serial_over x es)) (legal-from alike T it.s (run T b w) (serial_over x es) rest.legal);
@@ -109,19 +101,15 @@ kept-equi covered c s x H checked strong kept = by c.kind kept.agrees
 -- the last types are checked
 after-checked : AtIsChecked → (types : List Checked) (es : List Epoch) → AreChecked types → AreEpochs types es → AreChecked (types_after types es)
 after-checked law types [] checked epochs = checked
-after-checked law types (e ∷ es) checked epochs = after-checked law (types_at types e.kept) es (at-checked law types e checked epochs.0) epochs.1
+after-checked law types (e ∷ es) checked epochs = after-checked law (types_behind types e) es (behind-checked law types e checked epochs.0) epochs.1
 
 -- steps at a later epoch are those of the first
-after-legal : RunsAlike → (types : List Checked) (es : List Epoch) (x : ℕ) (c last : Checked) (from : Option ℕ) (ks : List ℕ) → slice_get types x ≡ Some c → slice_get (types_after types es) x ≡ Some last
+after-legal : RunsAlike → (types : List Checked) (es : List Epoch) (x : ℕ) (c last : Checked) (from : Option ℕ) (ks : List ℕ) → AreEpochs types es → slice_get types x ≡ Some c → slice_get (types_after types es) x ≡ Some last
     → IsLegal last.file.table from ks → IsLegal c.file.table from ks
-after-legal alike types [] x c last from ks there end legal = subst (λ (d : Checked). IsLegal d.file.table from ks) (same_Some last c (sym end ∙ there)) legal
-after-legal alike types (e ∷ es) x c last from ks there end legal =
-    let next = first-of (types_at types e.kept) es x last end in
-    let it = is-at types e.kept x next.0 next.1 in
-    let same : it.c ≡ c = same_Some it.c c (sym it.type ∙ there) in
-    let d_is : checked_at c it.s ≡ next.0 = subst (λ (k : Checked). checked_at k it.s ≡ next.0) same it.is in
-    legal-from alike c.file.table it.s from ks
-    (after-legal alike (types_at types e.kept) es x (checked_at c it.s) last from ks (next.1 ∙ ap Some (sym d_is)) end legal)
+after-legal alike types [] x c last from ks epochs there end legal = subst (λ (d : Checked). IsLegal d.file.table from ks) (same_Some last c (sym end ∙ there)) legal
+after-legal alike types (e ∷ es) x c last from ks epochs there end legal =
+    let it = goes-on types e x c epochs.0.as_many there in
+    legal-from alike c.file.table it.s from ks (after-legal alike (types_behind types e) es x (checked_at c it.s) last from ks epochs.1 it.behind end legal)
 
 pub epochs-are-serial : RunsAlike → AtIsChecked → AtIsStrong → CheckedIsCovered → CheckedHeadline → LooksExtends → EquiExtends → RunsAlong → EpochsAreSerial
 epochs-are-serial alike at_law strong_law covered headline looks equi along = λ types es checked epochs x c last there end.
@@ -137,7 +125,7 @@ epochs-are-serial alike at_law strong_law covered headline looks equi along = λ
       },
       λ H going.
           let w = ops (serial_at x H) in
-          let legal = after-legal alike types es x c last (Some last.file.table.initial) w there end
+          let legal = after-legal alike types es x c last (Some last.file.table.initial) w epochs there end
           (serial-in headline (types_after types es) H (after-checked at_law types es checked epochs) going x last end) in
           rw (along T (Some T.initial) (serial_over x es) w) (by_looks.related w legal),
     )
@@ -146,11 +134,11 @@ epochs-are-serial alike at_law strong_law covered headline looks equi along = λ
 
 go-on : (types : List Checked) (es : List Epoch) (e : Epoch) → AreEpochs types es → IsEpoch (types_after types es) e → AreEpochs types (es ++ e ∷ [])
 go-on types [] e epochs next = (next, tt)
-go-on types (f ∷ es) e epochs next = (epochs.0, go-on (types_at types f.kept) es e epochs.1 next)
+go-on types (f ∷ es) e epochs next = (epochs.0, go-on (types_behind types f) es e epochs.1 next)
 
-after-more : (types : List Checked) (es : List Epoch) (e : Epoch) → types_after types (es ++ e ∷ []) ≡ types_at (types_after types es) e.kept
+after-more : (types : List Checked) (es : List Epoch) (e : Epoch) → types_after types (es ++ e ∷ []) ≡ types_behind (types_after types es) e
 after-more types [] e = refl
-after-more types (f ∷ es) e = after-more (types_at types f.kept) es e
+after-more types (f ∷ es) e = after-more (types_behind types f) es e
 
 pub epochs_go_on : EpochsGoOn
 epochs_go_on types es e epochs next = (go-on types es e epochs next, after-more types es e)

@@ -1,5 +1,5 @@
 -- Epochs: histories one after another, each from the states that were kept at the end of the one before it.
-use Rattle.std.specs.Prelude.{◌≡◌, ℕ, List, [], ◌∷◌, ◌++◌, map, false, Some, slice_get}
+use Rattle.std.specs.Prelude.{◌≡◌, ℕ, List, [], ◌∷◌, ◌++◌, length, map, false, Some, slice_get}
 use Rattle.type_table.specs.Run.{run, IsLegal, Looks, AreEqui}
 use Rattle.table_checker.specs.At.{checked_at, IsInside}
 use Rattle.table_checker.specs.Checked.{Checked, IsChecked, IsStrong}
@@ -14,16 +14,21 @@ use Rattle.serial_order.specs.Serial.{serial_at}
 use Rattle.serial_order.specs.Represent.{Represents, IsIdle, KeptAgreesBy}
 use Rattle.serial_order.specs.Laws.{AreChecked}
 
--- a history, and at its end the state that was kept of each object
+-- a history, at its end the state that was kept of each object, and the types of the objects that are added then
 pub record Epoch : Type 0 where
   pub history : List Event
   pub kept : List ℕ
+  pub added : List Checked
 
 -- each type at the state that was kept of its object
 abbrev pub types_at : List Checked → List ℕ → List Checked
 types_at [] kept = []
 types_at (c ∷ types) [] = []
 types_at (c ∷ types) (s ∷ kept) = checked_at c s ∷ types_at types kept
+
+-- the types with which the epoch after this one begins: those that were at the states that were kept, and then what is added
+abbrev pub types_behind : List Checked → Epoch → List Checked
+types_behind types e = types_at types e.kept ++ e.added
 
 -- s may be the state that is kept of the object at x: one at which its type may begin, at a time when no open transaction has an operation there
 pub record IsKeptAt (c : Checked) (s x : ℕ) (H : List Event) : Type 0 where
@@ -34,19 +39,21 @@ pub record IsKeptAt (c : Checked) (s x : ℕ) (H : List Event) : Type 0 where
 -- an epoch of objects of these types
 pub record IsEpoch (types : List Checked) (e : Epoch) : Type 0 where
   pub run : IsRun (map object_of types) e.history
+  pub as_many : length e.kept ≡ length types
+  pub added : AreChecked e.added
   pub kept : (x : ℕ) (c : Checked) (s : ℕ) → slice_get types x ≡ Some c → slice_get e.kept x ≡ Some s → IsKeptAt c s x e.history
 
--- each epoch begins at the states that were kept at the end of the one before it
+-- each epoch begins at the states that were kept at the end of the one before it, with the objects that were added
 abbrev pub AreEpochs : List Checked → List Epoch → Type 0
 AreEpochs types [] = Unit {0}
-AreEpochs types (e ∷ es) = IsEpoch types e × AreEpochs (types_at types e.kept) es
+AreEpochs types (e ∷ es) = IsEpoch types e × AreEpochs (types_behind types e) es
 
--- the types, at the states that were kept at the end of the last epoch
+-- the types with which the epoch after the last one begins
 abbrev pub types_after : List Checked → List Epoch → List Checked
 types_after types [] = types
-types_after types (e ∷ es) = types_after (types_at types e.kept) es
+types_after types (e ∷ es) = types_after (types_behind types e) es
 
--- the operations of the committed transactions at x, epoch after epoch, and in each in commit order
+-- the operations of the committed transactions at x, from where it is there on, epoch after epoch, and in each in commit order
 abbrev pub serial_over : ℕ → List Epoch → List ℕ
 serial_over x [] = []
 serial_over x (e ∷ es) = ops (serial_at x e.history) ++ serial_over x es
@@ -58,6 +65,7 @@ pub record IsSerialOver (c last : Checked) (x : ℕ) (es : List Epoch) : Type 0 
   pub looks : Looks c.file.table (Some last.file.table.initial) (run c.file.table (Some c.file.table.initial) (serial_over x es))
   pub equi : IsStrong c → AreEqui c.file.table (Some last.file.table.initial) (run c.file.table (Some c.file.table.initial) (serial_over x es))
 
+-- where the epochs are some of a list, from one that isn't the first on, this is said of objects that were added before it
 abbrev pub EpochsAreSerial : Type 0
 EpochsAreSerial =
     (types : List Checked) (es : List Epoch) → AreChecked types → AreEpochs types es
@@ -70,7 +78,7 @@ EpochsAreSerial =
 abbrev pub EpochsGoOn : Type 0
 EpochsGoOn =
     (types : List Checked) (es : List Epoch) (e : Epoch) → AreEpochs types es → IsEpoch (types_after types es) e
-    → AreEpochs types (es ++ e ∷ []) × (types_after types (es ++ e ∷ []) ≡ types_at (types_after types es) e.kept)
+    → AreEpochs types (es ++ e ∷ []) × (types_after types (es ++ e ∷ []) ≡ types_behind (types_after types es) e)
 
 -- at the state of a sound object its type may begin
 abbrev pub StatesAreInside : Type 0
@@ -80,7 +88,7 @@ StatesAreInside = (m : Meaning) (s : ℕ) → IsChecked m.checked → IsSound m 
 abbrev pub ClosedIsEpoch : Type 0
 ClosedIsEpoch =
     (ms : List Meaning) (e : Epoch) → AreChecked (map (λ (m : Meaning). m.checked) ms) → IsRun (map object_of (map (λ (m : Meaning). m.checked) ms)) e.history
-    → ((t : ℕ) → is_open (summary e.history) t ≡ false)
+    → ((t : ℕ) → is_open (summary e.history) t ≡ false) → length e.kept ≡ length ms → AreChecked e.added
     → ((x : ℕ) (m : Meaning) → slice_get ms x ≡ Some m → IsSound m × Represents m x e.history)
     → ((x : ℕ) (m : Meaning) (s : ℕ) → slice_get ms x ≡ Some m → slice_get e.kept x ≡ Some s → state_of m ≡ Some s)
     → IsEpoch (map (λ (m : Meaning). m.checked) ms) e

@@ -242,13 +242,14 @@ pub fn numbers_are_below()
 {}
 
 /// A counter is counted up in one epoch and down in the next: the serial order is both, and the types begin at
-/// what was kept last. An object of which nothing was kept has no place in the next epoch.
+/// what was kept last. An object of which nothing was kept has no place in the next epoch; one that is added begins as its type does.
 pub fn one_up_and_one_down()
     ensures serial { serial_over 0 up_and_down_epochs ≡ 0 ∷ 1 ∷ [] }
     ensures others { serial_over 1 up_and_down_epochs ≡ [] }
     ensures behind_one { (c : Checked) → types_after (c ∷ []) (up ∷ []) ≡ checked_at c 1 ∷ [] }
     ensures behind_both { (c : Checked) → types_after (c ∷ []) up_and_down_epochs ≡ checked_at c 0 ∷ [] }
     ensures left_out { (c d : Checked) → types_at (c ∷ d ∷ []) (1 ∷ []) ≡ checked_at c 1 ∷ [] }
+    ensures added { (c d : Checked) → types_after (c ∷ []) (record up { added = d ∷ [] } ∷ []) ≡ checked_at c 1 ∷ d ∷ [] }
 {}
 
 /// Under escrow two transactions take and give beside each other. A third is kept from giving by the one

@@ -16,7 +16,8 @@ use Rattle.open_transactions.specs.Transactions.{Row}
 use Rattle.store_laws.specs.Kept.{keeping, IsKept}
 use Rattle.store_laws.specs.Stored.{Stored, types_of}
 use Rattle.store.specs.KeptState.{IsKeptState}
-use Rattle.store.specs.Renews.{IsRenewed, AreRenewed, Renews}
+use Rattle.std.proofs.lemmas.List.{map-append}
+use Rattle.store.specs.Renews.{Extends, IsRenewed, AreRenewed, Renews}
 use Rattle.store.proofs.KeptStates.{kept-shown}
 use Rattle.store.proofs.Stored.{stored, shown}
 
@@ -111,12 +112,39 @@ module _ (ms : List Meaning) (rows : List (Option Row)) (K : List Event) (kept :
         kept = its.kept;
         as_many = its.as_many ∙ sym (length-map ms (λ (m : Meaning). m.checked));
         states = are-kept headline along now limits forgotten its;
-        epoch = closed ms (record { history = K; kept = its.kept }) accepted kept.run none
+        epoch = closed ms (record { history = K; kept = its.kept; added = [] }) accepted kept.run none its.as_many (λ x c there. absurd (none-some c there))
             (λ x m there. let o = kept.objects x m there in (o.sound, o.represents)) (λ x m s there here. (its.states x m s there here).0);
         is = made ∙ ap (λ ts. stored ts [] limits 0) its.types;
       }
 
+  -- and so where objects of these types come after those
+  pub extends-shown : CheckedHeadline → RunsAlong → ClosedIsEpoch → (now more : List Meaning) (limits : Limits) (forgotten : ℕ) (new : Stored) → ((t : ℕ) → is_open (summary K) t ≡ false)
+      → AreRenewed ms now → AreChecked (types_of more) → new ≡ stored (types_of (now ++ more)) [] limits 0 → Extends (shown (keeping ms rows) K limits forgotten) (types_of more) new
+  extends-shown headline along closed now more limits forgotten new none all checked made =
+      let its = kept-of ms now all in
+      record {
+        kept = its.kept;
+        as_many = its.as_many ∙ sym (length-map ms (λ (m : Meaning). m.checked));
+        states = are-kept headline along now limits forgotten its;
+        epoch = closed ms (record { history = K; kept = its.kept; added = types_of more }) accepted kept.run none its.as_many checked
+            (λ x m there. let o = kept.objects x m there in (o.sound, o.represents)) (λ x m s there here. (its.states x m s there here).0);
+        is = made ∙ ap (λ ts. stored ts [] limits 0) (map-append (λ (m : Meaning). m.checked) now more ∙ ap (λ ts. ts ++ types_of more) its.types);
+      }
+
+-- the types of the last ones are checked where all are
+pub checked-behind : (now more : List Meaning) → AreChecked (types_of (now ++ more)) → AreChecked (types_of more)
+checked-behind [] more checked = checked
+checked-behind (m ∷ now) more checked = checked-behind now more (λ x c there. checked (suc x) c there)
+
 -- and so as its callers see it
+pub extends : CheckedHeadline → RunsAlong → ClosedIsEpoch → (ms now more : List Meaning) (rows : List (Option Row)) (K : List Event) (limits : Limits) (forgotten : ℕ) (s new : Stored)
+    → shown (keeping ms rows) K limits forgotten ≡ s → IsKept (keeping ms rows) K → ((t : ℕ) → is_open (summary s.history) t ≡ false) → AreRenewed ms now
+    → AreChecked new.types → new ≡ stored (types_of (now ++ more)) [] limits 0 → Extends s (types_of more) new
+extends headline along closed ms now more rows K limits forgotten s new same kept none all checked made =
+    let yes = checked-behind now more (subst AreChecked (ap (λ (z : Stored). z.types) made) checked) in
+    subst (λ (z : Stored). Extends z (types_of more) new) same
+    (extends-shown ms rows K kept headline along closed now more limits forgotten new (subst (λ (z : Stored). (t : ℕ) → is_open (summary z.history) t ≡ false) (sym same) none) all yes made)
+
 pub renews : CheckedHeadline → RunsAlong → ClosedIsEpoch → (ms now : List Meaning) (rows : List (Option Row)) (K : List Event) (limits : Limits) (forgotten : ℕ) (s new : Stored)
     → shown (keeping ms rows) K limits forgotten ≡ s → IsKept (keeping ms rows) K → ((t : ℕ) → is_open (summary s.history) t ≡ false) → AreRenewed ms now
     → new ≡ stored (types_of now) [] limits 0 → Renews s new

@@ -1,6 +1,6 @@
 -- Stores that went on from one another are epochs, so what is known of epochs holds of them.
-use Rattle.std.proofs.Common.{◌≡◌, ℕ, ◌<◌, List, [], ◌∷◌, ◌++◌, map, length, Some, slice_get, refl, sym, ap, subst, ◌∙◌, append_assoc, arith}
-use Rattle.std.proofs.lemmas.List.{append-nil}
+use Rattle.std.proofs.Common.{◌≡◌, ℕ, ◌<◌, ◌≤◌, List, [], ◌∷◌, ◌++◌, map, length, Some, slice_get, refl, sym, ap, subst, ◌∙◌, append_assoc, arith}
+use Rattle.std.proofs.lemmas.List.{append-nil, length-append}
 use Rattle.std.proofs.lemmas.Option.{slice_get_within}
 use Rattle.type_table.proofs.Elements.{element_at}
 use Rattle.type_table.specs.Run.{run, IsLegal, Looks, AreEqui}
@@ -13,7 +13,7 @@ use Rattle.serial_order.specs.Serial.{serial_at}
 use Rattle.serial_order.specs.Epochs.{Epoch, IsEpoch, AreEpochs, types_at, types_after, serial_over, EpochsAreSerial, EpochsGoOn}
 use Rattle.serial_order.proofs.EpochTypes.{length-types_at}
 use Rattle.store_laws.specs.Stored.{Stored, objects}
-use Rattle.store.specs.Renews.{Renews}
+use Rattle.store.specs.Renews.{Extends}
 use Rattle.store.specs.Renewals.{AreRenewals, last_of, serial_through, BeginsAsSerial, RenewalsAreSerial}
 
 -- all that ended before the last one
@@ -21,21 +21,21 @@ record Before (first : Stored) (more : List Stored) : Type 0 where
   es : List Epoch
   epochs : AreEpochs first.types es
   types : (last_of first more).types ≡ types_after first.types es
-  as_many : length (last_of first more).types ≡ length first.types
+  as_many : length first.types ≤ length (last_of first more).types
   serial : (x : ℕ) → serial_through x first more ≡ serial_over x es ++ ops (serial_at x (last_of first more).history)
 
 before : (first : Stored) (more : List Stored) → AreRenewals first more → Before first more
-before first [] chain = record { es = []; epochs = tt; types = refl; as_many = refl; serial = λ x. refl }
+before first [] chain = record { es = []; epochs = tt; types = refl; as_many = omega arith; serial = λ x. refl }
 before first (next ∷ more) chain =
     let on = chain.0 in
     let rest = before next more chain.1 in
-    let e : Epoch = record { history = first.history; kept = on.renews.kept } in
-    let types : next.types ≡ types_at first.types on.renews.kept = on.types ∙ ap (λ (s : Stored). s.types) on.renews.is in
+    let e : Epoch = record { history = first.history; kept = on.extends.kept; added = on.added } in
+    let types : next.types ≡ types_at first.types on.extends.kept ++ on.added = on.types ∙ ap (λ (s : Stored). s.types) on.extends.is in
     record {
       es = e ∷ rest.es;
-      epochs = (on.renews.epoch, subst (λ ts. AreEpochs ts rest.es) types rest.epochs);
+      epochs = (on.extends.epoch, subst (λ ts. AreEpochs ts rest.es) types rest.epochs);
       types = rest.types ∙ ap (λ ts. types_after ts rest.es) types;
-      as_many = rest.as_many ∙ ap length types ∙ length-types_at first.types on.renews.kept on.renews.as_many;
+      as_many = omega (arith, rest.as_many, ap length types, length-append (types_at first.types on.extends.kept) on.added, length-types_at first.types on.extends.kept on.extends.as_many);
       serial = λ x. ap (λ w. ops (serial_at x first.history) ++ w) (rest.serial x)
           ∙ sym (append_assoc (ops (serial_at x first.history)) (serial_over x rest.es) (ops (serial_at x (last_of next more).history)));
     }
@@ -60,14 +60,14 @@ module _ (serial : EpochsAreSerial) (on : EpochsGoOn) (first : Stored) (more : L
       let run-of : IsRun (map object_of (types_after first.types b.es)) (last_of first more).history = subst (λ ts. IsRun (map object_of ts) (last_of first more).history) b.types runs in
       subst (λ w. IsLegal c.file.table (Some c.file.table.initial) w) (sym (b.serial x)) (all.1 (last_of first more).history run-of)
 
-  begins : (new : Stored) (begun : Checked) → Renews (last_of first more) new → slice_get new.types x ≡ Some begun → BeginsAsSerial first more x c begun
-  begins new begun renews at =
+  begins : (new : Stored) (added : List Checked) (begun : Checked) → Extends (last_of first more) added new → slice_get new.types x ≡ Some begun → BeginsAsSerial first more x c begun
+  begins new added begun extends at =
       let b = so-far in
-      let e : Epoch = record { history = (last_of first more).history; kept = renews.kept } in
-      let epoch : IsEpoch (types_after first.types b.es) e = subst (λ ts. IsEpoch ts e) b.types renews.epoch in
+      let e : Epoch = record { history = (last_of first more).history; kept = extends.kept; added = added } in
+      let epoch : IsEpoch (types_after first.types b.es) e = subst (λ ts. IsEpoch ts e) b.types extends.epoch in
       let longer = on first.types b.es e b.epochs epoch in
       let types : new.types ≡ types_after first.types (b.es ++ e ∷ []) =
-      ap (λ (s : Stored). s.types) renews.is ∙ ap (λ ts. types_at ts renews.kept) b.types ∙ sym longer.1 in
+      ap (λ (s : Stored). s.types) extends.is ∙ ap (λ ts. types_at ts extends.kept ++ added) b.types ∙ sym longer.1 in
       let known = (serial first.types (b.es ++ e ∷ []) checked longer.0 x c begun there (subst (λ ts. slice_get ts x ≡ Some begun) types at)).0 in
       let order : serial_over x (b.es ++ e ∷ []) ≡ serial_through x first more = serial-more x b.es e ∙ sym (b.serial x) in
       record {

@@ -7,12 +7,14 @@ use Rattle.serial_order.specs.Machine.{IsRun}
 use Rattle.serial_order.specs.Operations.{ops}
 use Rattle.serial_order.specs.Serial.{serial_at}
 use Rattle.store_laws.specs.Stored.{Stored, objects}
-use Rattle.store.specs.Renews.{Renews}
+use Rattle.store.specs.Renews.{Extends}
 
--- the second store is at the end of its time what began where the first one ended: it has the types of a store that renewed the first
+-- the second store is at the end of its time what began where the first one ended, with some objects more or none: it has the types of a
+-- store that extended the first
 pub record GoesOnFrom (old now : Stored) : Type 0 where
   pub new : Stored
-  pub renews : Renews old new
+  pub added : List Checked
+  pub extends : Extends old added new
   pub types : now.types ≡ new.types
 
 -- each goes on from the one before it
@@ -34,7 +36,7 @@ serial_through x first (next ∷ more) = ops (serial_at x first.history) ++ seri
 abbrev pub AreSeriallyLegal : Stored → List Stored → ℕ → Checked → Type 0
 AreSeriallyLegal first more x c = IsLegal c.file.table (Some c.file.table.initial) (serial_through x first more)
 
--- the state at which a store that renews the last one begins looks like the serial state, and is equieffective to it where the yes is strong
+-- the state at which a store that extends the last one begins looks like the serial state, and is equieffective to it where the yes is strong
 pub record BeginsAsSerial (first : Stored) (more : List Stored) (x : ℕ) (c begun : Checked) : Type 0 where
   pub looks : Looks c.file.table (Some begun.file.table.initial) (run c.file.table (Some c.file.table.initial) (serial_through x first more))
   pub equi : IsStrong c → AreEqui c.file.table (Some begun.file.table.initial) (run c.file.table (Some c.file.table.initial) (serial_through x first more))
@@ -45,4 +47,4 @@ RenewalsAreSerial =
     (first : Stored) (more : List Stored) → AreChecked first.types → AreRenewals first more → IsRun (objects (last_of first more)) (last_of first more).history
     → (x : ℕ) (c : Checked) → slice_get first.types x ≡ Some c
     → AreSeriallyLegal first more x c
-    × ((new : Stored) (begun : Checked) → Renews (last_of first more) new → slice_get new.types x ≡ Some begun → BeginsAsSerial first more x c begun)
+    × ((new : Stored) (added : List Checked) (begun : Checked) → Extends (last_of first more) added new → slice_get new.types x ≡ Some begun → BeginsAsSerial first more x c begun)

@@ -58,7 +58,7 @@ pub(crate) fn held_for<R: Recovery>(
 }
 
 /// Whether each object is as it was made.
-fn are_fresh<R: Recovery>(objects: &Vec<R>) -> bool
+pub(crate) fn are_fresh<R: Recovery>(objects: &Vec<R>) -> bool
     ensures { (result ≡ true) ↔ AreFresh (map R.meaning objects.now.items) }
 {
     for object in objects {
@@ -69,16 +69,34 @@ fn are_fresh<R: Recovery>(objects: &Vec<R>) -> bool
     true
 }
 
-/// The calls of each object's type. Objects that follow each other share those of one type.
+/// The calls of each object's type. Objects of one type share them.
 fn calls_of<R: Recovery>(alloc: Global, objects: &Vec<R>) -> Result<Vec<CallTable>, AllocError>
     ensures calls { IfOk result (λ calls. HasCalls (types_of (map R.meaning objects.now.items)) calls.items) }
     ensures checked { IfOk result (λ calls. AreChecked (types_of (map R.meaning objects.now.items))) }
 {
+    let mut known: Vec<CallTable> = Vec::new(alloc);
     let mut calls: Vec<CallTable> = Vec::with_capacity(alloc, objects.len())?;
     for object in objects {
         let its = CallTable::new(alloc, object.declared())?;
-        let shared = its.shared_with(calls.last())?;
+        let shared = shared_with(&mut known, its)?;
         calls.push_reserved(shared);
     }
     Ok(calls)
+}
+
+/// The most types whose calls are looked through for those of one more object.
+const MOST_KNOWN: usize = 64;
+
+/// The same calls, held once with the known table that has them, where there is one; else they are known from
+/// now on, where there is room.
+fn shared_with(known: &mut Vec<CallTable>, its: CallTable) -> Result<CallTable, AllocError>
+    ensures { IfOk result (λ shared. shared ≡ its) }
+{
+    if let Some(shared) = known.iter().find(|table| table.has_those_of(&its)) {
+        return shared.share();
+    }
+    if known.len() < MOST_KNOWN {
+        known.push(its.share()?)?;
+    }
+    Ok(its)
 }

@@ -17,7 +17,7 @@ mod store;
 pub use event_replay::{ReplayFault, Stray, follow, replay};
 pub use laws::{renewals_are_serial, steps_are_followed};
 pub use object_calls::Answer;
-pub use refusals::{NewRefusal, RenewRefusal};
+pub use refusals::{ExtendRefusal, NewRefusal, RenewRefusal};
 pub use store::Store;
 
 pub mod worked;

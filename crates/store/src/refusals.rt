@@ -38,3 +38,23 @@ impl fmt::Display for RenewRefusal {
         fmt::Debug::fmt(self, f)
     }
 }
+
+/// Why a store doesn't begin anew with more objects. It comes back.
+#[derive(Clone, Copy, Debug, PartialEq, Eq, Error)]
+pub enum ExtendRefusal {
+    /// A transaction is open.
+    StillOpen,
+    /// There would be more objects than the limits say.
+    TooManyObjects,
+    /// An object that is added isn't as it was made.
+    NotFresh,
+    /// Memory was refused.
+    NoMemory,
+}
+
+/// Writes the variant's name.
+impl fmt::Display for ExtendRefusal {
+    fn fmt<W: fmt::Write>(&self, f: &mut fmt::Formatter<W>) -> fmt::Result {
+        fmt::Debug::fmt(self, f)
+    }
+}

@@ -45,8 +45,11 @@ fn renewed_object<R: Renew>(
     Ok(object.renewed(alloc, shared))
 }
 
-/// The type, beginning at this state, where it may: one of these, or else one that is made and is the last
-/// of them then.
+/// The most types, each at a state, that are looked through for one more object.
+const MOST_KNOWN: usize = 256;
+
+/// The type, beginning at this state, where it may: one of these, or else one that is made, and is the last of
+/// them then where there is room.
 fn shared_at(
     alloc: Global,
     types: &mut Vec<Arc<CheckedType>>,
@@ -61,7 +64,9 @@ fn shared_at(
     }
     let made = checked.at(alloc, state)?.unwrap();
     let shared = Arc::new(alloc, made)?;
-    types.push(Arc::clone(&shared)?)?;
+    if types.len() < MOST_KNOWN {
+        types.push(Arc::clone(&shared)?)?;
+    }
     Ok(shared)
 }
 

@@ -1,6 +1,6 @@
 //! The store: what is read of it, how its transactions begin and end, its own end, and the epoch after it.
 
-ghost use Rattle.std.specs.Prelude.{◌≡◌, ◌≤◌, [], map, length, drop, nat_lt, slice_get, is_some, Some, IfOk, IfErr, IfSome, ◌+◌, ◌-◌, min, vec_len, vec_capacity, ℕ, ◌∷◌, ◌++◌, true, false, ◌&&◌};
+ghost use Rattle.std.specs.Prelude.{◌≡◌, ◌≤◌, [], map, length, drop, nat_lt, slice_get, is_some, Some, IfOk, IfErr, IfSome, OnOk, ◌+◌, ◌-◌, min, vec_len, vec_capacity, ℕ, ◌∷◌, ◌++◌, true, false, ◌&&◌};
 ghost use Rattle.serial_order.specs.History.{begins, summary, is_open};
 ghost use Rattle.serial_order.specs.Laws.{AreChecked};
 ghost use Rattle.serial_order.specs.Machine.{IsRun};
@@ -14,12 +14,12 @@ ghost use Rattle.store.specs.KeptState.{IsKeptState};
 ghost use Rattle.store_laws.specs.Events.{end_event};
 ghost use Rattle.object_trait.specs.Meaning.{Meaning};
 ghost use Rattle.serial_order.specs.Operations.{is_among};
-ghost use Rattle.store.specs.Renews.{RefusesRenew, Renews};
+ghost use Rattle.store.specs.Renews.{Extends, RefusesExtend, RefusesRenew, Renews};
 ghost use Rattle.serial_order.specs.declared.command.Command.TheVariants as command;
 
-use crate::held_parts::{HeldParts, held_for};
+use crate::held_parts::{HeldParts, are_fresh, held_for};
 use crate::past::Past;
-use crate::refusals::{NewRefusal, RenewRefusal};
+use crate::refusals::{ExtendRefusal, NewRefusal, RenewRefusal};
 use crate::renewed_objects::renewed_objects;
 use crate::room::has_room;
 use object_calls::{CallTable, End, PlaceCounts, end_at, strike_at};
@@ -118,6 +118,7 @@ impl<R: Recovery> Store<R> {
     ) -> Result<Store<R>, (Vec<R>, NewRefusal)>
         ensures made { IfOk result (λ s. MayBegin longest_history (map R.meaning objects.items) limits × (s ≡ begun (map R.meaning objects.items) limits)) }
         ensures refused { IfErr result (λ e. RefusesNew longest_history (map R.meaning objects.items) limits e.1) }
+        ensures checked { IfOk result (λ s. AreChecked s.types) }
         ensures back { IfErr result (λ e. e.0.items ≡ objects.items) }
     {
         limits_agree();
@@ -133,6 +134,7 @@ impl<R: Recovery> Store<R> {
     ) -> Result<Store<R>, (Vec<R>, NewRefusal)>
         ensures made { IfOk result (λ s. MayBegin greatest (map R.meaning objects.items) limits × (s ≡ begun (map R.meaning objects.items) limits)) }
         ensures refused { IfErr result (λ e. RefusesNew greatest (map R.meaning objects.items) limits e.1) }
+        ensures checked { IfOk result (λ s. AreChecked s.types) }
         ensures back { IfErr result (λ e. e.0.items ≡ objects.items) }
     {
         new_is_kept();
@@ -488,6 +490,66 @@ impl<R: Renew> Store<R> {
         }
     }
 
+    /// Begins an epoch with more objects, which come after those that there are: else it does as `renew`.
+    ///
+    /// # Errors
+    ///
+    /// `StillOpen`, `TooManyObjects`, `NotFresh` or `NoMemory`, the first that holds. The store comes back as it was, and what
+    /// was to be added is let go.
+    pub fn renew_with(
+        self,
+        alloc: Global,
+        added: Vec<R>,
+    ) -> Result<(Store<R>, Vec<Event>), (Store<R>, ExtendRefusal)>
+        ensures extended { IfOk result (λ p. Extends self (types_of (map R.meaning added.items)) p.0) }
+        ensures history { IfOk result (λ p. p.1.items ≡ drop self.forgotten self.history) }
+        ensures back { IfErr result (λ e. e.0 ≡ self) }
+        ensures refused { IfErr result (λ e. RefusesExtend self (map R.meaning added.items) e.1) }
+    {
+        if self.has_open() {
+            return Err((self, ExtendRefusal::StillOpen));
+        }
+        match self.extended(alloc, added) {
+            Ok(store) => {
+                let (history, _objects) = self.close();
+                Ok((store, history))
+            }
+            Err(refusal) => Err((self, refusal)),
+        }
+    }
+
+    /// A store of the same types at the states that this one keeps, in which no transaction is open, and of what is added.
+    ///
+    /// # Errors
+    ///
+    /// `TooManyObjects`, `NotFresh` or `NoMemory`.
+    fn extended(&self, alloc: Global, added: Vec<R>) -> Result<Store<R>, ExtendRefusal>
+        requires { (t : ℕ) → is_open (summary self.now.history) t ≡ false }
+        ensures extended { IfOk result (Extends self.now (types_of (map R.meaning added.items))) }
+        ensures refused { IfErr result (RefusesExtend self.now (map R.meaning added.items)) }
+    {
+        checked_headline();
+        runs_along();
+        closed_is_epoch();
+        states_are_inside();
+        if added.len() > self.limits.objects as usize - self.objects.len() {
+            return Err(ExtendRefusal::TooManyObjects);
+        }
+        if !are_fresh(&added) {
+            return Err(ExtendRefusal::NotFresh);
+        }
+        let Ok(mut all) = renewed_objects(alloc, &self.objects) else {
+            return Err(ExtendRefusal::NoMemory);
+        };
+        if add_all(&mut all, added).is_err() {
+            return Err(ExtendRefusal::NoMemory);
+        }
+        match Store::with_limits(alloc, all, self.limits) {
+            Ok(store) => Ok(store),
+            Err(_) => Err(ExtendRefusal::NoMemory),
+        }
+    }
+
     /// A store of the same types at the states that this one keeps, in which no transaction is open.
     ///
     /// # Errors
@@ -507,6 +569,13 @@ impl<R: Renew> Store<R> {
             Err(_) => Err(AllocError),
         }
     }
+}
+
+/// Puts objects after others.
+fn add_all<R: Recovery>(objects: &mut Vec<R>, mut added: Vec<R>) -> Result<(), AllocError>
+    ensures { OnOk result (objects.new.items ≡ objects.old.items ++ added.items) }
+{
+    objects.append(&mut added)
 }
 
 /// Takes out the first n events.

@@ -1,6 +1,7 @@
 pub mod Sizes
 pub mod Audits
 pub mod SeveralAudits
+pub mod Growing
 pub mod OrderedAudits
 pub mod Exits
 pub mod Files

@@ -1,12 +1,10 @@
 -- The answer to histories that were read.
-use Rattle.std.proofs.Common.{◌≡◌, ◌∙◌, ◌<◌, ℕ, List, [], ◌∷◌, length, Result, Ok, Vec, IfSome, subst, arith}
+use Rattle.std.proofs.Common.{◌≡◌, ◌∙◌, ◌<◌, ℕ, List, [], ◌∷◌, length, map, Result, Ok, Vec, IfSome, refl, subst, arith}
 use Rattle.std.specs.declared.alloc.Global.{Global}
 use Rattle.type_table.specs.Table.{Table}
 use Rattle.declared_types.specs.declared.declared_type.Declaration.{Declaration}
-use Rattle.object_trait.specs.declared.event.Event.{Event}
-use Rattle.store_text.specs.declared.line.ObjectLine.{ObjectLine}
 use Rattle.history_text.specs.declared.history_file.HistoryFile.{HistoryFile}
-use Rattle.history_audit.specs.Epochs.{AuditsEpochs}
+use Rattle.history_audit.specs.Epochs.{AuditsEpochs, Told}
 use Rattle.history_audit.specs.EpochText.{epochs_text}
 use Rattle.history_judge.specs.declared.outcome.Audit.{Audit}
 use Rattle.history_audit.specs.declared.epoch_fault.EpochFault.{EpochFault}
@@ -15,23 +13,23 @@ use Rattle.command_files.specs.declared.status.Verdict.{Verdict}
 use Rattle.command_files.specs.declared.status.Verdict.TheVariants.{Yes, No}
 use Rattle.store_files.specs.Histories.{AreHistoriesAt, DescribesHistory}
 use Rattle.store_files.specs.Types.{AreDeclaredAt, AreTablesOf, Held}
-use Rattle.store_commands.specs.Audited.{AreAuditFiles, AuditsAll, AuditsEach, AuditsRead, IsAuditOfAll, events_of}
+use Rattle.store_commands.specs.Audited.{AreAuditFiles, AuditsAll, AuditsEach, AuditsRead, IsAuditOfAll, all_objects, told_of}
 use Rattle.store_commands.proofs.Kept.{files_kept}
 
 -- a yes
-pub all_say_yes : (first : HistoryFile) (later : List HistoryFile) (declared : List Declaration) (tables given : List Table) (objects : List ObjectLine) (Hs : List (List Event))
-    (outcome : Result (Vec Audit Global) EpochFault) → objects ≡ first.objects.items → Hs ≡ events_of first later → given ≡ tables → AreTablesOf declared objects tables
-    → AuditsEpochs given Hs outcome → (lines : List ℕ) → lines ≡ epochs_text outcome → (audits : Vec Audit Global) → outcome ≡ Ok audits
+pub all_say_yes : (first : HistoryFile) (later : List HistoryFile) (declared : List Declaration) (tables given : List Table) (hs : List Told)
+    (outcome : Result (Vec Audit Global) EpochFault) → hs ≡ map told_of (first ∷ later) → given ≡ tables → AreTablesOf declared (all_objects first later) tables
+    → AuditsEpochs given hs outcome → (lines : List ℕ) → lines ≡ epochs_text outcome → (audits : Vec Audit Global) → outcome ≡ Ok audits
     → (v : Verdict) (text : List ℕ) → IsThis Yes lines v text → AuditsEach first later declared v text
-all_say_yes first later declared tables given objects Hs outcome objects_are histories_are given_are are audits lines text_is them is Yes text this =
+all_say_yes first later declared tables given hs outcome histories_are given_are are audits lines text_is them is Yes text this =
     let whole : IsAuditOfAll first later declared outcome text = record {
       tables = tables;
-      are = subst (λ (os : List ObjectLine). AreTablesOf declared os tables) objects_are are;
-      audits = subst (λ (hs : List (List Event)). AuditsEpochs tables hs outcome) histories_are (subst (λ (ts : List Table). AuditsEpochs ts Hs outcome) given_are audits);
+      are = are;
+      audits = subst (λ (told : List Told). AuditsEpochs tables told outcome) histories_are (subst (λ (ts : List Table). AuditsEpochs ts hs outcome) given_are audits);
       is = this.1 ∙ text_is;
     } in
     (them, subst (λ (r : Result (Vec Audit Global) EpochFault). IsAuditOfAll first later declared r text) is whole)
-all_say_yes first later declared tables given objects Hs outcome objects_are histories_are given_are are audits lines text_is them is No text this = absurd (let clash = this.0 in cc)
+all_say_yes first later declared tables given hs outcome histories_are given_are are audits lines text_is them is No text this = absurd (let clash = this.0 in cc)
 
 -- ---- what was read
 
@@ -51,6 +49,11 @@ all_read holds behind_first behind_later kept_first kept_later path others words
 pub one_alone : (first : HistoryFile) (later : List HistoryFile) (declared : List Declaration) (v : Verdict) (text : List ℕ) → length later ≡ 0 → AuditsRead first declared v text → AuditsAll first later declared v text
 one_alone first [] declared v text none says = says
 one_alone first (next ∷ later) declared v text none says = absurd (omega (arith, none))
+
+-- then all objects are its own
+pub alone_objects : (first : HistoryFile) (later : List HistoryFile) → length later ≡ 0 → all_objects first later ≡ first.objects.items
+alone_objects first [] none = refl
+alone_objects first (next ∷ later) none = absurd (omega (arith, none))
 
 -- some do
 pub some_follow : (first : HistoryFile) (later : List HistoryFile) (declared : List Declaration) (v : Verdict) (text : List ℕ) → 0 < length later → AuditsEach first later declared v text

@@ -19,12 +19,13 @@ use store_files::{HistoryFormat, declared_for, read_declared, read_histories};
 
 /// `audit HISTORY [--then HISTORY]... TYPE...`: the histories are read in the order of the words and then the
 /// types, each parsed before the next is opened; then the objects of each history that follows are compared
-/// with those of the first, and the place of each object is tested; no type is checked for a kind.
+/// with those of the one before it, with which they have to begin, and the place of each object is tested; no
+/// type is checked for a kind.
 ///
 /// # Errors
 ///
-/// A file can't be read or its text has a fault, a history that follows has other objects, no TYPE word is at
-/// an object's place, memory was refused, or the output failed.
+/// A file can't be read or its text has a fault, the objects of a history that follows don't begin with those of
+/// the one before it, no TYPE word is at an object's place, memory was refused, or the output failed.
 pub fn audit_histories<'a, S: Source, W: Out>(
     alloc: Global,
     history: &'a str,
@@ -44,7 +45,7 @@ pub fn audit_histories<'a, S: Source, W: Out>(
     if later.is_empty() {
         audit_one(alloc, history, &first, &declared, out)
     } else {
-        audit_each(alloc, history, &first, &later, &declared, out)
+        audit_each(alloc, history, &first, others, &later, &declared, out)
     }
 }
 

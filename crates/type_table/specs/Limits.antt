@@ -9,10 +9,6 @@ most_states = 1024
 abbrev pub most_ops : ℕ
 most_ops = 64
 
--- the most objects of a store
-abbrev pub most_objects : ℕ
-most_objects = 256
-
 -- the most events of a history's text, and commands of a script
 abbrev pub most_events : ℕ
 most_events = 1000000
@@ -20,10 +16,6 @@ most_events = 1000000
 -- the most events that a store makes
 abbrev pub longest_history : ℕ
 longest_history = 4294967295
-
--- the most open transactions of a store
-abbrev pub most_open : ℕ
-most_open = 1024
 
 -- the most workers at a store
 abbrev pub most_workers : ℕ

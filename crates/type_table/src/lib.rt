@@ -22,8 +22,8 @@ pub use laws::{
     steps_within,
 };
 pub use limits::{
-    LONGEST_HISTORY, LONGEST_LINE, LONGEST_NAME, MOST_EVENTS, MOST_OBJECTS, MOST_OPEN, MOST_OPS,
-    MOST_STATES, MOST_TRIES, MOST_WORKERS, limits_agree,
+    LONGEST_HISTORY, LONGEST_LINE, LONGEST_NAME, MOST_EVENTS, MOST_OPS, MOST_STATES, MOST_TRIES,
+    MOST_WORKERS, limits_agree,
 };
 pub use name::Name;
 pub use op::Op;

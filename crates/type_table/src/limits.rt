@@ -1,8 +1,8 @@
 //! The limits of the program; `tools/limits` lists where else a number of them is written.
 
 ghost use Rattle.std.specs.Prelude.{◌≡◌};
-ghost use Rattle.type_table.specs.Limits.{most_states, most_ops, most_objects, most_events, longest_history, most_open, most_workers, most_tries, longest_line, longest_name};
-ghost use Rattle.type_table.specs.declared.limits.TheConstants.{MOST_STATES, MOST_OPS, MOST_OBJECTS, MOST_EVENTS, LONGEST_HISTORY, MOST_OPEN, MOST_WORKERS, MOST_TRIES, LONGEST_LINE, LONGEST_NAME};
+ghost use Rattle.type_table.specs.Limits.{most_states, most_ops, most_events, longest_history, most_workers, most_tries, longest_line, longest_name};
+ghost use Rattle.type_table.specs.declared.limits.TheConstants.{MOST_STATES, MOST_OPS, MOST_EVENTS, LONGEST_HISTORY, MOST_WORKERS, MOST_TRIES, LONGEST_LINE, LONGEST_NAME};
 
 /// The most states of a type.
 pub const MOST_STATES: u16 = 1024;
@@ -10,17 +10,11 @@ pub const MOST_STATES: u16 = 1024;
 /// The most operations of a type.
 pub const MOST_OPS: usize = 64;
 
-/// The most objects of a store.
-pub const MOST_OBJECTS: usize = 256;
-
 /// The most events of a history's text, and commands of a script.
 pub const MOST_EVENTS: u32 = 1_000_000;
 
 /// The most events that a store makes.
 pub const LONGEST_HISTORY: u32 = u32::MAX;
-
-/// The most open transactions of a store.
-pub const MOST_OPEN: u32 = 1024;
 
 /// The most workers at a store.
 pub const MOST_WORKERS: usize = 16;
@@ -38,10 +32,8 @@ pub const LONGEST_NAME: usize = 32;
 pub fn limits_agree()
     ensures states { MOST_STATES ≡ most_states }
     ensures ops { MOST_OPS ≡ most_ops }
-    ensures objects { MOST_OBJECTS ≡ most_objects }
     ensures events { MOST_EVENTS ≡ most_events }
     ensures history { LONGEST_HISTORY ≡ longest_history }
-    ensures open { MOST_OPEN ≡ most_open }
     ensures workers { MOST_WORKERS ≡ most_workers }
     ensures tries { MOST_TRIES ≡ most_tries }
     ensures line { LONGEST_LINE ≡ longest_line }

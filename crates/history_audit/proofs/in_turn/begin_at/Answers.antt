@@ -9,6 +9,7 @@ use Rattle.declared_types.specs.declared.declared_type.Declaration.{Declaration}
 use Rattle.declared_types.specs.declared.declared_type.Declaration.TheVariants.{Table, Number as Numbers}
 use Rattle.history_audit.specs.Epochs.{tables_at}
 use Rattle.history_audit.proofs.EpochTables.{none-begun, begun-as_many, not_yet-begun, one-begun}
+use Rattle.history_audit.proofs.FirstTables.{first-there, first-within}
 use Rattle.history_audit.proofs.in_turn.begin_at.Goals as goal
 
 pub loop-x-init : goal.loop-x-init
@@ -21,11 +22,11 @@ there types now states x one kept at =
     sym (not_yet-begun (map table_of types) states x) ∙ ap (λ them. slice_get them x) (sym kept) ∙ slice_get-map table_of now x ∙ ap (option_map table_of) at
 
 -- each state has a type
-below : (types now : List Declaration) (states : List ℕ) (x : ℕ) → map table_of now ≡ tables_at (map table_of types) (take x states) → length states ≡ length (map table_of types) → x < length states
+below : (types now : List Declaration) (states : List ℕ) (x : ℕ) → map table_of now ≡ tables_at (map table_of types) (take x states) → length states ≡ length (take (length states) (map table_of types)) → x < length states
     → x < length now
 below types now states x kept many low =
     let as_many = ap length kept ∙ begun-as_many (map table_of types) (take x states) in
-    omega (arith, as_many, length-map now table_of, many, low)
+    omega (arith, as_many, length-map now table_of, many, first-within (length states) (map table_of types), low)
 
 pub index_mut-requires : goal.index_mut-requires
 index_mut-requires c =
@@ -45,7 +46,8 @@ begin_at-requires c =
     let states = c.args.states.now in
     let one = c.index_mut.result.now in
     let low = below types now states x c.loop-x.invariant c.requires.as_many c.loop-x-test.true in
-    c.requires.inside x (table_of one) (get_or states x 0) (there types now states x one c.loop-x.invariant (slice_get-get_or now x one low ∙ ap Some (sym c.index_mut.ensures.value)))
+    c.requires.inside x (table_of one) (get_or states x 0)
+    (first-there (length states) (map table_of types) x c.loop-x-test.true ∙ there types now states x one c.loop-x.invariant (slice_get-get_or now x one low ∙ ap Some (sym c.index_mut.ensures.value)))
     (slice_get-get_or states x 0 c.loop-x-test.true)
 
 pub loop-x-preserved : goal.loop-x-preserved

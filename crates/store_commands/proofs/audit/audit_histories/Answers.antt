@@ -4,10 +4,10 @@ use Rattle.declared_types.specs.declared.declared_type.Declaration.{Declaration}
 use Rattle.history_text.specs.declared.history_file.HistoryFile.{HistoryFile}
 use Rattle.command_files.proofs.Comes.{comes}
 use Rattle.object_types.specs.Types.{IsUnplaced}
-use Rattle.store_commands.specs.Audited.{AuditsEach, AuditsRead, HaveObjects}
+use Rattle.store_commands.specs.Audited.{AuditsEach, AuditsRead, HaveObjects, all_objects}
 use Rattle.store_commands.proofs.Exits.{exits_early}
 use Rattle.store_commands.proofs.Kept.{faulty_kept}
-use Rattle.store_commands.proofs.SeveralAudits.{all_read, one_alone, some_follow}
+use Rattle.store_commands.proofs.SeveralAudits.{all_read, alone_objects, one_alone, some_follow}
 use Rattle.store_commands.proofs.audit.audit_histories.Goals as goal
 
 pub returns-in_err-later : goal.returns-in_err-later
@@ -42,7 +42,14 @@ returns-then-is_empty g c =
     let same = subst (HaveObjects first) c.deref.ensures.value c.in_ok-same_objects.ensures.same in
     comes _ _ _ _ c.audit_one.result _ _
     (λ v text says. (first, later, declared, read, same, one_alone first later declared v text (omega (arith, eqb-true _ _ (sym c.if-is_empty.ensures), c.deref.ensures.len, ap length c.deref.ensures.value)) (subst (λ (ds : List Declaration). AuditsRead first ds v text) c.deref-then-is_empty.ensures.value says)))
-    (λ unplaced. inr (inr (inr (first, later, declared, read, inr (subst (λ (ds : List Declaration). IsUnplaced ds first.objects.items) c.deref-then-is_empty.ensures.value unplaced))))) c.audit_one.ensures
+    (λ unplaced. inr (inr (inr (
+      first,
+      later,
+      declared,
+      read,
+      inr (subst (IsUnplaced declared) (sym (alone_objects first later (omega (arith, eqb-true _ _ (sym c.if-is_empty.ensures), c.deref.ensures.len, ap length c.deref.ensures.value))))
+          (subst (λ (ds : List Declaration). IsUnplaced ds first.objects.items) c.deref-then-is_empty.ensures.value unplaced)),
+    )))) c.audit_one.ensures
 
 pub returns : goal.returns
 returns g c =
@@ -62,4 +69,11 @@ returns g c =
       some_follow first later declared v text (omega (arith, eqb-false _ _ (sym c.if-is_empty.ensures), c.deref.ensures.len, ap length c.deref.ensures.value))
           (subst (λ (ds : List Declaration). AuditsEach first later ds v text) c.deref-else-is_empty-2.ensures.value (subst (λ (hs : List HistoryFile). AuditsEach first hs c.deref-else-is_empty-2.result.now v text) c.deref-else-is_empty.ensures.value says)),
     ))
-    (λ unplaced. inr (inr (inr (first, later, declared, read, inr (subst (λ (ds : List Declaration). IsUnplaced ds first.objects.items) c.deref-else-is_empty-2.ensures.value unplaced))))) c.audit_each.ensures
+    (λ unplaced. inr (inr (inr (
+      first,
+      later,
+      declared,
+      read,
+      inr (subst (λ (ds : List Declaration). IsUnplaced ds (all_objects first later)) c.deref-else-is_empty-2.ensures.value
+          (subst (λ (hs : List HistoryFile). IsUnplaced c.deref-else-is_empty-2.result.now (all_objects first hs)) c.deref-else-is_empty.ensures.value unplaced)),
+    )))) c.audit_each.ensures
