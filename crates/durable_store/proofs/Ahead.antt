@@ -57,7 +57,7 @@ first-of (d ∷ types) zero c first there state =
 first-of (d ∷ types) (suc x) c first there state = first-of types x c first there state
 
 -- the types of a file at states at which they may begin
-has-renewed : (f : Contents) (types : List Checked) (kept : List ℕ) → HasTypes f types → length kept ≡ length types
+pub has-renewed : (f : Contents) (types : List Checked) (kept : List ℕ) → HasTypes f types → length kept ≡ length types
     → ((x : ℕ) (c : Checked) (s : ℕ) → slice_get types x ≡ Some c → slice_get kept x ≡ Some s → IsInside c s)
     → HasTypes (from_states f (firsts (types_at types kept))) (types_at types kept)
 has-renewed f types kept its long inside =

@@ -1,14 +1,13 @@
 -- A store follows the events of a file, and forgets some of them meanwhile.
 use Rattle.store_limits.specs.declared.limits.Limits.{Limits}
-use Rattle.std.proofs.Common.{◌≡◌, ◌∙◌, ℕ, zero, suc, ◌+◌, ◌<◌, List, [], ◌∷◌, ◌++◌, map, take, length, Some, refl, sym, ap, ap₂, subst, arith}
+use Rattle.std.proofs.Common.{◌≡◌, ℕ, zero, suc, List, [], ◌∷◌, take, Some, refl, sym, ap, subst}
 use Rattle.std.specs.Prelude.{slice_get}
 use Rattle.std.proofs.lemmas.Option.{same_Some}
 use Rattle.std.proofs.lemmas.List.{append_assoc, append-nil}
 use Rattle.object_trait.specs.declared.event.Event.{Event}
 use Rattle.object_trait.specs.declared.event.EventKind.{EventKind}
 use Rattle.table_checker.specs.Checked.{Checked}
-use Rattle.serial_order.specs.declared.command.Command.{Command}
-use Rattle.store_laws.specs.Stored.{Stored, objects}
+use Rattle.store_laws.specs.Stored.{Stored}
 use Rattle.store.specs.Follows.{IsMade, MakesEvent, with_event}
 use Rattle.store.specs.Replays.{AreMade, with_events}
 use Rattle.durable_store.specs.Durable.{event_of_kind, events_of_kinds}

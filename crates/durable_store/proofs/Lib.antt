@@ -4,6 +4,7 @@ pub mod Begun
 pub mod CatchUp
 pub mod Firsts
 pub mod Found
+pub mod Growths
 mod Followed
 mod Stepped
 pub mod New

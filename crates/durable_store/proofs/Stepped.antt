@@ -1,5 +1,5 @@
 -- A command of the store makes an event at most, which the journal hasn't yet.
-use Rattle.std.proofs.Common.{◌≡◌, ◌∙◌, ◌⊎◌, ℕ, ◌≤◌, List, [], ◌∷◌, ◌++◌, if◌then◌else◌, length, take, drop, Option, Some, None, Result, is_some, inl, inr, refl, sym, ap, ap₂, subst, append-nil, arith}
+use Rattle.std.proofs.Common.{◌≡◌, ◌∙◌, ℕ, ◌≤◌, List, [], ◌∷◌, ◌++◌, if◌then◌else◌, length, take, drop, Option, Some, None, Result, is_some, inl, inr, refl, sym, ap, ap₂, subst, append-nil, arith}
 use Rattle.std.proofs.lemmas.List.{length-append}
 use Rattle.std.proofs.Math.Seq.{drop-append_seam, take-append_seam}
 use Rattle.sqlite_trees.specs.declared.store.Store.{Ghosts}
@@ -9,7 +9,7 @@ use Rattle.serial_order.specs.History.{summary}
 use Rattle.serial_order.specs.Replay.{appended, event_of}
 use Rattle.serial_order.specs.declared.command.Command.{Command}
 use Rattle.serial_order.specs.declared.refusal.Refusal.{Refusal}
-use Rattle.store_laws.specs.Stored.{MayStep, Steps, Stored, objects, refusal_of, stored_after}
+use Rattle.store_laws.specs.Stored.{MayStep, Steps, Stored, objects, refusal_of}
 use Rattle.store.specs.OwnHistory.{IsOwnHistory, StepsAreOwn}
 use Rattle.journal.specs.Journal.{written}
 use Rattle.durable_store.specs.declared.durable.Durable.{Durable}

@@ -5,3 +5,5 @@ pub mod Begun
 pub mod Recovered
 pub mod Epochs
 pub mod Created
+pub mod Growth
+pub mod GrowthParts

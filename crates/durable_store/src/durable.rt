@@ -28,7 +28,7 @@ use store::{RenewRefusal, Store, steps_are_followed};
 use store_text::ObjectLine;
 
 // the most objects whose states a journal writes anew
-const MOST_STATES: usize = 65_536;
+pub(crate) const MOST_STATES: usize = 65_536;
 
 /// A store whose events are written into a file: what was settled survives a crash.
 ///
@@ -472,7 +472,10 @@ fn append_all<S: Alter>(journal: &mut Journal<S>, events: &[Event]) -> Result<()
 }
 
 /// The states at which the types of a store begin.
-fn first_states(alloc: Global, store: &Store<Object>) -> Result<Vec<FirstState>, AllocError>
+pub(crate) fn first_states(
+    alloc: Global,
+    store: &Store<Object>,
+) -> Result<Vec<FirstState>, AllocError>
     ensures { IfOk result (λ states. states.items ≡ firsts store.now.types) }
 {
     let mut states = Vec::new(alloc);

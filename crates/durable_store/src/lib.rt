@@ -3,7 +3,9 @@
 
 mod begun_types;
 mod durable;
+mod extension;
 mod format;
+mod growth;
 mod limits;
 mod new_file;
 mod open_error;
@@ -16,4 +18,4 @@ pub use limits::file_limits;
 pub use new_file::create;
 pub use open_error::OpenError;
 pub use outage::{restart, settle_and_restart};
-pub use recovered_store::{open, open_counted};
+pub use recovered_store::{open, open_counted, resume};

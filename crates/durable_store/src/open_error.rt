@@ -4,7 +4,7 @@ use journal::JournalError;
 use line_text::{FaultKind, TextFault};
 use object_types::ObjectFault;
 use std::alloc::{AllocError, AllocFailed};
-use store::NewRefusal;
+use store::{ExtendRefusal, NewRefusal};
 use thiserror::Error;
 
 /// Why a file isn't opened as that of a store.
@@ -23,6 +23,9 @@ pub enum OpenError {
     /// No store is made of the objects.
     #[error("{0}")]
     NoStore(NewRefusal),
+    /// The store doesn't begin anew with more objects.
+    #[error("{0}")]
+    NotExtended(ExtendRefusal),
     /// No command makes an event of the file after those before it.
     #[error("no command makes event {0}")]
     NotMade(usize),

@@ -93,7 +93,7 @@ pub fn open_counted<S: Alter>(
 /// # Errors
 ///
 /// As `open`.
-pub(crate) fn resume<S: Alter>(
+pub fn resume<S: Alter>(
     alloc: Global,
     journal: Journal<S>,
     said: &FileContents,

@@ -7,5 +7,7 @@ pub mod Opens
 pub mod Emptied
 pub mod NewHeaders
 pub mod Rewritten
+pub mod MoreRows
+pub mod Extended
 pub mod Outages
 pub mod Same

@@ -51,3 +51,7 @@ in_life c life = record c { headers = map (λ (h : Header). let raised : Header 
 -- where a history begins at these states
 abbrev pub from_states : Contents → List FirstState → Contents
 from_states c states = record c { events = []; states = states }
+
+-- with these types and objects behind those that there are, where a history of all of them begins at these states
+abbrev pub extended : Contents → List (List ℕ) → List ObjectLine → List FirstState → Contents
+extended c types objects states = record c { events = []; types = c.types ++ types; objects = c.objects ++ objects; states = states }

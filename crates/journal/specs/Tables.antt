@@ -1,7 +1,8 @@
 -- What reading and writing a table does to what a store shows.
-use Rattle.std.specs.Prelude.{◌≢◌, ℕ, List, ◌≡◌, false, IsTrue}
+use Rattle.std.specs.Prelude.{◌≢◌, ℕ, List, ◌++◌, length, ◌≡◌, false, IsTrue}
 use Rattle.sqlite_value.specs.Order.{Row}
 use Rattle.sqlite_trees.specs.View.{View}
+use Rattle.journal.specs.Rows.{value_rows}
 
 -- it shows the last commit
 pub record IsUnused (v : View) : Type 0 where
@@ -22,3 +23,8 @@ pub record Rewrites (old new : View) (table : ℕ) (all : List Row) : Type 0 whe
   pub is_open : new.is_open ≡ old.is_open
   pub is_broken : new.is_broken ≡ old.is_broken
   pub numbered : new.is_numbered ≡ old.is_numbered
+
+-- where a table had as many values as that, it has these more behind them, and nothing else changes that lasts
+abbrev pub AreBehind : {E : Type 0} → (ℕ → E → Row) → View → View → ℕ → ℕ → List E → Type 0
+AreBehind {E} row_at old new table many more =
+    (was : List E) → old.trees table ≡ value_rows row_at 0 was → length was ≡ many → Rewrites old new table (value_rows row_at 0 (was ++ more))

@@ -1,8 +1,8 @@
 //! A journal: what a store did, in the tables of a file.
 
-ghost use Rattle.std.specs.Prelude.{◌≡◌, ◌⊎◌, ◌∷◌, [], IsTrue, OnOk, ◌<◌, drop, map, take, IfOk, ◌+◌, ◌≤◌, ℕ, List, false, length};
+ghost use Rattle.std.specs.Prelude.{◌≡◌, ◌^◌, ◌⊎◌, ◌∷◌, [], IsTrue, OnOk, ◌<◌, drop, map, take, IfOk, ◌+◌, ◌≤◌, ℕ, List, false, length};
 ghost use Rattle.sqlite_trees.specs.Tree.{Trees};
-ghost use Rattle.journal.specs.Contents.{contents_with_event, from_states, in_life};
+ghost use Rattle.journal.specs.Contents.{contents_with_event, extended, from_states, in_life};
 ghost use Rattle.journal.specs.Journal.{Clean, IsAsWritten, IsJournal, IsNumbered, IsOpen, IsSettled, ShowsCommit, durable, may_leave, written};
 ghost use Rattle.sqlite_trees.specs.declared.store.Shape.TheVariants.{Table};
 ghost use Rattle.sqlite_trees.specs.View.{IsClean};
@@ -16,6 +16,7 @@ use crate::entry::Entry;
 use crate::event_table::empty_events;
 use crate::header::Header;
 use crate::journal_error::JournalError;
+use crate::more_rows::append_each;
 use crate::object_row::TypeText;
 use crate::state_row::FirstState;
 use crate::table::{MOST_ROWS, append, read_all, read_from};
@@ -273,6 +274,76 @@ impl<S: Alter> Journal<S> {
     {
         self.reset(states)?;
         self.begin_life()
+    }
+
+    /// Begins another epoch with more objects, and another life with it: no event is left, these texts of types and
+    /// objects are behind those that the file has, of which it has `known` texts, and these are the states of all
+    /// objects. A crash before the next commit takes all of it away.
+    ///
+    /// # Errors
+    ///
+    /// As `begin_life`.
+    pub fn extend_epoch(
+        &mut self,
+        known: u64,
+        types: &[TypeText],
+        objects: &[ObjectLine],
+        states: &[FirstState],
+    ) -> Result<u32, JournalError>
+        requires journal { IsJournal S.Store self.old }
+        requires known { Clean S.Store self.old → known ≡ length (written S.Store self.old).types }
+        requires as_many { Clean S.Store self.old → length states.now ≡ length (written S.Store self.old).states + length objects.now }
+        requires objects { Clean S.Store self.old → length (written S.Store self.old).objects ≡ length (written S.Store self.old).states }
+        requires some { length objects.now ≤ length states.now }
+        requires few { length states.now ≤ 65536 }
+        requires few_types { known + length types.now ≤ 2 ^ 62 }
+        ensures kept { OnOk result (IsJournal S.Store self.new) }
+        ensures raised { IfOk result (λ life. life ≡ self.old.header.life + 1) }
+        ensures last { OnOk result (Clean S.Store self.new → (written S.Store self.old).headers ≡ self.old.header ∷ []) }
+        ensures written { IfOk result (λ life. Clean S.Store self.new → written S.Store self.new ≡ in_life (extended (written S.Store self.old) types.now objects.now states.now) life) }
+        ensures durable { OnOk result (Clean S.Store self.new → durable S.Store self.new ≡ durable S.Store self.old) }
+        ensures clean { Clean S.Store self.new → Clean S.Store self.old }
+        ensures crash { (db : Trees) → may_leave S.Store self.new db → may_leave S.Store self.old db }
+    {
+        self.extend(known, types, objects, states)?;
+        self.begin_life()
+    }
+
+    /// Leaves no event, these types and objects behind the others, and these states.
+    ///
+    /// # Errors
+    ///
+    /// The file failed, or memory was refused.
+    fn extend(
+        &mut self,
+        known: u64,
+        types: &[TypeText],
+        objects: &[ObjectLine],
+        states: &[FirstState],
+    ) -> Result<(), JournalError>
+        requires journal { IsJournal S.Store self.old }
+        requires known { Clean S.Store self.old → known ≡ length (written S.Store self.old).types }
+        requires as_many { Clean S.Store self.old → length states.now ≡ length (written S.Store self.old).states + length objects.now }
+        requires objects { Clean S.Store self.old → length (written S.Store self.old).objects ≡ length (written S.Store self.old).states }
+        requires some { length objects.now ≤ length states.now }
+        requires few { length states.now ≤ 65536 }
+        requires few_types { known + length types.now ≤ 2 ^ 62 }
+        ensures kept { OnOk result (IsJournal S.Store self.new) }
+        ensures header { self.new.header ≡ self.old.header }
+        ensures written { OnOk result (Clean S.Store self.new → written S.Store self.new ≡ extended (written S.Store self.old) types.now objects.now states.now) }
+        ensures durable { OnOk result (Clean S.Store self.new → durable S.Store self.new ≡ durable S.Store self.old) }
+        ensures clean { Clean S.Store self.new → Clean S.Store self.old }
+        ensures crash { (db : Trees) → may_leave S.Store self.new db → may_leave S.Store self.old db }
+    {
+        let count = states.len() - objects.len();
+        let (store, row) = (&mut self.store, &mut self.row);
+        empty_events(store)?;
+        rewrite_states(store, &states[..count], row)?;
+        append_each(store, STATES, count as u64, &states[count..], row)?;
+        append_each(store, TYPES, known, types, row)?;
+        append_each(store, OBJECTS, count as u64, objects, row)?;
+        self.count = 0;
+        Ok(())
     }
 
     /// Leaves no event, and these states.

@@ -11,6 +11,7 @@ mod found_file;
 mod header;
 mod journal;
 mod journal_error;
+mod more_rows;
 mod new_file;
 mod object_row;
 mod outage;

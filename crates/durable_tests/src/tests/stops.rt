@@ -6,7 +6,7 @@ ghost use Rattle.sqlite_trees.specs.View.{IsClean};
 ghost use Rattle.sqlite_store.specs.FileStore.{view};
 ghost use Rattle.sqlite_store.specs.Unopened.{AreUsable};
 ghost use Rattle.durable_store.specs.Durable.{IsDurable};
-ghost use Rattle.journal.specs.Journal.{IsJournal};
+ghost use Rattle.journal.specs.Journal.{IsJournal, ShowsCommit};
 
 use super::counters::{commits, two_counters};
 use durable_store::{Durable, open};
@@ -187,9 +187,10 @@ fn without_root(rt: &(impl Abort + AllocGlobal), entry: &Row) -> Row {
 }
 
 /// The first transaction counts up at each object, and its commit is settled.
-fn counted_once<S: Alter>(store: &mut Durable<S>) -> Result<(), JournalError>
+pub fn counted_once<S: Alter>(store: &mut Durable<S>) -> Result<(), JournalError>
     requires { IsDurable S.Store store.old }
-    ensures { OnOk result (IsDurable S.Store store.new) }
+    ensures sound { OnOk result (IsDurable S.Store store.new) }
+    ensures shows { OnOk result (ShowsCommit S.Store store.new.journal) }
 {
     let _ = commits(store, 0)?;
     store.settle()

@@ -1,0 +1,58 @@
+-- How what is added to a store in a file is put together.
+use Rattle.std.specs.Prelude.{◌≡◌, ◌⊎◌, ⊤, ℕ, ◌+◌, ◌≤◌, List, [], ◌∷◌, ◌++◌, length, map, slice_get, Some}
+use Rattle.sqlite_trees.specs.declared.store.Store.{Ghosts}
+use Rattle.sqlite_trees.specs.Tree.{Trees}
+use Rattle.object_trait.specs.Meaning.{Meaning}
+use Rattle.table_checker.specs.Checked.{Checked}
+use Rattle.store_laws.specs.Stored.{Stored, types_of}
+use Rattle.store.specs.Ends.{AreFresh}
+use Rattle.store.specs.Renews.{Extends, RefusesExtend}
+use Rattle.store.specs.OwnHistory.{IsOwnHistory}
+use Rattle.objects.specs.Object.{meaning_of}
+use Rattle.store_text.specs.declared.line.ObjectLine.{ObjectLine}
+use Rattle.journal.specs.Contents.{IsFile, contents_of, extended}
+use Rattle.journal.specs.Journal.{Clean, IsJournal, IsSettled, may_leave, written}
+use Rattle.durable_store.specs.declared.durable.Durable.{Durable}
+use Rattle.durable_store.specs.declared.growth.Growth.{Growth}
+use Rattle.durable_store.specs.declared.open_error.OpenError.{OpenError}
+use Rattle.durable_store.specs.declared.open_error.OpenError.TheVariants.{NotExtended}
+use Rattle.durable_store.specs.Epochs.{firsts}
+use Rattle.durable_store.specs.FileLimits.{file_limits}
+use Rattle.durable_store.specs.Growth.{AreAdded, ArePlaced, AreUnknown, grown}
+use Rattle.durable_store.specs.Types.{HasTypes}
+
+-- each line with the place that stands at its place
+pub record ArePlacesOf (places : List ℕ) (lines placed : List ObjectLine) : Type 0 where
+  pub as_many : length placed ≡ length lines
+  pub each : (x : ℕ) (line at : ObjectLine) → slice_get lines x ≡ Some line → slice_get placed x ≡ Some at → (at.kind ≡ line.kind) × (slice_get places line.file ≡ Some at.file)
+
+-- what is added where a file has these texts: objects of these lines, which mean types among the given texts
+pub record IsGrowth (known texts : List (List ℕ)) (lines : List ObjectLine) (g : Growth) : Type 0 where
+  pub few : length known + length g.texts.items ≤ 65536
+  pub unknown : AreUnknown known g.texts.items
+  pub placed : ArePlaced texts (known ++ g.texts.items) lines g.lines.items
+  pub fresh : AreFresh (map meaning_of g.objects.items)
+  pub are : AreAdded texts lines (types_of (map meaning_of g.objects.items))
+
+-- where the store refuses, it is for these objects
+abbrev pub RefusesObjects : List Meaning → Stored → OpenError → Type 0
+RefusesObjects ms old (NotExtended why) = RefusesExtend old ms why
+RefusesObjects ms old error = ⊤
+
+-- a crash leaves what it could have left before, or the store that has grown by these texts and objects
+abbrev pub LeavesGrown : {S : Type 0} (g : Ghosts S) → List (List ℕ) → List ObjectLine → List Checked → Durable S → Durable S → Type 0
+LeavesGrown g fresh placed added old new = (db : Trees) → may_leave g new.journal db
+    → (Clean g old.journal × IsFile db × ((s : Stored) × Extends old.store added s × (contents_of db ≡ grown (written g old.journal) fresh placed s.types))
+    × ((written g old.journal).headers ≡ old.journal.header ∷ [])) ⊎ may_leave g old.journal db
+
+-- the store has begun anew with more objects, and its journal hasn't yet
+pub record IsAheadBy {S : Type 0} (g : Ghosts S) (fresh : List (List ℕ)) (placed : List ObjectLine) (d : Durable S) : Type 0 where
+  pub journal : IsJournal g d.journal
+  pub settled : Clean g d.journal → IsSettled g d.journal
+  pub limit : d.store.limits ≡ file_limits
+  pub none : d.store.history ≡ []
+  pub own : IsOwnHistory d.store
+  pub some : length placed ≤ length d.store.types
+  pub as_many : Clean g d.journal → length d.store.types ≡ length (written g d.journal).states + length placed
+  pub objects : Clean g d.journal → length (written g d.journal).objects ≡ length (written g d.journal).states
+  pub types : Clean g d.journal → HasTypes (extended (written g d.journal) fresh placed (firsts d.store.types)) d.store.types

@@ -1,0 +1,141 @@
+//! A store in a file gets more objects.
+
+ghost use Rattle.std.specs.Prelude.{◌≡◌, ◌⊎◌, ◌+◌, ◌≤◌, ◌∷◌, ◌++◌, [], List, length, map, IfErr, IfOk, OnOk};
+ghost use Rattle.sqlite_trees.specs.Tree.{Trees};
+ghost use Rattle.table_checker.specs.Checked.{Checked};
+ghost use Rattle.objects.specs.Object.{meaning_of};
+ghost use Rattle.journal.specs.Contents.{IsFile, contents_of};
+ghost use Rattle.journal.specs.Journal.{Clean, ShowsCommit, durable, may_leave, written};
+ghost use Rattle.store.specs.Renews.{Extends};
+ghost use Rattle.store_laws.specs.Stored.{types_of};
+ghost use Rattle.durable_store.specs.Durable.{IsDurable};
+ghost use Rattle.durable_store.specs.Growth.{AreAdded, Grows, IsAsBefore, IsRefusal, LeavesGrowth, RefusesGrowth, grown};
+ghost use Rattle.durable_store.specs.GrowthParts.{IsAheadBy, LeavesGrown, RefusesObjects};
+
+use crate::durable::{Durable, MOST_STATES, first_states};
+use crate::growth::{Growth, growth_of};
+use crate::open_error::OpenError;
+use journal::{JournalError, TypeText};
+use sqlite_trees::store::Alter;
+use std::alloc::Global;
+use store_text::ObjectLine;
+
+impl<S: Alter> Durable<S> {
+    /// Begins another epoch with more objects, in another life: objects of these lines, whose places are those of
+    /// these texts, come after those that there are, at the initial states of their types. All of it is in one commit,
+    /// as `renew` makes it, and no text that the file has is written again. The answer is the number of the first
+    /// new object.
+    ///
+    /// # Errors
+    ///
+    /// `Text` or `Untyped`, by the place among what is added; `NotExtended` by the store's own refusal; `NoMemory`: and
+    /// nothing has changed. `Journal` where the file failed, or would have more than 65,536 texts of types: the store
+    /// isn't to be used any more, and an open says what of it is there.
+    pub fn extend(
+        self,
+        alloc: Global,
+        texts: &[TypeText],
+        lines: &[ObjectLine],
+    ) -> (Durable<S>, Result<u32, OpenError>)
+        requires sound { IsDurable S.Store self }
+        requires shows { ShowsCommit S.Store self.journal }
+        ensures sound { OnOk result.1 (IsDurable S.Store result.0) }
+        ensures first { IfOk result.1 (λ first. first ≡ length self.store.types) }
+        ensures store { OnOk result.1 ((added : List Checked) × AreAdded texts.now lines.now added × Extends self.store added result.0.store) }
+        ensures durable { OnOk result.1 (Clean S.Store result.0.journal → Grows texts.now lines.now self.store result.0.store (written S.Store self.journal) (durable S.Store result.0.journal)) }
+        ensures shows { OnOk result.1 (ShowsCommit S.Store result.0.journal) }
+        ensures last { OnOk result.1 (Clean S.Store result.0.journal → (written S.Store self.journal).headers ≡ self.journal.header ∷ []) }
+        ensures refused { IfErr result.1 (λ error. IsRefusal error → IsAsBefore S.Store self result.0) }
+        ensures why { IfErr result.1 (RefusesGrowth texts.now lines.now self.store) }
+        ensures clean { Clean S.Store result.0.journal → Clean S.Store self.journal }
+        ensures crash { LeavesGrowth S.Store texts.now lines.now self result.0 }
+    {
+        let mut durable = self;
+        let known = match durable.types(alloc) {
+            Ok(known) => known,
+            Err(error) => return (durable, Err(OpenError::Journal(error))),
+        };
+        match growth_of(alloc, &known, texts, lines) {
+            Ok(growth) => durable.grow(alloc, known.len() as u64, growth),
+            Err(error) => (durable, Err(error)),
+        }
+    }
+
+    /// The same of what was made for it, where the file has as many texts of types as that.
+    ///
+    /// # Errors
+    ///
+    /// `NotExtended`, and nothing has changed; or `Journal`.
+    fn grow(self, alloc: Global, known: u64, growth: Growth) -> (Durable<S>, Result<u32, OpenError>)
+        requires sound { IsDurable S.Store self }
+        requires few { known + length growth.texts.items ≤ 65536 }
+        requires known { Clean S.Store self.journal → known ≡ length (written S.Store self.journal).types }
+        requires as_many { length growth.lines.items ≡ length growth.objects.items }
+        requires types { Clean S.Store self.journal → AreAdded ((written S.Store self.journal).types ++ growth.texts.items) growth.lines.items (types_of (map meaning_of growth.objects.items)) }
+        ensures sound { OnOk result.1 (IsDurable S.Store result.0) }
+        ensures first { IfOk result.1 (λ first. first ≡ length self.store.types) }
+        ensures store { OnOk result.1 (Extends self.store (types_of (map meaning_of growth.objects.items)) result.0.store) }
+        ensures durable { OnOk result.1 (Clean S.Store result.0.journal → durable S.Store result.0.journal ≡ grown (written S.Store self.journal) growth.texts.items growth.lines.items result.0.store.types) }
+        ensures shows { OnOk result.1 (ShowsCommit S.Store result.0.journal) }
+        ensures last { OnOk result.1 (Clean S.Store result.0.journal → (written S.Store self.journal).headers ≡ self.journal.header ∷ []) }
+        ensures refused { IfErr result.1 (λ error. IsRefusal error → result.0 ≡ self) }
+        ensures why { IfErr result.1 (RefusesObjects (map meaning_of growth.objects.items) self.store) }
+        ensures clean { Clean S.Store result.0.journal → Clean S.Store self.journal }
+        ensures crash { LeavesGrown S.Store growth.texts.items growth.lines.items (types_of (map meaning_of growth.objects.items)) self result.0 }
+    {
+        let Durable { store, journal } = self;
+        let Growth {
+            texts,
+            lines,
+            objects,
+        } = growth;
+        let first = store.object_count();
+        match store.renew_with(alloc, objects) {
+            Ok((store, _)) => {
+                let mut ahead = Durable { store, journal };
+                match ahead.write_growth(alloc, known, &texts, &lines) {
+                    Ok(()) => (ahead, Ok(first)),
+                    Err(error) => (ahead, Err(OpenError::Journal(error))),
+                }
+            }
+            Err((store, refusal)) => (
+                Durable { store, journal },
+                Err(OpenError::NotExtended(refusal)),
+            ),
+        }
+    }
+
+    /// Writes the epoch that the store has begun with more objects, and commits it.
+    ///
+    /// # Errors
+    ///
+    /// The file failed, or memory was refused for it.
+    fn write_growth(
+        &mut self,
+        alloc: Global,
+        known: u64,
+        texts: &[TypeText],
+        lines: &[ObjectLine],
+    ) -> Result<(), JournalError>
+        requires ahead { IsAheadBy S.Store texts.now lines.now self.old }
+        requires few { known + length texts.now ≤ 65536 }
+        requires known { Clean S.Store self.old.journal → known ≡ length (written S.Store self.old.journal).types }
+        ensures sound { OnOk result (IsDurable S.Store self.new) }
+        ensures store { OnOk result (self.new.store ≡ record self.old.store { forgotten = length self.old.store.history }) }
+        ensures types { self.new.store.types ≡ self.old.store.types }
+        ensures durable { OnOk result (Clean S.Store self.new.journal → durable S.Store self.new.journal ≡ grown (written S.Store self.old.journal) texts.now lines.now self.old.store.types) }
+        ensures shows { OnOk result (ShowsCommit S.Store self.new.journal) }
+        ensures last { OnOk result (Clean S.Store self.new.journal → (written S.Store self.old.journal).headers ≡ self.old.journal.header ∷ []) }
+        ensures clean { Clean S.Store self.new.journal → Clean S.Store self.old.journal }
+        ensures crash { (db : Trees) → may_leave S.Store self.new.journal db
+            → (Clean S.Store self.old.journal × IsFile db × (contents_of db ≡ grown (written S.Store self.old.journal) texts.now lines.now self.old.store.types)
+            × ((written S.Store self.old.journal).headers ≡ self.old.journal.header ∷ [])) ⊎ may_leave S.Store self.old.journal db }
+    {
+        let states = first_states(alloc, &self.store)?;
+        if states.len() > MOST_STATES {
+            return Err(JournalError::Full);
+        }
+        self.journal.extend_epoch(known, texts, lines, &states)?;
+        self.settle()
+    }
+}

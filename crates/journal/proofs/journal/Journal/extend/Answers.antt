@@ -1,0 +1,41 @@
+use Rattle.std.proofs.Common.{◌≡◌, ◌≤◌, ◌-◌, ◌++◌, ℕ, List, ap, drop, length, sym, take, ◌∙◌, arith}
+use Rattle.std.proofs.lemmas.List.{length-drop, length-take-le, take-append-drop, take_all}
+use Rattle.journal.specs.declared.state_row.FirstState.{FirstState}
+use Rattle.journal.specs.Contents.{extended}
+use Rattle.journal.specs.Journal.{written}
+use Rattle.journal.proofs.Extended.{begins-anew, extends}
+use Rattle.journal.proofs.journal.Journal.extend.Goals as goal
+
+-- the first states, and the rest, are all
+halves : (count : ℕ) (states : List FirstState) → take count states ++ take (length states - count) (drop count states) ≡ states
+halves count states =
+    ap (λ back. take count states ++ back) (take_all (length states - count) (drop count states) (omega (arith, length-drop count states))) ∙ take-append-drop count states
+
+pub returns-clause-kept : goal.returns-clause-kept
+returns-clause-kept g c = λ clean.
+    let states = c.args.states.now in
+    let count = length states - length c.args.objects.now in
+    let low : count ≤ length states = omega arith in
+    let typed = c.append_each-3.ensures.clean clean in
+    let all = c.append_each-2.ensures.clean typed in
+    let first = c.append_each.ensures.clean all in
+    let none = c.rewrite_states.ensures.clean first in
+    let before = c.empty_events.ensures.clean none in
+    begins-anew _ (g.S.Store.view c.empty_events.new.store) (g.S.Store.view c.rewrite_states.new.store) (g.S.Store.view c.append_each.new.store) (g.S.Store.view c.append_each-2.new.store) _ _ _ _ _ _ _ _ _
+    (c.requires.journal before) (c.in_ok-empty_events.ensures.ok none) (c.in_ok-rewrite_states.ensures.ok first) (c.in_ok-append_each.ensures.ok all) (c.in_ok-append_each-2.ensures.ok typed)
+    (c.in_ok-append_each-3.ensures.ok clean) (length-take-le count states low) (sym (c.requires.known before)) (c.requires.objects before ∙ omega (arith, c.requires.as_many before))
+
+pub returns-clause-written : goal.returns-clause-written
+returns-clause-written g c = λ clean.
+    let states = c.args.states.now in
+    let count = length states - length c.args.objects.now in
+    let low : count ≤ length states = omega arith in
+    let typed = c.append_each-3.ensures.clean clean in
+    let all = c.append_each-2.ensures.clean typed in
+    let first = c.append_each.ensures.clean all in
+    let none = c.rewrite_states.ensures.clean first in
+    let before = c.empty_events.ensures.clean none in
+    extends _ (g.S.Store.view c.empty_events.new.store) (g.S.Store.view c.rewrite_states.new.store) (g.S.Store.view c.append_each.new.store) (g.S.Store.view c.append_each-2.new.store) _ _ _ _ _ _ _ _ _
+    (c.requires.journal before) (c.in_ok-empty_events.ensures.ok none) (c.in_ok-rewrite_states.ensures.ok first) (c.in_ok-append_each.ensures.ok all) (c.in_ok-append_each-2.ensures.ok typed)
+    (c.in_ok-append_each-3.ensures.ok clean) (length-take-le count states low) (sym (c.requires.known before)) (c.requires.objects before ∙ omega (arith, c.requires.as_many before))
+    ∙ ap (extended (written g.S.Store c.args.self.now) c.args.types.now c.args.objects.now) (halves count states)
