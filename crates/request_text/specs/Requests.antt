@@ -108,4 +108,4 @@ tagged_of (tag ∷ words) = if is_name tag then record { tag = Some tag; request
 
 -- what a line without its LF asks
 abbrev pub asked_by : List ℕ → Asked
-asked_by line = if nat_le (length line) 255 then (if list_all is_ascii line then tagged_of (words_between line) else untagged NotAscii) else untagged TooLong
+asked_by line = if nat_le (length line) 4095 then (if list_all is_ascii line then tagged_of (words_between line) else untagged NotAscii) else untagged TooLong

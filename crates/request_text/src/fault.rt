@@ -4,7 +4,7 @@ use thiserror::Error;
 /// Why a line is no request, in the order of the tests.
 #[derive(Clone, Copy, Debug, PartialEq, Eq, Error)]
 pub enum RequestFault {
-    /// The line has more than 256 bytes with its LF.
+    /// The line has more than 4,096 bytes with its LF.
     TooLong,
     /// A byte outside 32 to 126.
     NotAscii,

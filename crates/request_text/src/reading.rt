@@ -11,7 +11,7 @@ use std::alloc::{AllocError, Global};
 use type_table::Name;
 
 /// The most bytes of a line, without its LF.
-pub const LONGEST_LINE: usize = 255;
+pub const LONGEST_LINE: usize = 4_095;
 
 /// What a line asks, without its LF.
 ///

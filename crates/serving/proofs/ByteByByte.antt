@@ -43,12 +43,12 @@ kept-more n half b = elim (shorter-or-not n (length half)) [
       rw test (sym (take-append-le n half (b ∷ []) long))
 ]
 
-too-long : (line : List ℕ) → 255 < length line → asked_by line ≡ untagged TooLong
-too-long line long = let test : nat_le (length line) 255 ≡ false = lt-leb _ _ long in rw test
+too-long : (line : List ℕ) → 4095 < length line → asked_by line ≡ untagged TooLong
+too-long line long = let test : nat_le (length line) 4095 ≡ false = lt-leb _ _ long in rw test
 
--- the first 256 bytes of a line say what it asks
-pub asked-kept : (half : List ℕ) → asked_by (take 256 half) ≡ asked_by half
-asked-kept half = elim (shorter-or-not 256 (length half)) [
-  | inl short ↦ ap asked_by (take_all 256 half (omega arith))
-  | inr long ↦ too-long (take 256 half) (omega (arith, length-take-le 256 half long)) ∙ sym (too-long half (omega arith))
+-- the first 4096 bytes of a line say what it asks
+pub asked-kept : (half : List ℕ) → asked_by (take 4096 half) ≡ asked_by half
+asked-kept half = elim (shorter-or-not 4096 (length half)) [
+  | inl short ↦ ap asked_by (take_all 4096 half (omega arith))
+  | inr long ↦ too-long (take 4096 half) (omega (arith, length-take-le 4096 half long)) ∙ sym (too-long half (omega arith))
 ]

@@ -15,7 +15,7 @@ use Rattle.serving.specs.Served.{IsAnswered, Serves}
 
 -- the most bytes that are kept of a line: with one more it is too long, whatever follows
 abbrev pub most_kept : ℕ
-most_kept = 256
+most_kept = 4096
 
 -- the number of a store's life
 abbrev pub life_of : {S : Type 0} → Durable S → ℕ

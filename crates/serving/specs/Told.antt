@@ -22,7 +22,7 @@ answers_text answers = flat_map (λ (a : Answered). answer_text a.tag a.answer) 
 
 -- the first line: the version of what is spoken, and the number of the store's life
 abbrev pub greeting : ℕ → List ℕ
-greeting life = pieces_text (codes "colock 3 " ∷ decimal life ∷ (10 ∷ []) ∷ [])
+greeting life = pieces_text (codes "colock 4 " ∷ decimal life ∷ (10 ∷ []) ∷ [])
 
 -- known bytes grow by a beginning of a text, which may be all of it
 abbrev pub AppendsPart : Option (List ℕ) → Option (List ℕ) → List ℕ → Type 0

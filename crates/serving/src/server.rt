@@ -37,12 +37,12 @@ use std::rt::Clock;
 use std::time::{Duration, Instant};
 
 /// The most bytes that are kept of a line.
-const MOST_KEPT: usize = 256;
+const MOST_KEPT: usize = 4_096;
 
 /// A session, and what its client has asked.
 pub struct Server<S: Alter> {
     pub(crate) session: Session<S>,
-    /// The first bytes, at most 256, of the line that isn't whole yet.
+    /// The first bytes, at most 4,096, of the line that isn't whole yet.
     pub(crate) line: Vec<u8>,
     /// The answers that the client didn't get yet.
     pub(crate) answers: Vec<Answered>,
