@@ -235,6 +235,7 @@ whole_lines topic.Audit = refl
 whole_lines topic.Work = refl
 whole_lines topic.Stress = refl
 whole_lines topic.Create = refl
+whole_lines topic.Extend = refl
 whole_lines topic.Serve = refl
 whole_lines topic.History = refl
 whole_lines topic.Help = refl

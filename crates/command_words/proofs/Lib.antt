@@ -13,7 +13,7 @@ pub mod LinePlain
 pub mod StoreLemmas
 pub mod FileLemmas
 mod FormLemmas
-pub mod CreateLemmas
+pub mod DatabaseLemmas
 pub mod ExplainLemmas
 pub mod SubcommandLemmas
 pub mod WorkLeaf

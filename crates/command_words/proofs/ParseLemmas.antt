@@ -143,21 +143,20 @@ store_read values path types are = subst (λ (rows : List Row). HasStoreRows row
     listed [] = record { path = refl; types = refl }
     listed (type ∷ types) = record { path = refl; types = refl }
 
--- and after the path of a file that is to be made
-pub create_read : (values : ArgMatches) (database objects : Text) (types : List Text) → HasRows values (asked.create database objects types)
+-- and after the path of a store's file
+pub database_read : (values : ArgMatches) (database objects : Text) (types : List Text) → HasRows values (asked.create database objects types)
     → HasStoreRows (rows_of (found_of values)) objects types
-create_read values database objects types are =
+database_read values database objects types are =
     subst (λ (rows : List Row). HasStoreRows rows objects types) (sym are) (listed types)
   where
     listed : (types : List Text) → HasStoreRows (argument_row (codes "database") database ∷ store_rows objects types) objects types
     listed [] = record { path = refl; types = refl }
     listed (type ∷ types) = record { path = refl; types = refl }
 
--- what is to be made, by its parts
-pub create_is : (database objects : Text) (types : List Text) (given_database given_objects : Text) (given_types : List Text)
-    → given_database ≡ database → given_objects ≡ objects → given_types ≡ types
-    → asked.order (asked.create given_database given_objects given_types) ≡ asked.order (asked.create database objects types)
-create_is database objects types given_database given_objects given_types database_is objects_are types_are =
+-- an order over a store's file, by its parts
+pub order_is : (order : Text → Text → List Text → Order) (database objects : Text) (types : List Text) (given_database given_objects : Text) (given_types : List Text)
+    → given_database ≡ database → given_objects ≡ objects → given_types ≡ types → asked.order (order given_database given_objects given_types) ≡ asked.order (order database objects types)
+order_is order database objects types given_database given_objects given_types database_is objects_are types_are =
     rw (database_is, objects_are, types_are) refl
 
 -- histories that are to be audited, by their parts
@@ -216,6 +215,7 @@ no_topic words alone named topic.Audit are = named _ are
 no_topic words alone named topic.Work are = named _ are
 no_topic words alone named topic.Stress are = named _ are
 no_topic words alone named topic.Create are = named _ are
+no_topic words alone named topic.Extend are = named _ are
 no_topic words alone named topic.Serve are = named _ are
 no_topic words alone named topic.History are = named _ are
 no_topic words alone named topic.Help are = named _ are
@@ -223,20 +223,21 @@ no_topic words alone named topic.Faults are = named _ are
 
 -- nor does `help` with a name of no topic
 pub no_name : (name : Text) → name ≢ codes "check" → name ≢ codes "explain" → name ≢ codes "make" → name ≢ codes "tables" → name ≢ codes "run"
-    → name ≢ codes "audit" → name ≢ codes "work" → name ≢ codes "stress" → name ≢ codes "create" → name ≢ codes "serve"
+    → name ≢ codes "audit" → name ≢ codes "work" → name ≢ codes "stress" → name ≢ codes "create" → name ≢ codes "extend" → name ≢ codes "serve"
     → name ≢ codes "history" → name ≢ codes "help" → name ≢ codes "faults"
     → (topic : Topic) → codes "help" ∷ name ∷ [] ≢ help_words topic
-no_name name no_check no_explain no_make no_tables no_run no_audit no_work no_stress no_create no_serve no_history no_help no_faults topic.Program are = cc
-no_name name no_check no_explain no_make no_tables no_run no_audit no_work no_stress no_create no_serve no_history no_help no_faults topic.Check are = no_check (let same : name ≡ codes "check" = cc in same)
-no_name name no_check no_explain no_make no_tables no_run no_audit no_work no_stress no_create no_serve no_history no_help no_faults topic.Explain are = no_explain (let same : name ≡ codes "explain" = cc in same)
-no_name name no_check no_explain no_make no_tables no_run no_audit no_work no_stress no_create no_serve no_history no_help no_faults topic.Make are = no_make (let same : name ≡ codes "make" = cc in same)
-no_name name no_check no_explain no_make no_tables no_run no_audit no_work no_stress no_create no_serve no_history no_help no_faults topic.Tables are = no_tables (let same : name ≡ codes "tables" = cc in same)
-no_name name no_check no_explain no_make no_tables no_run no_audit no_work no_stress no_create no_serve no_history no_help no_faults topic.Run are = no_run (let same : name ≡ codes "run" = cc in same)
-no_name name no_check no_explain no_make no_tables no_run no_audit no_work no_stress no_create no_serve no_history no_help no_faults topic.Audit are = no_audit (let same : name ≡ codes "audit" = cc in same)
-no_name name no_check no_explain no_make no_tables no_run no_audit no_work no_stress no_create no_serve no_history no_help no_faults topic.Work are = no_work (let same : name ≡ codes "work" = cc in same)
-no_name name no_check no_explain no_make no_tables no_run no_audit no_work no_stress no_create no_serve no_history no_help no_faults topic.Stress are = no_stress (let same : name ≡ codes "stress" = cc in same)
-no_name name no_check no_explain no_make no_tables no_run no_audit no_work no_stress no_create no_serve no_history no_help no_faults topic.Create are = no_create (let same : name ≡ codes "create" = cc in same)
-no_name name no_check no_explain no_make no_tables no_run no_audit no_work no_stress no_create no_serve no_history no_help no_faults topic.Serve are = no_serve (let same : name ≡ codes "serve" = cc in same)
-no_name name no_check no_explain no_make no_tables no_run no_audit no_work no_stress no_create no_serve no_history no_help no_faults topic.History are = no_history (let same : name ≡ codes "history" = cc in same)
-no_name name no_check no_explain no_make no_tables no_run no_audit no_work no_stress no_create no_serve no_history no_help no_faults topic.Help are = no_help (let same : name ≡ codes "help" = cc in same)
-no_name name no_check no_explain no_make no_tables no_run no_audit no_work no_stress no_create no_serve no_history no_help no_faults topic.Faults are = no_faults (let same : name ≡ codes "faults" = cc in same)
+no_name name no_check no_explain no_make no_tables no_run no_audit no_work no_stress no_create no_extend no_serve no_history no_help no_faults topic.Program are = cc
+no_name name no_check no_explain no_make no_tables no_run no_audit no_work no_stress no_create no_extend no_serve no_history no_help no_faults topic.Check are = no_check (let same : name ≡ codes "check" = cc in same)
+no_name name no_check no_explain no_make no_tables no_run no_audit no_work no_stress no_create no_extend no_serve no_history no_help no_faults topic.Explain are = no_explain (let same : name ≡ codes "explain" = cc in same)
+no_name name no_check no_explain no_make no_tables no_run no_audit no_work no_stress no_create no_extend no_serve no_history no_help no_faults topic.Make are = no_make (let same : name ≡ codes "make" = cc in same)
+no_name name no_check no_explain no_make no_tables no_run no_audit no_work no_stress no_create no_extend no_serve no_history no_help no_faults topic.Tables are = no_tables (let same : name ≡ codes "tables" = cc in same)
+no_name name no_check no_explain no_make no_tables no_run no_audit no_work no_stress no_create no_extend no_serve no_history no_help no_faults topic.Run are = no_run (let same : name ≡ codes "run" = cc in same)
+no_name name no_check no_explain no_make no_tables no_run no_audit no_work no_stress no_create no_extend no_serve no_history no_help no_faults topic.Audit are = no_audit (let same : name ≡ codes "audit" = cc in same)
+no_name name no_check no_explain no_make no_tables no_run no_audit no_work no_stress no_create no_extend no_serve no_history no_help no_faults topic.Work are = no_work (let same : name ≡ codes "work" = cc in same)
+no_name name no_check no_explain no_make no_tables no_run no_audit no_work no_stress no_create no_extend no_serve no_history no_help no_faults topic.Stress are = no_stress (let same : name ≡ codes "stress" = cc in same)
+no_name name no_check no_explain no_make no_tables no_run no_audit no_work no_stress no_create no_extend no_serve no_history no_help no_faults topic.Create are = no_create (let same : name ≡ codes "create" = cc in same)
+no_name name no_check no_explain no_make no_tables no_run no_audit no_work no_stress no_create no_extend no_serve no_history no_help no_faults topic.Extend are = no_extend (let same : name ≡ codes "extend" = cc in same)
+no_name name no_check no_explain no_make no_tables no_run no_audit no_work no_stress no_create no_extend no_serve no_history no_help no_faults topic.Serve are = no_serve (let same : name ≡ codes "serve" = cc in same)
+no_name name no_check no_explain no_make no_tables no_run no_audit no_work no_stress no_create no_extend no_serve no_history no_help no_faults topic.History are = no_history (let same : name ≡ codes "history" = cc in same)
+no_name name no_check no_explain no_make no_tables no_run no_audit no_work no_stress no_create no_extend no_serve no_history no_help no_faults topic.Help are = no_help (let same : name ≡ codes "help" = cc in same)
+no_name name no_check no_explain no_make no_tables no_run no_audit no_work no_stress no_create no_extend no_serve no_history no_help no_faults topic.Faults are = no_faults (let same : name ≡ codes "faults" = cc in same)

@@ -22,7 +22,7 @@ use Rattle.command_words.specs.Lines.{AreAuditWords, AreWorkWords, Audit, Work, 
 use Rattle.command_words.specs.Words as asked
 use Rattle.command_words.proofs.AuditLemmas.{audit_answered, audit_leaf, audit_passes}
 use Rattle.command_words.proofs.OptionLemmas.{RefusesOptions, by_test, never, no_option, or_else_none, refuses}
-use Rattle.command_words.proofs.SubcommandLemmas.{Command, check, command_of, create, explain, history, leaf, make, name_of, operands_of, plain_words, run, tables, words_answered}
+use Rattle.command_words.proofs.SubcommandLemmas.{Command, check, command_of, create, explain, extend, history, leaf, make, name_of, operands_of, plain_words, run, tables, words_answered}
 use Rattle.command_words.proofs.WorkAnswers.{work_answered}
 use Rattle.command_words.proofs.WorkLeaf.{work_leaf}
 use Rattle.command_words.proofs.WorkPlain.{work_passes}
@@ -90,15 +90,16 @@ record IsNoName (word : Text) : Type 0 where
   pub work : bytes_eq (codes "work") word ≡ false
   pub stress : bytes_eq (codes "stress") word ≡ false
   pub create : bytes_eq (codes "create") word ≡ false
+  pub extend : bytes_eq (codes "extend") word ≡ false
   pub history : bytes_eq (codes "history") word ≡ false
 
 -- a first word that names no subcommand is refused
 other_first : (listed : Bor (List (Bor Text))) (word : Text) → bytes_eq word (codes "--") ≡ false → IsNoName word
     → turn_fault (top_of listed) (names listed) (walk_from nothing_held) word ≡ [] → ⊥
 other_first listed word no_dashes other_names none = by_test (bytes_eq (codes "help") word)
-    (λ helps. never DisplayHelp (InvalidSubcommand ∷ []) (simp (other_names.check, other_names.explain, other_names.make, other_names.tables, other_names.run, other_names.audit, other_names.work, other_names.stress, other_names.create, other_names.history, helps) at none))
+    (λ helps. never DisplayHelp (InvalidSubcommand ∷ []) (simp (other_names.check, other_names.explain, other_names.make, other_names.tables, other_names.run, other_names.audit, other_names.work, other_names.stress, other_names.create, other_names.extend, other_names.history, helps) at none))
     (λ other.
-    let parts = or_else_none _ _ (simp (other_names.check, other_names.explain, other_names.make, other_names.tables, other_names.run, other_names.audit, other_names.work, other_names.stress, other_names.create, other_names.history, other, no_dashes) at none) in
+    let parts = or_else_none _ _ (simp (other_names.check, other_names.explain, other_names.make, other_names.tables, other_names.run, other_names.audit, other_names.work, other_names.stress, other_names.create, other_names.extend, other_names.history, other, no_dashes) at none) in
     let met = no_option (top_of listed).rules (top_of listed).args_override_self (top_refuses listed) idle (λ _ _. refl) [] None word parts.0 in
     never UnknownArgument (InvalidSubcommand ∷ []) (simp met at parts.1))
 
@@ -118,7 +119,8 @@ named_or_not word =
     (λ no_audit. by_test (bytes_eq (codes "work") word) (λ is. inl (working false, same_text (codes "work") word (sym is)))
     (λ no_work. by_test (bytes_eq (codes "stress") word) (λ is. inl (working true, same_text (codes "stress") word (sym is)))
     (λ no_stress. by_test (bytes_eq (codes "create") word) (λ is. inl (plain create, same_text (codes "create") word (sym is)))
-    (λ no_create. by_test (bytes_eq (codes "history") word) (λ is. inl (plain history, same_text (codes "history") word (sym is)))
+    (λ no_create. by_test (bytes_eq (codes "extend") word) (λ is. inl (plain extend, same_text (codes "extend") word (sym is)))
+    (λ no_extend. by_test (bytes_eq (codes "history") word) (λ is. inl (plain history, same_text (codes "history") word (sym is)))
     (λ no_history. inr (record {
       check = no_check;
       explain = no_explain;
@@ -129,8 +131,9 @@ named_or_not word =
       work = no_work;
       stress = no_stress;
       create = no_create;
+      extend = no_extend;
       history = no_history;
-    })))))))))))
+    }))))))))))))
 
 -- the first word is the name of a subcommand
 first_word : (listed : Bor (List (Bor Text))) (word : Text) (rest : List Text) → fault_of (app listed) (word ∷ rest) ≡ [] → (sub : Sub) × (sub_name sub ≡ word)
@@ -164,6 +167,7 @@ command_walk listed (plain make) rest = stopped_walk (top_of listed).rules (name
 command_walk listed (plain tables) rest = stopped_walk (top_of listed).rules (names listed) (walk_from nothing_held) (codes "tables") [] rest
 command_walk listed (plain run) rest = stopped_walk (top_of listed).rules (names listed) (walk_from nothing_held) (codes "run") [] rest
 command_walk listed (plain create) rest = stopped_walk (top_of listed).rules (names listed) (walk_from nothing_held) (codes "create") [] rest
+command_walk listed (plain extend) rest = stopped_walk (top_of listed).rules (names listed) (walk_from nothing_held) (codes "extend") [] rest
 command_walk listed (plain history) rest = stopped_walk (top_of listed).rules (names listed) (walk_from nothing_held) (codes "history") [] rest
 command_walk listed auditing rest = stopped_walk (top_of listed).rules (names listed) (walk_from nothing_held) (codes "audit") [] rest
 command_walk listed (working false) rest = stopped_walk (top_of listed).rules (names listed) (walk_from nothing_held) (codes "work") [] rest
@@ -178,6 +182,7 @@ command_entered listed (plain make) rest = refl
 command_entered listed (plain tables) rest = refl
 command_entered listed (plain run) rest = refl
 command_entered listed (plain create) rest = refl
+command_entered listed (plain extend) rest = refl
 command_entered listed (plain history) rest = refl
 command_entered listed auditing rest = refl
 command_entered listed (working false) rest = refl
@@ -228,6 +233,9 @@ only_below listed (plain run) rest =
 only_below listed (plain create) rest =
     ap (λ (k : Kinds). or_else k (or_else (below listed (plain create) rest) [])) (stopped_fault (top_of listed) (names listed) (walk_from nothing_held) (codes "create", []) rest)
     ∙ or_else-nil (below listed (plain create) rest)
+only_below listed (plain extend) rest =
+    ap (λ (k : Kinds). or_else k (or_else (below listed (plain extend) rest) [])) (stopped_fault (top_of listed) (names listed) (walk_from nothing_held) (codes "extend", []) rest)
+    ∙ or_else-nil (below listed (plain extend) rest)
 only_below listed (plain history) rest =
     ap (λ (k : Kinds). or_else k (or_else (below listed (plain history) rest) [])) (stopped_fault (top_of listed) (names listed) (walk_from nothing_held) (codes "history", []) rest)
     ∙ or_else-nil (below listed (plain history) rest)
@@ -262,6 +270,7 @@ no_dashes_first make rest = refl
 no_dashes_first tables rest = refl
 no_dashes_first run rest = refl
 no_dashes_first create rest = refl
+no_dashes_first extend rest = refl
 no_dashes_first history rest = refl
 
 -- the name of what workers are to do is that of its command
@@ -317,6 +326,7 @@ named_first (asked.make family size items) = refl
 named_first (asked.tables path) = refl
 named_first (asked.run script types) = refl
 named_first (asked.create database objects types) = refl
+named_first (asked.extend database objects types) = refl
 named_first (asked.history path) = refl
 
 -- plain words come to no fault

@@ -23,7 +23,7 @@ use Rattle.command_words.proofs.Leaves.{last_added, last_joined, last_of, leaf_o
 use Rattle.command_words.proofs.OptionLemmas.{by_test, holding, never, or_else_none, refuses}
 use Rattle.command_words.proofs.LeafLemmas.{IsBetween, Passes, Place, Takes, at, both_none, end_of, ends, faults, held_at, operand_fault, operands_taken, plain_taken, start}
 use Rattle.command_words.proofs.FileLemmas.{AreFileWords, FileTook, file_answers, file_leaf, file_passes, file_place, file_takes}
-use Rattle.command_words.proofs.CreateLemmas.{AreCreateWords, CreateTook, create_answers, create_leaf, create_passes, create_place, create_takes}
+use Rattle.command_words.proofs.DatabaseLemmas.{AreDatabaseWords, DatabaseTook, database_answers, database_leaf, database_passes, database_place, database_rows, database_takes}
 use Rattle.command_words.proofs.ExplainLemmas.{AreExplainWords, ExplainTook, all, explain_answers, explain_leaf, explain_passes, explain_place, explain_rows, explain_takes, pair, pair_passes}
 use Rattle.command_words.proofs.StoreLemmas.{AreStoreWords, StoreTook, store_answers, store_leaf, store_passes, store_place, store_takes}
 
@@ -193,6 +193,7 @@ pub data Command : Type 0 where
   tables : Command
   run : Command
   create : Command
+  extend : Command
   history : Command
 
 -- its name
@@ -203,6 +204,7 @@ name_of make = codes "make"
 name_of tables = codes "tables"
 name_of run = codes "run"
 name_of create = codes "create"
+name_of extend = codes "extend"
 name_of history = codes "history"
 
 -- the subcommand as it is built
@@ -212,7 +214,8 @@ leaf listed explain = explain_leaf listed
 leaf listed make = make_leaf listed
 leaf listed tables = file_leaf listed (codes "tables")
 leaf listed run = store_leaf listed (codes "run")
-leaf listed create = create_leaf listed
+leaf listed create = database_leaf listed (codes "create")
+leaf listed extend = database_leaf listed (codes "extend")
 leaf listed history = file_leaf listed (codes "history")
 
 -- where its walk is after these operands
@@ -222,7 +225,8 @@ place explain = explain_place
 place make = make_place
 place tables = file_place
 place run = store_place
-place create = create_place
+place create = database_place
+place extend = database_place
 place history = file_place
 
 -- what holds of operands that it took
@@ -232,7 +236,8 @@ Took listed explain = ExplainTook listed
 Took listed make = MakeTook
 Took listed tables = FileTook
 Took listed run = StoreTook
-Took listed create = CreateTook
+Took listed create = DatabaseTook
+Took listed extend = DatabaseTook
 Took listed history = FileTook
 
 -- the subcommand by its operands
@@ -242,7 +247,8 @@ takes listed explain = explain_takes listed
 takes listed make = make_takes listed
 takes listed tables = file_takes listed (codes "tables")
 takes listed run = store_takes listed (codes "run")
-takes listed create = create_takes listed
+takes listed create = database_takes listed (codes "create")
+takes listed extend = database_takes listed (codes "extend")
 takes listed history = file_takes listed (codes "history")
 
 -- its walk begins where each walk does
@@ -253,6 +259,7 @@ begins make = refl
 begins tables = refl
 begins run = refl
 begins create = refl
+begins extend = refl
 begins history = refl
 
 -- ---- what operands ask for
@@ -375,13 +382,17 @@ file_asked name s h operands order whole words entry are = record {
   entry = ap (λ (rows : List Row). (name, rows)) are.entry ∙ sym (entry are.path);
 }
 
--- what operands of `create` ask for
-create_asked : (s : Shape) (h : Held) (operands : List Text) → AreCreateWords (finished s.rules h) operands → Answers (codes "create") s h operands
-create_asked s h operands are = record {
-  asked = asked.create are.database are.objects (are.type ∷ are.types);
-  whole = some_types are.type are.types;
-  words = ap (λ (os : List Text). codes "create" ∷ os) are.words;
-  entry = ap (λ (rows : List Row). (codes "create", rows)) are.entry;
+-- what DATABASE, OBJECTS and types ask for of a command over a store's file
+database_asked : (name : Text) (s : Shape) (h : Held) (operands : List Text) (order : Text → Text → List Text → Order)
+    → ((database objects type : Text) (types : List Text) → HasOperands (order database objects (type ∷ types)))
+    → ((database objects : Text) (types : List Text) → order_words (order database objects types) ≡ name ∷ database ∷ objects ∷ types)
+    → ((database objects : Text) (types : List Text) → subcommand_of (order database objects types) ≡ (name, database_rows database objects types))
+    → AreDatabaseWords (finished s.rules h) operands → Answers name s h operands
+database_asked name s h operands order whole words entry are = record {
+  asked = order are.database are.objects (are.type ∷ are.types);
+  whole = whole are.database are.objects are.type are.types;
+  words = ap (λ (os : List Text). name ∷ os) are.words ∙ sym (words are.database are.objects (are.type ∷ are.types));
+  entry = ap (λ (rows : List Row). (name, rows)) are.entry ∙ sym (entry are.database are.objects (are.type ∷ are.types));
 }
 
 -- operands that come to no fault ask for something
@@ -394,7 +405,10 @@ answers listed are tables operands took none =
     file_asked (codes "tables") _ _ operands asked.tables (λ _. tt) (λ _. refl) (λ _. refl) (file_answers listed (codes "tables") operands took none)
 answers listed are run operands took none =
     store_asked (codes "run") _ _ operands asked.run (λ _. some_types) (λ _ _. refl) (λ _ _. refl) (store_answers listed (codes "run") operands none)
-answers listed are create operands took none = create_asked _ _ operands (create_answers listed operands none)
+answers listed are create operands took none =
+    database_asked (codes "create") _ _ operands asked.create (λ _ _. some_types) (λ _ _ _. refl) (λ _ _ _. refl) (database_answers listed (codes "create") operands none)
+answers listed are extend operands took none =
+    database_asked (codes "extend") _ _ operands asked.extend (λ _ _. some_types) (λ _ _ _. refl) (λ _ _ _. refl) (database_answers listed (codes "extend") operands none)
 answers listed are history operands took none =
     file_asked (codes "history") _ _ operands asked.history (λ _. tt) (λ _. refl) (λ _. refl) (file_answers listed (codes "history") operands took none)
 
@@ -417,6 +431,7 @@ command_of (asked.make family size items) = make
 command_of (asked.tables path) = tables
 command_of (asked.run script types) = run
 command_of (asked.create database objects types) = create
+command_of (asked.extend database objects types) = extend
 command_of (asked.history path) = history
 
 -- and its operands
@@ -427,6 +442,7 @@ operands_of (asked.make family size items) = family ∷ size ∷ items
 operands_of (asked.tables path) = path ∷ []
 operands_of (asked.run script types) = script ∷ types
 operands_of (asked.create database objects types) = database ∷ objects ∷ types
+operands_of (asked.extend database objects types) = database ∷ objects ∷ types
 operands_of (asked.history path) = path ∷ []
 
 -- the word of a kind begins with no hyphen
@@ -466,7 +482,9 @@ all_pass listed are (asked.tables path) whole = file_passes listed (codes "table
 all_pass listed are (asked.run script []) whole = absurd (omega (arith, whole))
 all_pass listed are (asked.run script (type ∷ types)) whole = store_passes listed (codes "run") script type types
 all_pass listed are (asked.create database objects []) whole = absurd (omega (arith, whole))
-all_pass listed are (asked.create database objects (type ∷ types)) whole = create_passes listed database objects type types
+all_pass listed are (asked.extend database objects []) whole = absurd (omega (arith, whole))
+all_pass listed are (asked.create database objects (type ∷ types)) whole = database_passes listed (codes "create") database objects type types
+all_pass listed are (asked.extend database objects (type ∷ types)) whole = database_passes listed (codes "extend") database objects type types
 all_pass listed are (asked.history path) whole = file_passes listed (codes "history") path
 
 -- where plain words are asked for, the operands are plain
@@ -478,6 +496,7 @@ all_plain (asked.make family size items) plain = all_with IsPlain family (size �
 all_plain (asked.tables path) plain = all_with IsPlain path [] plain (all_of_none IsPlain)
 all_plain (asked.run script types) plain = all_with IsPlain script types plain.0 plain.1
 all_plain (asked.create database objects types) plain = all_with IsPlain database (objects ∷ types) plain.0 (all_with IsPlain objects types plain.1 plain.2)
+all_plain (asked.extend database objects types) plain = all_with IsPlain database (objects ∷ types) plain.0 (all_with IsPlain objects types plain.1 plain.2)
 all_plain (asked.history path) plain = all_with IsPlain path [] plain (all_of_none IsPlain)
 
 -- plain words of a subcommand come to no fault

@@ -84,9 +84,9 @@ file_app name = with_rule (new_app name) (wanted_rule (codes "path"))
 abbrev pub store_app : Text → App
 store_app name = with_rule (with_rule (new_app name) (wanted_rule (codes "path"))) types_rule
 
--- `create DATABASE OBJECTS TYPE...`
-abbrev pub create_app : App
-create_app = with_rule (with_rule (with_rule (new_app (codes "create"))
+-- a command over a store's file, with objects and the files of their types, as `create DATABASE OBJECTS TYPE...`
+abbrev pub database_app : Text → App
+database_app name = with_rule (with_rule (with_rule (new_app name)
     (wanted_rule (codes "database"))) (wanted_rule (codes "path"))) types_rule
 
 -- an option, which has to be there once
@@ -143,7 +143,8 @@ command_apps kinds =
     ∷ audit_app
     ∷ work_app
     ∷ stress_app
-    ∷ create_app
+    ∷ database_app (codes "create")
+    ∷ database_app (codes "extend")
     ∷ file_app (codes "history")
     ∷ []
 
@@ -240,6 +241,7 @@ subcommand_of (asked.make family size items) =
 subcommand_of (asked.tables path) = (codes "tables", argument_row (codes "path") path ∷ [])
 subcommand_of (asked.run script types) = (codes "run", store_rows script types)
 subcommand_of (asked.create database objects types) = (codes "create", argument_row (codes "database") database ∷ store_rows objects types)
+subcommand_of (asked.extend database objects types) = (codes "extend", argument_row (codes "database") database ∷ store_rows objects types)
 subcommand_of (asked.history database) = (codes "history", argument_row (codes "path") database ∷ [])
 
 -- an argument was given this number, or has it by default

@@ -32,6 +32,8 @@ pub data Order : Type 0 where
   run : Text → List Text → Order
   -- `create DATABASE OBJECTS TYPE...`
   create : Text → Text → List Text → Order
+  -- `extend DATABASE OBJECTS TYPE...`
+  extend : Text → Text → List Text → Order
   -- `history DATABASE`
   history : Text → Order
 
@@ -67,12 +69,14 @@ order_words (make family size items) = codes "make" ∷ family ∷ size ∷ item
 order_words (tables path) = codes "tables" ∷ path ∷ []
 order_words (run script types) = codes "run" ∷ script ∷ types
 order_words (create database objects types) = codes "create" ∷ database ∷ objects ∷ types
+order_words (extend database objects types) = codes "extend" ∷ database ∷ objects ∷ types
 order_words (history database) = codes "history" ∷ database ∷ []
 
 -- it has the operands that it can't be without: at least one TYPE
 abbrev pub HasOperands : Order → Type 0
 HasOperands (run script types) = 0 < length types
 HasOperands (create database objects types) = 0 < length types
+HasOperands (extend database objects types) = 0 < length types
 HasOperands o = ⊤
 
 -- the words of a call for help
@@ -87,6 +91,7 @@ help_words topic.Audit = codes "help" ∷ codes "audit" ∷ []
 help_words topic.Work = codes "help" ∷ codes "work" ∷ []
 help_words topic.Stress = codes "help" ∷ codes "stress" ∷ []
 help_words topic.Create = codes "help" ∷ codes "create" ∷ []
+help_words topic.Extend = codes "help" ∷ codes "extend" ∷ []
 help_words topic.Serve = codes "help" ∷ codes "serve" ∷ []
 help_words topic.History = codes "help" ∷ codes "history" ∷ []
 help_words topic.Help = codes "help" ∷ codes "help" ∷ []
@@ -123,6 +128,7 @@ asked_of (task.Work jobs types workers tries) =
 asked_of (task.Stress jobs types workers tries seed) =
     work (record { jobs = jobs.now; types = texts types.items; workers = workers; tries = tries; seed = Some seed })
 asked_of (task.Create database objects types) = order (create database.now objects.now (texts types.items))
+asked_of (task.Extend database objects types) = order (extend database.now objects.now (texts types.items))
 asked_of (task.Serve database fast archive drain) = serve (record { database = database.now; fast = fast; archive = option_map (λ (folder : Bor Text). folder.now) archive; drain = drain })
 asked_of (task.History database) = order (history database.now)
 asked_of (task.AuditDatabase database) = audit_database database.now
@@ -154,6 +160,7 @@ HasPlainWords (make family size items) = IsPlain family × IsPlain size × All I
 HasPlainWords (tables path) = IsPlain path
 HasPlainWords (run script types) = IsPlain script × All IsPlain types
 HasPlainWords (create database objects types) = IsPlain database × IsPlain objects × All IsPlain types
+HasPlainWords (extend database objects types) = IsPlain database × IsPlain objects × All IsPlain types
 HasPlainWords (history database) = IsPlain database
 
 -- the same, and it is whole

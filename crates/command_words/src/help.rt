@@ -32,6 +32,8 @@ Commands:
                              history.
   create DATABASE OBJECTS TYPE...
                              Make the file of a new store.
+  extend DATABASE OBJECTS TYPE...
+                             Add objects to the store in a file.
   serve [--fast] [--archive FOLDER] [--drain S] DATABASE
                              Answer requests at the store in a file.
   history DATABASE           Write the history of the store in a file.
@@ -238,7 +240,8 @@ Usage: colock run SCRIPT TYPE...
 
 SCRIPT is the path of a script, and each TYPE that of a type file or a number
 file. The script names the type of an object by its place among the TYPEs, from
-0. The type of each object is checked for its kind, as colock check does.
+0. It may have 256 objects, or N where its first line is objects N, at most
+65,536. The type of each object is checked for its kind, as colock check does.
 
   # object X no ..
       The type of object X isn't accepted, with the reason as check writes it.
@@ -282,9 +285,10 @@ of a type file or a number file. The history names the type of an object by its
 place among the TYPEs, from 0. The types aren't checked for a kind.
 
 Options, anywhere after audit and before any --:
-  --then HISTORY   A history that follows, of the same objects, and begins at
-                   the states that the ones before it end in. It may come any
-                   number of times, and they follow in this order.
+  --then HISTORY   A history that follows, and begins at the states that the ones
+                   before it end in. Its objects begin with those of the one
+                   before it, and it may have more. It may come any number of
+                   times, and they follow in this order.
 
 After --order come all committed transactions, each once: they are run in this
 order in place of that of their commits. No T may come after a U that executed
@@ -392,15 +396,39 @@ Usage: colock create DATABASE OBJECTS TYPE...
 DATABASE is the path of the file, where nothing is yet. OBJECTS is the path of a
 text that names the objects: a line object KIND F for each, as a script's, and
 end. Each TYPE is the path of a type file or a number file, and F is the place
-of the object's type among the TYPEs, from 0. The type of each object is checked
-for its kind, as colock check does. Where the answer is no, the first line says
-why, and no file is made.
+of the object's type among the TYPEs, from 0. There may be 256 objects, or N
+where the first line is objects N, at most 65,536. The type of each object is
+checked for its kind, as colock check does. Where the answer is no, the first
+line says why, and no file is made.
 
 Example: colock create hall.db examples/seats.objects examples/seats.type
 
 Status: 0 made, 1 a type that isn't accepted, 2 a fault of the command line or
 of a text, or no TYPE at a place, 3 a file that can't be read or made, something
 that is at DATABASE already, refused memory, or an output that failed.
+";
+
+pub(crate) const EXTEND: &str = "\
+Add objects to the store in a file.
+
+Usage: colock extend DATABASE OBJECTS TYPE...
+
+DATABASE is the path of the file of a store, as colock create makes it. OBJECTS
+is the path of a text that names the objects, as for colock create, and F is the
+place of an object's type among the TYPEs given here. The new objects come after
+those that the store has, and begin at the initial states of their types. What
+is open in the store is aborted, and its present epoch ends: what history would
+write of it is let go. All of it is in one commit: where the machine stops, the
+store has the new objects or it hasn't. Where the type of an object isn't
+accepted the first line says why, with X counted in the whole store, and the
+file stays as it is.
+
+Example: colock extend hall.db examples/seats.objects examples/seats.type
+
+Status: 0 added, 1 a type that isn't accepted, 2 a fault of the command line or
+of a text, no TYPE at a place, more objects than a store may have, or a file
+that is no store's, 3 a file that can't be opened or that failed, refused
+memory, or an output that failed.
 ";
 
 pub(crate) const SERVE: &str = "\
@@ -484,9 +512,10 @@ What the faults on standard error mean.
       After T's commit U executed an operation that no rollback struck, so T
       comes before U.
   colock: BadParameter, colock: TooLarge
-      Of make: see colock help make. Of explain: P or Q is no operation.
+      Of make: see colock help make. Of explain: P or Q is no operation. Of
+      extend: the store would have more than 65,536 objects.
   colock: OBJECTS: has events
-      The text given to create has more than objects.
+      The text given to create or extend has more than objects.
   colock: DATABASE: not a store
       The file is no database, or one of something else.
   colock: FILE: cannot read
@@ -553,6 +582,7 @@ impl Topic {
             Topic::Work => WORK,
             Topic::Stress => STRESS,
             Topic::Create => CREATE,
+            Topic::Extend => EXTEND,
             Topic::Serve => SERVE,
             Topic::History => HISTORY,
             Topic::Help => HELP,

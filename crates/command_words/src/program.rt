@@ -86,7 +86,7 @@ const STORE: Word = Word {
     ..OPERAND
 };
 
-/// The path of a store that is made.
+/// The path of a store that is made, or gets more objects.
 const DATABASE: Word = Word {
     id: "database",
     shown: &["DATABASE"],
@@ -166,7 +166,7 @@ const SEED: Word = Word {
 };
 
 /// The commands, but for `serve`.
-static FORMS: [Form; 10] = [
+static FORMS: [Form; 11] = [
     Form {
         name: "check",
         topic: Topic::Check,
@@ -210,6 +210,11 @@ static FORMS: [Form; 10] = [
     Form {
         name: "create",
         topic: Topic::Create,
+        words: &[DATABASE, OBJECTS, TYPES],
+    },
+    Form {
+        name: "extend",
+        topic: Topic::Extend,
         words: &[DATABASE, OBJECTS, TYPES],
     },
     Form {

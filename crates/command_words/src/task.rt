@@ -95,6 +95,15 @@ pub enum Task<'a> {
         /// The paths of the type files, by whose places the objects' types are named.
         types: Vec<&'a str>,
     },
+    /// Does the store in a file get more objects, and which?
+    Extend {
+        /// The path of the store.
+        database: &'a str,
+        /// The path of the objects.
+        objects: &'a str,
+        /// The paths of the type files, by whose places the objects' types are named.
+        types: Vec<&'a str>,
+    },
     /// What does the store in a file answer to the requests on standard input?
     Serve {
         /// The path of the store.
@@ -148,6 +157,8 @@ pub enum Topic {
     Stress,
     /// The command `create`.
     Create,
+    /// The command `extend`.
+    Extend,
     /// The command `serve`.
     Serve,
     /// The command `history`.

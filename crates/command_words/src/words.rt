@@ -91,6 +91,7 @@ fn topic_of(name: &str) -> Option<Topic>
         "work" => Some(Topic::Work),
         "stress" => Some(Topic::Stress),
         "create" => Some(Topic::Create),
+        "extend" => Some(Topic::Extend),
         "serve" => Some(Topic::Serve),
         "history" => Some(Topic::History),
         "help" => Some(Topic::Help),
@@ -155,6 +156,7 @@ fn command_task<'a>(
         "work" => work_task(alloc, values),
         "stress" => stress_task(alloc, values),
         "create" => create_task(alloc, values),
+        "extend" => extend_task(alloc, values),
         _ => Ok(history_task(values)),
     }
 }
@@ -220,7 +222,20 @@ fn create_task<'a>(alloc: Global, values: &ArgMatches<'a>) -> Result<Task<'a>, A
 {
     let (objects, types) = store_words(alloc, values)?;
     Ok(Task::Create {
-        database: values.get_str("database").unwrap(),
+        database: database_word(values),
+        objects,
+        types,
+    })
+}
+
+fn extend_task<'a>(alloc: Global, values: &ArgMatches<'a>) -> Result<Task<'a>, AllocError>
+    requires { (database : Text) × (objects : Text) × (types : List Text) × HasRows values.now (asked.extend database objects types) }
+    ensures { (database objects : Text) (types : List Text) → HasRows values.now (asked.extend database objects types)
+        → IfOk result (λ task. asked_of task ≡ asked.order (asked.extend database objects types)) }
+{
+    let (objects, types) = store_words(alloc, values)?;
+    Ok(Task::Extend {
+        database: database_word(values),
         objects,
         types,
     })
@@ -310,6 +325,14 @@ fn file_word<'a>(values: &ArgMatches<'a>) -> &'a str
     ensures { (path : Text) → first_of (codes "path") (rows_of (found_of values.now)) ≡ Some path → result.now ≡ path }
 {
     values.get_str("path").unwrap()
+}
+
+/// The path of a store's file, where it comes before another file.
+fn database_word<'a>(values: &ArgMatches<'a>) -> &'a str
+    requires { (path : Text) × (first_of (codes "database") (rows_of (found_of values.now)) ≡ Some path) }
+    ensures { (path : Text) → first_of (codes "database") (rows_of (found_of values.now)) ≡ Some path → result.now ≡ path }
+{
+    values.get_str("database").unwrap()
 }
 
 /// The words of a command over a store's objects: the first file, and those of the types.

@@ -13,9 +13,10 @@ use Rattle.command_files.specs.declared.status.Verdict.TheVariants as verdict
 use Rattle.command_words.specs.Help.{text_of_topic, version_text}
 use Rattle.command_words.specs.Words.{AreNoTask, AreWordsOf}
 use Rattle.command_words.specs.declared.task.Task.{Task}
-use Rattle.command_words.specs.declared.task.Task.TheVariants.{Check, Explain, Make, Tables, Run, Work, Stress, Audit, AuditOrdered, Create, Serve, History, AuditDatabase, Help, Version}
+use Rattle.command_words.specs.declared.task.Task.TheVariants.{Check, Explain, Make, Tables, Run, Work, Stress, Audit, AuditOrdered, Create, Extend, Serve, History, AuditDatabase, Help, Version}
 use Rattle.database_commands.specs.Audited.{AuditsDatabase}
 use Rattle.database_commands.specs.Created.{CreatesStore, HasCreateFault}
+use Rattle.database_commands.specs.Extended.{ExtendsStore}
 use Rattle.database_commands.specs.History.{TellsHistory}
 use Rattle.serve_command.specs.Archived.{ArchivesEpochs}
 use Rattle.serve_command.specs.Found.{SaysFound}
@@ -67,6 +68,7 @@ Answer given (Stress jobs types workers tries seed) = WorksFile given.files work
 Answer given (Audit history later types) = AuditsFiles given.files history.now (texts later.items) (texts types.items)
 Answer given (AuditOrdered order history types) = AuditsOrdered given.files order.items history.now (texts types.items)
 Answer given (Create database objects types) = CreatesStore given.clean (given.made database.now) given.files objects.now (texts types.items)
+Answer given (Extend database objects types) = ExtendsStore given.clean (given.databases database.now) (given.made database.now) given.files objects.now (texts types.items)
 Answer given (History database) = TellsHistory given.clean (given.databases database.now)
 Answer given (AuditDatabase database) = AuditsDatabase given.clean (given.databases database.now)
 Answer given (Serve database fast archive drain) = ServesAndKeeps given database.now (option_map (λ f. f.now) archive)
@@ -87,6 +89,7 @@ IsAmiss given (Stress jobs types workers tries seed) = HasWorkFault given.files 
 IsAmiss given (Audit history later types) = HasAuditFault given.files history.now (texts later.items) (texts types.items)
 IsAmiss given (AuditOrdered order history types) = HasOrderedFault given.files order.items history.now (texts types.items)
 IsAmiss given (Create database objects types) = HasCreateFault given.files objects.now (texts types.items)
+IsAmiss given (Extend database objects types) = ⊤
 IsAmiss given (History database) = ⊤
 IsAmiss given (AuditDatabase database) = ⊤
 IsAmiss given (Serve database fast archive drain) = ⊤

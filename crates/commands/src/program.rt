@@ -16,7 +16,7 @@ use crate::console::{Console, Given};
 use crate::words::borrowed;
 use command_files::{Fault, Source, Status, Verdict, put_answer};
 use command_words::{Task, VERSION, WordFault, read_words};
-use database_commands::{NewStore, audit_database, create_store, tell_history};
+use database_commands::{NewStore, audit_database, create_store, extend_store, tell_history};
 use database_files::{Databases, TornWrites};
 use outputs::Out;
 use serve_command::{Archives, Serving, fault_of_archive, serve_database};
@@ -291,6 +291,21 @@ fn do_task<
             };
             (
                 create_store(alloc, asked, source, &mut given.databases, out),
+                console,
+            )
+        }
+        Task::Extend {
+            database,
+            objects,
+            types,
+        } => {
+            let asked = NewStore {
+                database,
+                objects,
+                types: &types,
+            };
+            (
+                extend_store(alloc, asked, source, &mut given.databases, out),
                 console,
             )
         }

@@ -1,2 +1,3 @@
+mod Extensions
 mod NewStores
 mod Told

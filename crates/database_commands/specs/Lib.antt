@@ -1,3 +1,4 @@
 pub mod History
 pub mod Audited
 pub mod Created
+pub mod Extended

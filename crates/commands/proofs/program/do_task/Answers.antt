@@ -5,12 +5,13 @@ use Rattle.command_files.proofs.Comes.{comes_or}
 use Rattle.command_words.specs.declared.task.Task.{Task}
 use Rattle.commands.proofs.Done.{keeps_too, served}
 use Rattle.commands.specs.Program.{DoesTask, PassesOn, shown}
-use Rattle.std.specs.Prelude.{OnOk}
+use Rattle.std.specs.Prelude.{OnOk, ⊤}
 use Rattle.outputs.specs.Gathered.{taken_by}
 use Rattle.serve_command.specs.Archived.{ArchivesEpochs}
 use Rattle.serve_command.specs.Found.{SaysFound}
 use Rattle.serve_command.specs.Served.{BeginsServing, ComesOfServing, ServesDatabase}
 use Rattle.database_commands.specs.Created.{CreatesStore, HasCreateFault}
+use Rattle.database_commands.specs.Extended.{ExtendsStore}
 use Rattle.store_commands.specs.Audited.{AuditsFiles, HasAuditFault}
 use Rattle.store_commands.specs.Ordered.{AuditsOrdered, HasOrderedFault}
 use Rattle.store_commands.specs.Runs.{BeginsRunFile, HasRunFault, RunsFile, WritesRunFile}
@@ -120,6 +121,21 @@ returns-in-Create-clause-does g c =
     Comes (CreatesStore clean made holds c.in-Create.objects.now words) (HasCreateFault holds c.in-Create.objects.now words) c.create_store.result old new in
     let done = subst Of c.deref-in-Create.ensures.value c.create_store.ensures.comes in
     subst Does (sym c.in-Create.is) (inr (comes_or _ _ _ _ _ _ _ _ c.create_store.result old new (λ text whole. whole) (λ text begun. begun) (λ v text answer. answer) (λ bad. bad) done))
+
+pub returns-in-Extend-clause-does : goal.returns-in-Extend-clause-does
+returns-in-Extend-clause-does g c =
+    let holds = g.S.Source.holds c.args.given.now.source in
+    let made = g.D.Databases.holds c.extend_store.new.databases c.in-Extend.database.now in
+    let held = g.D.Databases.holds c.args.given.now.databases c.in-Extend.database.now in
+    let clean = g.D.Databases.is_clean c.extend_store.new.databases in
+    let given = shown holds (g.D.Databases.holds c.args.given.now.databases) (g.D.Databases.holds c.extend_store.new.databases) clean (g.I.Read.remaining c.args.given.now.input) (g.I.Read.remaining c.args.given.now.input) (g.K.Archives.kept_in c.args.given.now.archives) (g.K.Archives.kept_in c.args.given.now.archives) in
+    let old = taken_by g.W.Out.taken c.args.console.out in
+    let new = taken_by g.W.Out.taken c.extend_store.new.out in
+    let Does : Task → Type 0 = λ t. DoesTask given t c.extend_store.result old new in
+    let Of : List (Bor (List ℕ)) → Type 0 = λ ws. let words = map (λ p. p.now) ws in
+    Comes (ExtendsStore clean held made holds c.in-Extend.objects.now words) ⊤ c.extend_store.result old new in
+    let done = subst Of c.deref-in-Extend.ensures.value c.extend_store.ensures in
+    subst Does (sym c.in-Extend.is) (inr (comes_or _ _ _ _ _ _ _ _ c.extend_store.result old new (λ text whole. whole) (λ text begun. begun) (λ v text answer. answer) (λ bad. bad) done))
 
 pub returns-in-Serve-clause-does : goal.returns-in-Serve-clause-does
 returns-in-Serve-clause-does g c =
