@@ -374,6 +374,11 @@ uint32_t colock_follow(colock_store *store, const colock_event *events, size_t e
 /* Begins anew at the states that are kept, with no event and the same limits: transactions count from 0 again.
  * COLOCK_STILL_OPEN, COLOCK_NO_MEMORY. */
 uint32_t colock_renew(colock_store *store);
+/* The same with more objects, which come after those that there are, each in its initial state: those of `added`, which
+ * was begun and isn't opened. They are taken, whatever it returns but COLOCK_NOT_HELD: `added` is begun without an object
+ * then, and may be used again. It returns the first that holds of COLOCK_NOT_HELD, COLOCK_STILL_OPEN,
+ * COLOCK_TOO_MANY_OBJECTS and COLOCK_NO_MEMORY: the store stays. */
+uint32_t colock_store_extend(colock_store *store, colock_store *added);
 /* Ends what the handle holds; a store aborts what is open. The handle may be used again. COLOCK_NOT_HELD where it
  * holds nothing. In C it is called by one of the two below. */
 uint32_t colock_close(struct colock_held *handle);

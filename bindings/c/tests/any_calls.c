@@ -116,6 +116,14 @@ static void make_store(int h) {
     if (!code) holds[h] = A_STORE;
 }
 
+/* A store gets the objects of another handle. */
+static void extend(int h) {
+    int from = (h + 1 + (int)draw(HANDLES - 1)) % HANDLES;
+    uint32_t code = colock_store_extend(&handles[h].store, &handles[from].store);
+    WANT((code == COLOCK_NOT_HELD) == (holds[h] != A_STORE || holds[from] != OBJECTS));
+    counted(code);
+}
+
 static void transact(int h) {
     static const char *const names[] = {
         "inc:1", "dec:1", "give:1", "take:2", "deposit:1", "withdraw:2", "balance", "insert:a", "enq:a", "deq", "", "x",
@@ -188,7 +196,8 @@ int main(int argc, char **argv) {
         case 6: case 7: case 8: make_store(h); break;
         case 9: case 10: read_store(h); break;
         case 11: case 12: follow(h); break;
-        case 13: case 14: meant_for(h, A_STORE, colock_begin(&handles[h].store, (uint8_t)number(), &t)); break;
+        case 13: extend(h); break;
+        case 14: case 15: meant_for(h, A_STORE, colock_begin(&handles[h].store, (uint8_t)number(), &t)); break;
         default: transact(h);
         }
     }

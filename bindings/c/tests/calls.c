@@ -442,6 +442,64 @@ static void a_store_begins_anew(colock_store *s) {
     WANT(colock_kept(s, 1, &n) == COLOCK_OK && n == 1 && begin(s, 0) == 0);
 }
 
+/* How many objects a store has that was begun. It is opened for that where it has any. */
+static uint32_t objects_of(colock_store *added) {
+    uint32_t count = 0;
+    uint64_t kept;
+    if (colock_store_open(added, 9) == COLOCK_NO_OBJECTS) return 0;
+    while (colock_kept(added, count, &kept) == COLOCK_OK) count++;
+    return count;
+}
+
+/* Whether the objects keep these states, and there are no more of them. */
+static bool keep(colock_store *store, const uint64_t *states, uint32_t count) {
+    uint64_t kept;
+    for (uint32_t x = 0; x < count; x++)
+        if (colock_kept(store, x, &kept) != COLOCK_OK || kept != states[x]) return false;
+    return colock_kept(store, count, &kept) == COLOCK_NO_OBJECT;
+}
+
+/* Who isn't asked with a store and with objects of one changes neither. */
+static void only_a_store_is_extended(void) {
+    colock_store store = COLOCK_EMPTY, other = COLOCK_EMPTY, added = COLOCK_EMPTY, none = COLOCK_EMPTY;
+    colock_type type = COLOCK_EMPTY;
+    colock_fault fault = NO_FAULT;
+    uint64_t n = UNTOUCHED;
+    open_counters(&store, 2, 100), open_counters(&other, 1, 100), add_counters(&added, 3);
+    WANT(colock_type_read(&type, COLOCK_UNDO, TEXT(CTR2), &fault) == COLOCK_OK && begin(&other, 0) == 0);
+    WANT(colock_store_extend(&none, &added) == COLOCK_NOT_HELD && colock_store_extend(as_store(&type), &added) == COLOCK_NOT_HELD);
+    WANT(colock_store_extend(&store, &none) == COLOCK_NOT_HELD && colock_store_extend(&store, as_store(&type)) == COLOCK_NOT_HELD);
+    WANT(colock_store_extend(&store, &other) == COLOCK_NOT_HELD && colock_store_extend(&added, &other) == COLOCK_NOT_HELD);
+    WANT(colock_store_extend(&none, as_store(&type)) == COLOCK_NOT_HELD && colock_commit(&other, 0, 0) == COLOCK_OK);
+    WANT(colock_kept(&store, 1, &n) == COLOCK_OK && colock_kept(&store, 2, &n) == COLOCK_NO_OBJECT);
+    WANT(colock_store_close(&none) == COLOCK_NOT_HELD && colock_type_close(&type) == COLOCK_OK && objects_of(&added) == 3);
+    WANT(colock_store_close(&store) == COLOCK_OK && colock_store_close(&other) == COLOCK_OK && colock_store_close(&added) == COLOCK_OK);
+}
+
+/* Those that there are keep their states, and those that are added begin at those of their types. */
+static void a_store_is_extended(void) {
+    static const uint64_t extended[] = {0, 1, 3, 3}, at_last[] = {0, 0, 3, 1};
+    colock_store store = COLOCK_EMPTY, added = COLOCK_EMPTY;
+    colock_type five = COLOCK_EMPTY;
+    colock_fault fault = NO_FAULT;
+    colock_answer a;
+    uint64_t n = UNTOUCHED, forgotten = UNTOUCHED;
+    open_counters(&store, 2, 100), add_counters(&added, 1);
+    WANT(begin(&store, 0) == 0 && colock_call(&store, 0, 0, 1, TEXT("inc:1"), &a) == COLOCK_OK);
+    WANT(colock_store_extend(&store, &added) == COLOCK_STILL_OPEN && objects_of(&added) == 0); /* they were taken */
+    WANT(colock_kept(&store, 2, &n) == COLOCK_NO_OBJECT && colock_event_count(&store, &n, &forgotten) == COLOCK_OK && n == 2);
+    WANT(colock_commit(&store, 0, 0) == COLOCK_OK && colock_forget(&store, 1) == COLOCK_OK);
+    WANT(colock_type_read(&five, COLOCK_ESCROW, TEXT(FIVE), &fault) == COLOCK_OK);
+    WANT(colock_store_add(&added, &five) == COLOCK_OK && colock_store_add(&added, &five) == COLOCK_OK);
+    WANT(colock_type_close(&five) == COLOCK_OK && colock_store_extend(&store, &added) == COLOCK_OK);
+    WANT(colock_event_count(&store, &n, &forgotten) == COLOCK_OK && n == 0 && forgotten == 0);
+    WANT(keep(&store, extended, 4) && begin(&store, 5) == 0);
+    WANT(is_told(colock_call(&store, 5, 0, 3, TEXT("take:2"), &a), &a, COLOCK_REPLY, 1));
+    WANT(is_told(colock_call(&store, 5, 0, 1, TEXT("dec:1"), &a), &a, COLOCK_REPLY, 1) && colock_commit(&store, 5, 0) == COLOCK_OK);
+    WANT(colock_store_extend(&store, &added) == COLOCK_OK); /* with none it begins anew */
+    WANT(keep(&store, at_last, 4) && objects_of(&added) == 0 && colock_store_close(&added) == COLOCK_OK && colock_store_close(&store) == COLOCK_OK);
+}
+
 static void a_store_is_used(void) {
     colock_store store = COLOCK_EMPTY;
     colock_event room[16];
@@ -560,6 +618,8 @@ int main(void) {
     a_store_is_made();
     limits_have_ranges();
     a_store_is_used();
+    only_a_store_is_extended();
+    a_store_is_extended();
     a_store_is_made_and_closed();
     events_cross_and_are_made_again();
     puts("each code of each call: as it has to be");

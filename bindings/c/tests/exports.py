@@ -296,6 +296,7 @@ def binary_differences(wanted):
 PLANTS = [
     ("header", "uint64_t max_events", "uint32_t max_events"),
     ("header", "uint32_t colock_renew(colock_store *store);", ""),
+    ("header", "colock_store_extend(colock_store *store, colock_store *added);", "colock_store_extend(colock_store *store);"),
     ("header", "COLOCK_NEEDS_ESCROW = 26", "COLOCK_NEEDS_ESCROW = 27"),
     ("header", "COLOCK_MISSING = 8", "COLOCK_MISSING = 18"),
     ("header", "COLOCK_ESCROW = 2", "COLOCK_ESCROW = 3"),

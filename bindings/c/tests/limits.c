@@ -60,6 +60,34 @@ static void objects_are_limited(void) {
     each_object_is_kept(&store, MOST);
 }
 
+/* Gives a store this many more counters, which are taken however it ends. */
+static uint32_t extend(colock_store *store, int more) {
+    colock_store added = COLOCK_EMPTY;
+    add_counters(&added, more);
+    uint32_t code = colock_store_extend(store, &added);
+    WANT(colock_store_open(&added, 9) == COLOCK_NO_OBJECTS && colock_store_close(&added) == COLOCK_OK);
+    return code;
+}
+
+/* A store begins with some objects, and gets as many as its limit leaves. */
+static void objects_are_added_up_to_the_limit(int objects, uint32_t limit) {
+    int left = (int)limit - objects;
+    colock_store store = COLOCK_EMPTY;
+    colock_answer answer;
+    uint64_t kept;
+    add_counters(&store, objects);
+    WANT(colock_store_open_with(&store, 1000000, 1, limit) == COLOCK_OK && extend(&store, left + 1) == COLOCK_TOO_MANY_OBJECTS);
+    WANT(begin(&store, 0) == 0 && colock_call_op(&store, 0, 0, (uint32_t)objects - 1, 0, &answer) == COLOCK_OK);
+    WANT(colock_call_op(&store, 0, 0, (uint32_t)objects, 0, &answer) == COLOCK_NO_OBJECT && extend(&store, left + 1) == COLOCK_STILL_OPEN);
+    WANT(colock_commit(&store, 0, 0) == COLOCK_OK && extend(&store, MOST) == COLOCK_TOO_MANY_OBJECTS && begin(&store, 0) == 1);
+    WANT(colock_abort(&store, 0, 1) == COLOCK_OK && extend(&store, left) == COLOCK_OK && begin(&store, 0) == 0);
+    for (uint32_t x = 0; x < limit; x++) WANT(colock_kept(&store, x, &kept) == COLOCK_OK && kept == (x == (uint32_t)objects - 1));
+    WANT(colock_call_op(&store, 0, 0, limit - 1, 0, &answer) == COLOCK_OK && answer.kind == COLOCK_REPLY);
+    WANT(colock_call_op(&store, 0, 0, limit, 0, &answer) == COLOCK_NO_OBJECT && colock_commit(&store, 0, 0) == COLOCK_OK);
+    WANT(extend(&store, 1) == COLOCK_TOO_MANY_OBJECTS && extend(&store, 0) == COLOCK_OK);
+    WANT(colock_kept(&store, limit - 1, &kept) == COLOCK_OK && kept > 0 && colock_store_close(&store) == COLOCK_OK);
+}
+
 /* One more than any store may have. They stay, and more may be added. */
 static void more_objects_than_any_store_has(void) {
     colock_store store = COLOCK_EMPTY;
@@ -275,6 +303,11 @@ int main(void) {
     a_number_is_made_of_amounts();
     open_transactions_are_limited();
     objects_are_limited();
+    objects_are_added_up_to_the_limit(1, 1);
+    objects_are_added_up_to_the_limit(2, 5);
+    objects_are_added_up_to_the_limit(255, 256);
+    objects_are_added_up_to_the_limit(1, MOST);
+    objects_are_added_up_to_the_limit(MOST - 1, MOST);
     more_objects_than_any_store_has();
     many_work_at_one_object(anything, COLOCK_UNDO, 0);
     many_work_at_one_object(anything, COLOCK_INTENTIONS, 0);

@@ -21,5 +21,7 @@ uint32_t mistaken(colock_type *type, colock_store *store, colock_shape *shape, u
     return colock_close(type);
 #elif MISTAKE == 7
     return colock_close(store);
+#elif MISTAKE == 8
+    return colock_store_extend(store, type);
 #endif
 }

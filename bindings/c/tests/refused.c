@@ -35,6 +35,22 @@ static void make_objects(colock_store *store, colock_type types[TYPES]) {
     for (int i = 0; i < TYPES; i++) DO(colock_store_add(store, &types[i]));
 }
 
+/* Begins anew with more objects, of the same types. Where memory is refused the store stays, and those are taken. */
+static void extend(colock_store *store, colock_type types[TYPES]) {
+    colock_store added = COLOCK_EMPTY;
+    uint64_t kept;
+    make_objects(&added, types);
+    uint32_t code = colock_store_extend(store, &added);
+    WANT(code == COLOCK_OK || code == COLOCK_NO_MEMORY);
+    if (code) {
+        is_met[__LINE__] = true, refusals++;
+        WANT(colock_kept(store, TYPES, &kept) == COLOCK_NO_OBJECT);
+        for (int i = 0; i < TYPES; i++) WANT(colock_store_add(&added, &types[i]) == COLOCK_OK);
+        WANT(colock_store_extend(store, &added) == COLOCK_OK);
+    }
+    WANT(colock_kept(store, 2 * TYPES - 1, &kept) == COLOCK_OK && colock_store_close(&added) == COLOCK_OK);
+}
+
 /* Transactions that are all open before the first of them ends. */
 static void use(colock_store *store, uint64_t transactions) {
     static const char *const calls[TYPES] = {"inc:1", "dec:1", "deposit:2", "inc:2", "insert:a", "inc:1", "give:1", "give:17", "give:1", "enq:b"};
@@ -92,6 +108,8 @@ static void go(uint64_t transactions) {
     follow(&store, &other);
     DO(colock_renew(&store));
     use(&store, transactions);
+    extend(&store, types);
+    use(&store, transactions);
     for (int i = 0; i < TYPES; i++) WANT(colock_type_close(&types[i]) == COLOCK_OK);
     WANT(colock_store_close(&store) == COLOCK_OK && colock_store_close(&other) == COLOCK_OK);
     WANT(live == 0);
@@ -108,7 +126,7 @@ int main(int argc, char **argv) {
         WANT(refusals <= 1);
     }
     for (int line = 0; line < 400; line++) met += is_met[line];
-    WANT(met == 19); /* each call that may take memory, and no other */
+    WANT(met == 20); /* each call that may take memory, and no other */
     printf("%ld allocations, each refused in turn, at %ld calls: one code, the same call is done then, no leak\n", n, met);
     return 0;
 }

@@ -84,12 +84,23 @@ A store in memory has 256 objects at most, and 1,024 open transactions, or limit
     >>> many.kept(9_999)
     0
 
+Objects may have names, by which calls then have them; and more may be added while the store lives:
+
+    >>> hall = colock.Store({"A1": seat, "A2": seat}, max_events=1_000_000)
+    >>> with hall.begin() as transaction:
+    ...     done = transaction.expect("A2", "hold", "ok")
+    >>> hall.extend([("B1", seat), ("B2", seat)])  # the number of the first of them
+    2
+    >>> hall.kept("A2"), hall.kept("B1"), hall.find("B2"), hall.name_of(0)
+    (1, 0, 3, 'A1')
+
 A store has a lock, which each call takes: threads may share it and its transactions.
 """
 from typing import TYPE_CHECKING as _TYPE_CHECKING
 
 from ._errors import (
     BadMax,
+    BadName,
     BadParameter,
     BadRollback,
     BadText,
@@ -106,6 +117,7 @@ from ._errors import (
     IllegalError,
     InMemoryOnly,
     InUse,
+    NameTaken,
     NeedsEscrow,
     NoCall,
     NoMemory,
@@ -141,6 +153,7 @@ __version__ = "0.2.0"
 
 __all__ = [
     "BadMax",
+    "BadName",
     "BadParameter",
     "BadRollback",
     "BadText",
@@ -163,6 +176,7 @@ __all__ = [
     "InUse",
     "Kind",
     "Limits",
+    "NameTaken",
     "NeedsEscrow",
     "NoCall",
     "NoMemory",

@@ -3,13 +3,15 @@ import threading
 from abc import ABC, abstractmethod
 from collections import deque
 from types import GeneratorType
-from typing import TYPE_CHECKING, Callable, Deque, Dict, Generator, Iterable, List, Optional, Sequence, TypeVar, Union, cast
+from typing import TYPE_CHECKING, Callable, Deque, Dict, Generator, Iterable, List, Optional, TypeVar, Union, cast
 from weakref import ref
 
 from ._connection import Slot
-from ._errors import Error, InMemoryOnly
+from ._errors import Error, InMemoryOnly, NoObject
 from ._events import Event
 from ._let_go import warn_of_transaction
+from ._library import unsigned
+from ._objects import Given, ObjectRef
 from ._replies import Reply
 from ._sleepers import Blocker, Sleepers
 from ._stats import Counts
@@ -21,6 +23,8 @@ if TYPE_CHECKING:
 T = TypeVar("T")
 # How long a call that was interrupted waits for the lock, to put right what it left.
 SECONDS_TO_MEND = 1.0
+# An object's number is below.
+NUMBERS = 1 << 32
 # What is left to do, once the lock is free, of what was begun under it.
 Finish = Optional[Callable[[], None]]
 
@@ -59,13 +63,17 @@ class Backend(ABC):
     put: Callable[[Slot], None]
     answer: Callable[[Slot], bytes]
 
-    def __init__(self, types: Sequence[Type], blocker: Optional[Blocker] = None) -> None:
+    def __init__(self, types: List[Type], blocker: Optional[Blocker] = None) -> None:
         self.lock = threading.RLock()
         # the thread that is in a turn of `transact`, and has the lock meanwhile
         self.turn_of = 0
         # whether a call in it was interrupted, which may have left the lock
         self.is_turn_cut = False
+        # they become more, at their end
         self.types = types
+        # the numbers of the objects that have names, and their names
+        self.numbers: Dict[str, int] = {}
+        self.names: Dict[int, str] = {}
         self.sleepers = Sleepers(types, blocker)
         self.counts = Counts(len(types))
         # how often a transaction has ended, or all of them; or more
@@ -225,6 +233,19 @@ class Backend(ABC):
     def end_left(self) -> None:
         """Aborts what began for calls that were interrupted. The lock isn't held."""
 
+    # ---- objects
+
+    def number_of(self, object: ObjectRef) -> int:
+        """The number of an object. Of a store in a file no object has a name. It needs no lock."""
+        if object.__class__ is int and 0 <= object < NUMBERS:  # type: ignore[operator]
+            return object  # type: ignore[return-value]
+        if not isinstance(object, str):
+            return unsigned("the object", object, 32)
+        number = self.numbers.get(object)
+        if number is None:
+            raise NoObject.named(object)
+        return number
+
     # ---- transactions
 
     def call_of(self, x: int, name: str) -> Optional[int]:
@@ -333,4 +354,8 @@ class Backend(ABC):
 
     def renew(self) -> None:
         """Begins anew."""
+        raise InMemoryOnly(InMemoryOnly.__doc__)
+
+    def extend(self, added: List[Given]) -> int:
+        """Begins anew with more objects, and returns the number of the first of them."""
         raise InMemoryOnly(InMemoryOnly.__doc__)

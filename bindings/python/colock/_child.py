@@ -1,7 +1,7 @@
 """A durable store, over a child process `colock serve`."""
 import re
 from functools import partial
-from typing import TYPE_CHECKING, Callable, Collection, Dict, List, NoReturn, Optional, Sequence, Tuple
+from typing import TYPE_CHECKING, Callable, Collection, Dict, List, NoReturn, Optional, Tuple
 from typing import Type as Class
 
 from ._backend import Backend, Finish, Steps
@@ -50,7 +50,7 @@ class Child(Backend):
     Answers are awaited without the lock.
     """
 
-    def __init__(self, connection: Connection, life: int, types: Sequence[Type], archive: Optional[Archive]) -> None:
+    def __init__(self, connection: Connection, life: int, types: List[Type], archive: Optional[Archive]) -> None:
         """The store that was opened in this life."""
         self._connection, self._is_closed, self._has_finished = connection, False, False
         super().__init__(types)

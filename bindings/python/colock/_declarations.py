@@ -127,5 +127,6 @@ SIGNATURES: Dict[str, Any] = {
     "forget": (_H, _64),
     "follow": (_H, _P(Event), _SIZE, _P(_64)),
     "renew": (_H,),
+    "store_extend": (_H, _H),
     "close": (_H,),
 }

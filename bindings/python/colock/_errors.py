@@ -3,7 +3,7 @@
 Each is an `Error`. Those whose names don't end in `Error` are also of the kind of Python's own by which they are caught.
 """
 import enum
-from typing import Dict, Tuple, Type
+from typing import Dict, Optional, Tuple, Type
 
 from . import _library
 
@@ -22,6 +22,38 @@ class NotOpenError(Error):
 
 class NoObject(Error, LookupError):
     """The store has no object of this number."""
+
+    name: Optional[str] = None
+    """The name by which an object was asked for; None where that was a number."""
+
+    @classmethod
+    def named(cls, name: str) -> "NoObject":
+        """The store has no object of this name."""
+        error = cls(f"The store has no object {name!r}.")
+        error.name = name
+        return error
+
+
+class BadName(Error, ValueError):
+    """The name `name` of an object isn't 1 to 64 bytes of a-z, A-Z, 0-9, `_`, `:`, `-`, `.` and `/`."""
+
+    def __init__(self, name: str) -> None:
+        super().__init__(name)
+        self.name = name
+
+    def __str__(self) -> str:
+        return f"{self.name!r} is no name of an object"
+
+
+class NameTaken(Error, ValueError):
+    """Two objects were given the name `name`."""
+
+    def __init__(self, name: str) -> None:
+        super().__init__(name)
+        self.name = name
+
+    def __str__(self) -> str:
+        return f"two objects have the name {self.name}"
 
 
 class NoCall(Error, LookupError):

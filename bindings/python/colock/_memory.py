@@ -1,7 +1,7 @@
 """A store in memory, over the library."""
 import ctypes
 import time
-from typing import TYPE_CHECKING, Callable, Iterable, List, Optional, Tuple
+from typing import TYPE_CHECKING, Callable, Dict, Iterable, List, Optional, Tuple
 
 from . import _library
 from ._backend import Backend, Finish
@@ -9,10 +9,10 @@ from ._errors import Error, NotFollowedError, NotOpenError, done, error_of
 from ._events import Event, event_of, words_of
 from ._library import functions, quick, unsigned
 from ._limits import Limits
+from ._objects import Given, check_names
 from ._outcomes import outcome_among
-from ._replies import Busy, Illegal, Reply
+from ._replies import Busy, Illegal, Operation, Reply
 from ._sleepers import Blocker, Sleeper
-from ._types import Type
 
 if TYPE_CHECKING:
     from ._transaction import Transaction
@@ -31,21 +31,17 @@ _NOBODY = (1 << 64) - 1
 class Memory(Backend):
     """Transactions over the library. What it is asked is done when it answers."""
 
-    def __init__(self, types: Iterable[Type], limits: Limits) -> None:
+    def __init__(self, first: List[Given], limits: Limits) -> None:
         self._handle = _library.Handle()
+        check_names(first, ())
         events, opens = unsigned("the limit of events", limits.events, 64), unsigned("the limit of open transactions", limits.open, 32)
         objects = unsigned("the limit of objects", limits.objects, 32)
-        added: List[Type] = []
-        done(functions["store_new"](self._handle))
-        for of in types:
-            with of._lock:
-                done(functions["store_add"](self._handle, of._handle))
-            of._is_used = True
-            added.append(of)
-        super().__init__(added, _blocker_in(self._handle))
+        _begin_store(self._handle, first)
+        super().__init__([], _blocker_in(self._handle))
         self.life = 0
         # the replies are made once, and what a call writes into is used again: all of it is under the lock
-        self._replies = [of._calls.replies for of in added]
+        self._replies: List[Dict[int, Operation]] = []
+        self._know(0, first)
         self._answer, self._number = _library.Answer(), ctypes.c_uint64()
         # the number that was begun last
         self._begun = ctypes.c_uint64(_NOBODY)
@@ -56,7 +52,7 @@ class Memory(Backend):
     # ---- transactions
 
     def begin(self, t: "Transaction") -> bool:
-        if self._half is not None or self.gone:
+        if self._half is not None or self.doing is not None or self.gone:
             self.put_right()
         self._half = _BEGINS
         code = _BEGIN(self._handle, t._worker, self._begun)
@@ -284,8 +280,44 @@ class Memory(Backend):
             self._has_renewed(life)
 
     def _has_renewed(self, life: int) -> None:
-        self.life, self._begun.value = life, _NOBODY
-        self.holders.clear()
+        """What follows from a renewal. It may be done twice, and a signal handler may have gone on in this life meanwhile."""
+        if self.life != life:
+            self.holders.clear()
+            self._begun.value = _NOBODY
+            self.life = life
+
+    def extend(self, added: List[Given]) -> int:
+        check_names(added, self.numbers)
+        self.put_right()
+        first, life, begun = len(self.types), self.life + 1, _Begun(added)
+        self.doing = lambda: self._put_extension_right(life, first, added)
+        code = functions["store_extend"](self._handle, begun)
+        if not code:
+            self._has_extended(life, first, added)
+        self.doing = None
+        done(code)
+        return first
+
+    def _put_extension_right(self, life: int, first: int, added: List[Given]) -> None:
+        """An extension was interrupted: where it was done the first new object is there; as a renewal where none is new."""
+        is_done = functions["kept"](self._handle, first, self._number) == _library.OK if added else not self.event_count()
+        if is_done:
+            self._has_extended(life, first, added)
+
+    def _has_extended(self, life: int, first: int, added: List[Given]) -> None:
+        """What follows from an extension. It may be done twice, as what follows from a renewal."""
+        if self.life != life:
+            self._know(first, added)
+            self._has_renewed(life)
+
+    def _know(self, first: int, added: List[Given]) -> None:
+        """There are these objects from this number on. It may be done twice."""
+        self.types[first:] = [of for of, _ in added]
+        self._replies[first:] = [of._calls.replies for of, _ in added]
+        self.counts.begin_at(first, len(added))
+        for x, (_, name) in enumerate(added, first):
+            if name is not None:
+                self.numbers[name], self.names[x] = x, name
 
     def committed(self, life: int, number: int) -> Optional[bool]:
         # the history of an earlier life isn't there any more
@@ -307,6 +339,24 @@ class Memory(Backend):
 
     def __del__(self, close: Callable[..., int] = functions["close"]) -> None:
         close(self._handle)
+
+
+class _Begun(_library.Handle):
+    """The beginning of a store of these objects, as long as somebody has it."""
+
+    def __init__(self, objects: List[Given]) -> None:
+        super().__init__()
+        _begin_store(self, objects)
+
+    def __del__(self, close: Callable[..., int] = functions["close"]) -> None:
+        close(self)
+
+
+def _begin_store(handle: _library.Handle, objects: List[Given]) -> None:
+    """Begins a store of these objects behind a handle."""
+    done(functions["store_new"](handle))
+    for of, _ in objects:
+        of._add_to(handle)
 
 
 def _let_others_run() -> None:

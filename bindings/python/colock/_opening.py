@@ -16,7 +16,7 @@ from ._types import Kind, Type
 
 PROGRAM = "colock"
 # The version of what is spoken.
-VERSION = b"3"
+VERSION = b"4"
 # A process can be waited for at most this many seconds.
 LONGEST_WAIT = 86_400.0
 GREETING = re.compile(rb"colock ([^ ]+) (0|[1-9][0-9]{0,9})")

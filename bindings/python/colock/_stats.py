@@ -28,6 +28,10 @@ class Counts:
         self.busy = [0] * objects
         self.waited = 0.0
 
+    def begin_at(self, first: int, objects: int) -> None:
+        """There are so many objects from this one on, of which nothing is counted. It may be done twice."""
+        self.busy[first:] = [0] * objects
+
     def told(self) -> Stats:
         """What was counted up to now."""
         return Stats(self.commits, self.aborts, tuple(self.busy), self.waits, self.waited, self.deadlocks, self.timeouts)

@@ -17,6 +17,7 @@ from ._let_go import warn_of_store
 from ._library import unsigned
 from ._limits import Limits
 from ._memory import Memory
+from ._objects import ObjectRef, Objects, given
 from ._opening import Opening, open_child
 from ._outcomes import read_id
 from ._stats import Stats
@@ -40,25 +41,30 @@ SECONDS_OF_DRAIN = 0.01
 class Store:
     """A store of objects, which are numbered from 0: in memory, or by `Store.open` in a file. A `with` closes it.
 
+    In memory an object may have a name too, of 1 to 64 bytes of a-z, A-Z, 0-9, `_`, `:`, `-`, `.` and `/`, which no other
+    object of the store has. Each method takes an object by its number or its name, and raises `NoObject` where there is none.
+
     Each call takes the lock of the store, so threads may share it. In a fork of the process it is closed.
     """
 
-    def __init__(self, types: Iterable[Type], max_events: int) -> None:
+    def __init__(self, types: Objects, max_events: int) -> None:
         """A store in memory of an object of each of these types, each in its initial state.
 
-        Its history will have at most `max_events` events, those that were forgotten among them; the other limits are
-        those of `Limits()`. Raises `NoObjects`, `TooManyObjects`, `BadMax`, `NoMemory`, or `ClosedError` of a type.
+        In place of a type there may be a pair of a name and a type, and in place of all a dict of types by names. Its
+        history will have at most `max_events` events, those that were forgotten among them; the other limits are those of
+        `Limits()`. Raises `BadName`, `NameTaken`, `NoObjects`, `TooManyObjects`, `BadMax`, `NoMemory`, or `ClosedError` of
+        a type.
         """
-        self._start(Memory(types, Limits(max_events)), 0.0)
+        self._start(Memory(given(types), Limits(max_events)), 0.0)
 
     @classmethod
-    def with_limits(cls, types: Iterable[Type], limits: Limits) -> "Store":
+    def with_limits(cls, types: Objects, limits: Limits) -> "Store":
         """A store in memory of an object of each of these types, with limits of its own.
 
-        Raises what `Store` raises, `BadMax` where any limit is out of its range.
+        The objects are given as to `Store`. Raises what `Store` raises, `BadMax` where any limit is out of its range.
         """
         store = cls.__new__(cls)
-        store._start(Memory(types, limits), 0.0)
+        store._start(Memory(given(types), limits), 0.0)
         return store
 
     @classmethod
@@ -106,6 +112,7 @@ class Store:
         self._backend, self._lock, self._limit = backend, backend.lock, limit
         self._sleepers, self._counts = backend.sleepers.calls, backend.counts
         self._waiting = Waiting(backend)
+        self._number_of = backend.number_of
         # the backend, where it answers at once
         self._memory = backend if isinstance(backend, Memory) else None
         self._ages = itertools.count()
@@ -293,21 +300,31 @@ class Store:
         """What was counted of this client since it opened the store."""
         return self._told(self._counts.told)
 
-    def call_number(self, object: int, name: str) -> int:
+    def find(self, name: str) -> int:
+        """The number of the object of this name. Raises `NoObject`, with the name."""
+        if not isinstance(name, str):
+            raise TypeError(f"the name is {name!r}, which is no str")
+        return self._number_of(name)
+
+    def name_of(self, object: int) -> Optional[str]:
+        """The name of an object, where it has one."""
+        return self._backend.names.get(unsigned("the object", object, 32))
+
+    def call_number(self, object: ObjectRef, name: str) -> int:
         """The number of the call of this name at an object, for `Transaction.call_op`.
 
         It is that of the first operation that has the name: below 256 its place, and with the amount n 256 * (n + 1) more.
                 Raises `NoObject`, `NoCall`, `ClosedError` or `ConnectionLost`.
         """
-        x = unsigned("the object", object, 32)
+        x = self._number_of(object)
         return self._told(lambda: self._backend.call_number(x, name))
 
-    def kept(self, object: int) -> int:
+    def kept(self, object: ObjectRef) -> int:
         """The state that is kept of an object: of `Kind.UNDO` with what open transactions did, else without it.
 
         Raises `NoObject`, `ClosedError` or `ConnectionLost`.
         """
-        x = unsigned("the object", object, 32)
+        x = self._number_of(object)
         self._check_no_turn()
         return self._told(lambda: self._backend.kept(x))
 
@@ -371,6 +388,16 @@ class Store:
         """
         self._check_no_turn()
         self._told(self._backend.renew)
+
+    def extend(self, types: Objects) -> int:
+        """Begins anew, as `renew`, with more objects, and returns the number of the first of them.
+
+        They come after those that there are, each in its initial state, and are given as to `Store`. Raises `BadName`,
+        `NameTaken`, `StillOpenError`, `TooManyObjects`, `NoMemory`, `InMemoryOnly`, or `ClosedError` of the store or a type.
+        """
+        added = given(types)
+        self._check_no_turn()
+        return self._told(lambda: self._backend.extend(added))
 
     # ---- the end
 

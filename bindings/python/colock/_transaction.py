@@ -6,6 +6,7 @@ from typing import Type as Class
 from ._backend import Asked, Finish
 from ._errors import DeadlockError, Error
 from ._library import unsigned
+from ._objects import ObjectRef
 from ._replies import Busy, Operation, Reply
 from ._waiting import finished
 
@@ -44,8 +45,8 @@ class Transaction:
         """
         return f"{self._life}.{self._number}"
 
-    def call(self, object: int, name: str, wait: Optional[float] = None) -> Reply:
-        """Calls the call of this name at an object.
+    def call(self, object: ObjectRef, name: str, wait: Optional[float] = None) -> Reply:
+        """Calls the call of this name at an object, which is given by its number or its name.
 
         With `wait`, 0 or more seconds, it waits where another transaction is in the way, and isn't answered `Busy`.
         It sleeps until that one, or another one that executed something at the object, has ended or rolled back and it
@@ -58,7 +59,8 @@ class Transaction:
         aborted then; and `ValueError` where `wait` is negative, inside of `Store.transact`, or where the
         transaction waits in another thread.
         """
-        x, store = unsigned("the object", object, 32), self._store
+        store = self._store
+        x = store._number_of(object)
         try:
             memory = store._memory
             if wait is not None:
@@ -77,7 +79,7 @@ class Transaction:
             store._backend.interrupted(error)
             raise
 
-    def expect(self, object: int, name: str, reply: str, wait: Optional[float] = None) -> Operation:
+    def expect(self, object: ObjectRef, name: str, reply: str, wait: Optional[float] = None) -> Operation:
         """The operation of a call that is executed with this reply. As `call`.
 
         Raises as `call`, and where nothing was executed `BusyError` or `IllegalError`. Where the reply is another one it
@@ -85,9 +87,10 @@ class Transaction:
         """
         return self.call(object, name, wait).expected(reply)
 
-    def call_op(self, object: int, call: int, wait: Optional[float] = None) -> Reply:
+    def call_op(self, object: ObjectRef, call: int, wait: Optional[float] = None) -> Reply:
         """Calls the call of this number, for which `Store.call_number` is asked once. As `call`."""
-        x, c, store = unsigned("the object", object, 32), unsigned("the call", call, 64), self._store
+        store = self._store
+        x, c = store._number_of(object), unsigned("the call", call, 64)
         try:
             if wait is not None and self._is_call(x, c):
                 return store._waiting.call(self, x, c, wait)
@@ -103,14 +106,14 @@ class Transaction:
             store._backend.interrupted(error)
             raise
 
-    def would(self, object: int, name: str) -> Reply:
+    def would(self, object: ObjectRef, name: str) -> Reply:
         """What `call` would be answered now, without `wait`. Nothing is executed, and it is no event. Raises as `call`."""
-        x = unsigned("the object", object, 32)
+        x = self._store._number_of(object)
         return cast(Reply, self._store._told(lambda: self._would_now(x, name)))
 
-    def would_op(self, object: int, call: int) -> Reply:
+    def would_op(self, object: ObjectRef, call: int) -> Reply:
         """What `call_op` would be answered now, without `wait`. Raises as `call`."""
-        x, c = unsigned("the object", object, 32), unsigned("the call", call, 64)
+        x, c = self._store._number_of(object), unsigned("the call", call, 64)
         return cast(Reply, self._store._told(lambda: self._would_op_now(x, c)))
 
     def _call_now(self, x: int, name: str) -> Asked[Reply]:

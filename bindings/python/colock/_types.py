@@ -196,7 +196,7 @@ class Type:
         return made
 
     def _make(self, source: Source, maker: str, kind: Kind, *parameters: Any) -> None:
-        self._lock = threading.Lock()
+        self._lock = threading.RLock()
         _all_types.add(self)
         self._handle = _library.Handle()
         self._source = source
@@ -321,6 +321,19 @@ class Type:
             self._all = (self.name, self.kind, self.states, self.initial, self.operations, steps, conflicts)
         return self._all
 
+    def _add_to(self, store: _library.Handle) -> None:
+        """Adds an object of it to a store that was begun. Raises `NoMemory` or `ClosedError`."""
+        self._is_used = True
+        try:
+            with self._lock:
+                code = functions["store_add"](store, self._handle)
+        except BaseException:
+            # a signal handler may have raised where the lock was held, and nothing would give it back
+            while self._lock._is_owned():  # type: ignore[attr-defined]
+                self._lock.release()
+            raise
+        done(code)
+
     def close(self) -> None:
         """Gives its memory back. Stores that have it keep it. A second time does nothing."""
         if self._is_used and self._handle.live:
@@ -377,7 +390,7 @@ _all_types: "weakref.WeakSet[Type]" = weakref.WeakSet()
 def _free_in_fork() -> None:
     """The threads that held the locks of types aren't in a fork."""
     for of in list(_all_types):
-        of._lock = threading.Lock()
+        of._lock = threading.RLock()
 
 
 if hasattr(os, "register_at_fork"):

@@ -215,7 +215,7 @@ def requests():
         yield tag, words
 
 
-def opened(greeting="colock 3 5\\n", kind="{kind}"):
+def opened(greeting="colock 4 5\\n", kind="{kind}"):
     '''Greets, and answers what a client asks as it opens; then the requests that follow.'''
     say(greeting)
     for tag, words in requests():

@@ -13,11 +13,11 @@ from colock import _errors, _old_names
 
 # What each error is, beside an `Error`.
 KINDS = {
-    "BadMax": ValueError, "BadParameter": ValueError, "BadRollback": ValueError, "BadText": ValueError,
+    "BadMax": ValueError, "BadName": ValueError, "BadParameter": ValueError, "BadRollback": ValueError, "BadText": ValueError,
     "BusyError": colock.Retryable, "CannotOpen": OSError, "ClosedError": None, "ConnectionLost": ConnectionError,
     "DeadlockError": colock.Retryable, "EpochEndedError": colock.Retryable, "Error": None, "Forgotten": LookupError,
     "HistoryFullError": None, "IllegalError": None, "InMemoryOnly": NotImplementedError, "InUse": OSError,
-    "NeedsEscrow": ValueError, "NoCall": LookupError, "NoMemory": MemoryError, "NoObject": LookupError,
+    "NameTaken": ValueError, "NeedsEscrow": ValueError, "NoCall": LookupError, "NoMemory": MemoryError, "NoObject": LookupError,
     "NoObjects": ValueError, "NoOperation": LookupError, "NoState": LookupError, "NotFollowedError": None,
     "NotMadeError": None, "NotOpenError": None, "OtherObjects": ValueError, "OutcomeUnknown": ConnectionError,
     "Refused": ValueError, "Retryable": None, "StillOpenError": None, "TimedOut": TimeoutError, "TooLarge": ValueError,
@@ -25,8 +25,9 @@ KINDS = {
 }
 # One of each error that says more than words.
 OF_PARTS = [
-    colock.BadText(3, colock.FaultKind.BadNumber), colock.BusyError(5), colock.CannotOpen("a.db: no such file"),
-    colock.ConnectionLost("it is gone"), colock.DeadlockError(5), colock.InUse("a.db: in use"), colock.NotFollowedError(7),
+    colock.BadName("A 1"), colock.BadText(3, colock.FaultKind.BadNumber), colock.BusyError(5), colock.CannotOpen("a.db: no such file"),
+    colock.ConnectionLost("it is gone"), colock.DeadlockError(5), colock.InUse("a.db: in use"), colock.NameTaken("A1"),
+    colock.NoObject.named("A1"), colock.NotFollowedError(7),
     colock.OutcomeUnknown("5.1"), colock.Refused("NotClosed", (0, 1)), colock.TooManyStates("inc", "ok"),
     colock.UnexpectedError("take:1", "short"),
 ]

@@ -57,7 +57,7 @@ class Pipes(support.Fakes):
     def test_no_greeting(self):
         for body, words in [
             ("time.sleep(60)", "no answer within 0.4 seconds"),
-            ("say('colock 3 5'); time.sleep(60)", "no answer within 0.4 seconds"),
+            ("say('colock 4 5'); time.sleep(60)", "no answer within 0.4 seconds"),
         ]:
             with Timed() as timed:
                 with self.assertRaises(colock.CannotOpen) as raised:
@@ -67,9 +67,9 @@ class Pipes(support.Fakes):
 
     def test_wrong_greetings(self):
         for greeting, words in [
-            ("colock 1 5", "speaks version 1, and this package 3"), ("colock 2 5", "speaks version 2, and this package 3"),
-            ("colock 4 5", "speaks version 4"), ("colock 3.1 5", "speaks version 3.1"), ("hello", "no greeting"), ("", "no greeting"),
-            ("colock 3 05", "no greeting"), ("colock 3 5 ", "no greeting"), ("colock 3 \\xff", "no greeting"), ("t ok", "no greeting"),
+            ("colock 1 5", "speaks version 1, and this package 4"), ("colock 2 5", "speaks version 2, and this package 4"),
+            ("colock 3 5", "speaks version 3"), ("colock 5 5", "speaks version 5"), ("colock 4.1 5", "speaks version 4.1"), ("hello", "no greeting"), ("", "no greeting"),
+            ("colock 4 05", "no greeting"), ("colock 4 5 ", "no greeting"), ("colock 4 \\xff", "no greeting"), ("t ok", "no greeting"),
         ]:
             with self.assertRaises(colock.CannotOpen) as raised:
                 self.open(f"list(opened('{greeting}\\n'))")
@@ -78,7 +78,7 @@ class Pipes(support.Fakes):
     def test_it_ends_at_once(self):
         for body, words in [
             ("sys.exit('it has no wish')", "it has no wish"), ("sys.exit(3)", "status 3"), ("os.kill(os.getpid(), 9)", "SIGKILL"),
-            ("say('colock 3 5\\n'); sys.exit('then it ended')", "then it ended"),
+            ("say('colock 4 5\\n'); sys.exit('then it ended')", "then it ended"),
         ]:
             with self.assertRaises(colock.CannotOpen) as raised:
                 self.open(body)
@@ -93,7 +93,7 @@ class Pipes(support.Fakes):
             ("{0} object escrow 0|{0} ok", "".join(f"{{0}} {line}|" for line in ("type t", "states 2", "initial 0", "op a b", "step 0 0 1", "step 1 0 1", "end", "")) + "{0} ok"),
         ]:
             answers = {"objects": objects + "|", "types": types + "|"}
-            body = f"say('colock 3 5\\n')\nfor tag, words in requests():\n    say({answers!r}[words[0]].format(tag).replace('|', '\\n'))"
+            body = f"say('colock 4 5\\n')\nfor tag, words in requests():\n    say({answers!r}[words[0]].format(tag).replace('|', '\\n'))"
             with self.assertRaises(colock.CannotOpen):
                 self.open(body)
 

@@ -373,6 +373,41 @@ class CallsInMemory(support.InMemory, Calls, unittest.TestCase):
 
         self.at_each(turn)
 
+    def test_extend(self):
+        """Nothing of an extension is seen, or all of it: the objects, their names, what is counted of them, and the new life."""
+        limits = colock.Limits(events=1_000_000, objects=65_536)
+        store = colock.Store.with_limits([COUNTER], limits)
+        self.addCleanup(store.close)
+        count = 1
+
+        def turn(handler):
+            nonlocal count
+            with store.begin() as t:
+                t.call(0, "inc:1").executed()
+                t.call(0, "dec:1").executed()
+            names = [f"{count}-{handler.left}-{x}" for x in range(2)]
+            was_raised = handler.during(lambda: store.extend([(names[0], COUNTER), COUNTER, (names[1], COUNTER)]))
+            was_extended = store.event_count() == 0
+            self.assertTrue(was_extended or was_raised)
+            count += 3 * was_extended
+            self.assertEqual(len(store.stats().busy), count)
+            with store.begin() as u:
+                self.assertEqual((u.id.partition(".")[0] != t.id.partition(".")[0], u.number == 0), (was_extended, was_extended))
+                u.call(count - 1, "inc:1").executed()
+                u.call(count - 1, "dec:1").executed()
+                self.assertRaises(colock.NoObject, u.call, count, "inc:1")
+                self.assertEqual(store.name_of(count - 1) == names[1], was_extended)
+                for name, x in zip(names, (count - 3, count - 1)):
+                    if was_extended:
+                        self.assertEqual((store.find(name), u.call(name, "inc:1").executed().reply), (x, "ok"))
+                    else:
+                        self.assertRaises(colock.NoObject, store.find, name)
+            self.assertRaises(colock.NotOpenError, t.call, 0, "inc:1")
+            return was_raised
+
+        self.at_each(turn)
+        self.assertEqual(store.open_count(), 0)
+
     def test_close(self):
         def turn(handler):
             store = colock.Store([COUNTER], 100)

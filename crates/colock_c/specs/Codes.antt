@@ -2,6 +2,8 @@
 use Rattle.std.specs.Prelude.{ℕ, Option, Some, None}
 use Rattle.serial_order.specs.declared.refusal.Refusal.{Refusal}
 use Rattle.serial_order.specs.declared.refusal.Refusal.TheVariants as refusal
+use Rattle.store.specs.declared.refusals.ExtendRefusal.{ExtendRefusal}
+use Rattle.store.specs.declared.refusals.ExtendRefusal.TheVariants as extends
 use Rattle.store.specs.declared.refusals.NewRefusal.{NewRefusal}
 use Rattle.store.specs.declared.refusals.NewRefusal.TheVariants as begins
 use Rattle.store.specs.declared.refusals.RenewRefusal.{RenewRefusal}
@@ -65,6 +67,13 @@ new_code begins.NoMemory = NoMemory
 abbrev pub renew_code : RenewRefusal → Code
 renew_code renews.StillOpen = StillOpen
 renew_code renews.NoMemory = NoMemory
+
+-- of a store that is to begin anew with more objects
+abbrev pub extend_code : ExtendRefusal → Code
+extend_code extends.StillOpen = StillOpen
+extend_code extends.TooManyObjects = TooManyObjects
+extend_code extends.NotFresh = NotFresh
+extend_code extends.NoMemory = NoMemory
 
 -- of an event that is to be made again
 abbrev pub stray_code : Stray → Code

@@ -1,9 +1,11 @@
 -- A store that begins anew.
-use Rattle.std.specs.Prelude.{◌≡◌, ℕ, Option, Some}
-use Rattle.store_laws.specs.Stored.{Stored}
-use Rattle.store.specs.Renews.{Renews, RefusesRenew}
+use Rattle.std.specs.Prelude.{◌≡◌, ℕ, List, Option, Some}
+use Rattle.object_trait.specs.Meaning.{Meaning}
+use Rattle.store_laws.specs.Stored.{Stored, types_of}
+use Rattle.store.specs.Renews.{Renews, RefusesRenew, Extends, RefusesExtend}
+use Rattle.store.specs.declared.refusals.ExtendRefusal.{ExtendRefusal}
 use Rattle.store.specs.declared.refusals.RenewRefusal.{RenewRefusal}
-use Rattle.colock_c.specs.Codes.{number, renew_code}
+use Rattle.colock_c.specs.Codes.{number, extend_code, renew_code}
 use Rattle.colock_c.specs.Holding.{store_at}
 use Rattle.colock_c.specs.declared.code.Code.TheVariants.{Done}
 use Rattle.colock_c.specs.declared.held.Held.{Held}
@@ -12,3 +14,8 @@ use Rattle.colock_c.specs.declared.held.Held.{Held}
 pub data IsRenewal (s : Stored) (n : ℕ) (new : Option Held) : Type 0 where
   renewed : (t : Stored) → n ≡ number Done → Renews s t → store_at new ≡ Some t → IsRenewal s n new
   not_renewed : (why : RenewRefusal) → n ≡ number (renew_code why) → RefusesRenew s why → store_at new ≡ Some s → IsRenewal s n new
+
+-- it began anew at the states that it kept, with these objects after the others, or the code of the refusal and the store as it was
+pub data IsExtension (s : Stored) (ms : List Meaning) (n : ℕ) (new : Option Held) : Type 0 where
+  extended : (t : Stored) → n ≡ number Done → Extends s (types_of ms) t → store_at new ≡ Some t → IsExtension s ms n new
+  not_extended : (why : ExtendRefusal) → n ≡ number (extend_code why) → RefusesExtend s ms why → store_at new ≡ Some s → IsExtension s ms n new

@@ -1,10 +1,10 @@
 //! What exports answer.
 
 ghost use Rattle.std.specs.Prelude.{◌≡◌, Some};
-ghost use Rattle.colock_c.specs.Codes.{code_of, made_code, new_code, number, renew_code, stray_code};
+ghost use Rattle.colock_c.specs.Codes.{code_of, extend_code, made_code, new_code, number, renew_code, stray_code};
 
 use serial_order::Refusal;
-use store::{NewRefusal, RenewRefusal, Stray};
+use store::{ExtendRefusal, NewRefusal, RenewRefusal, Stray};
 use table_maker::MakeError;
 
 /// What an export answers, by its number. All but `Done` leave what there was, but for what an export
@@ -111,6 +111,18 @@ pub(crate) fn renew_code(refusal: RenewRefusal) -> Code
     match refusal {
         RenewRefusal::StillOpen => Code::StillOpen,
         RenewRefusal::NoMemory => Code::NoMemory,
+    }
+}
+
+/// The code of a refusal to begin anew with more objects.
+pub(crate) fn extend_code(refusal: ExtendRefusal) -> Code
+    ensures { result ≡ extend_code refusal }
+{
+    match refusal {
+        ExtendRefusal::StillOpen => Code::StillOpen,
+        ExtendRefusal::TooManyObjects => Code::TooManyObjects,
+        ExtendRefusal::NotFresh => Code::NotFresh,
+        ExtendRefusal::NoMemory => Code::NoMemory,
     }
 }
 

@@ -1,8 +1,9 @@
 //! What a handle holds.
 
-use crate::code::{Code, new_code, renew_code};
+use crate::code::{Code, extend_code, new_code, renew_code};
 use objects::Object;
 use std::alloc::Global;
+use std::mem;
 use std::sync::Arc;
 use store::Store;
 use store_limits::Limits;
@@ -32,14 +33,15 @@ impl Drop for Held {
 
 impl Held {
     ghost use Rattle.std.specs.Borrow.{sem};
-    ghost use Rattle.std.specs.Prelude.{◌≡◌, List, Some, None, IsSome, is_some};
+    ghost use Rattle.std.specs.Prelude.{◌≡◌, [], List, Some, None, IsSome, is_some, map, MatchOption};
     ghost use Rattle.object_trait.specs.Meaning.{Meaning};
+    ghost use Rattle.objects.specs.Object.{meaning_of};
     ghost use Rattle.store_laws.specs.Stored.{Stored};
     ghost use Rattle.colock_c.specs.Codes.{number};
     ghost use Rattle.colock_c.specs.Holding.{objects_at, store_at, type_at};
     ghost use Rattle.colock_c.specs.Lending.{LendsStore};
     ghost use Rattle.colock_c.specs.Making.{MakesStore};
-    ghost use Rattle.colock_c.specs.Epochs.{IsRenewal};
+    ghost use Rattle.colock_c.specs.Epochs.{IsExtension, IsRenewal};
 
     /// Whether it is a store.
     pub(crate) fn is_store(&self) -> bool
@@ -92,6 +94,19 @@ impl Held {
         }
     }
 
+    /// Takes out the objects of which no store is made yet: none are left.
+    pub(crate) fn take_objects(&mut self, alloc: Global) -> Option<Vec<Object>>
+        ensures { MatchOption result
+            ((objects_at (Some self.old) ≡ None) × (self.new ≡ self.old))
+            (λ objects. (objects_at (Some self.old) ≡ Some (map meaning_of objects.items)) × (objects_at (Some self.new) ≡ Some [])) }
+    {
+        match self {
+            Held::OfObjects(objects) => Some(mem::replace(objects, Vec::new(alloc))),
+            Held::OfType(_) => None,
+            Held::OfStore(_) => None,
+        }
+    }
+
     /// The store of these objects; else what there was, and why not.
     pub(crate) fn made(self, alloc: Global, limits: Limits) -> (Held, Code)
         ensures makes { (ms : List Meaning) → objects_at (Some self) ≡ Some ms → MakesStore ms limits (number result.1) (Some result.0) }
@@ -116,6 +131,21 @@ impl Held {
             Held::OfStore(store) => match store.renew(alloc) {
                 Ok((anew, _history)) => (Held::OfStore(anew), Code::Done),
                 Err((kept, refusal)) => (Held::OfStore(kept), renew_code(refusal)),
+            },
+            Held::OfType(checked) => (Held::OfType(checked), Code::NotHeld),
+            Held::OfObjects(objects) => (Held::OfObjects(objects), Code::NotHeld),
+        }
+    }
+
+    /// The store that begins anew with these objects more, where this one is; else what there was, and why not.
+    pub(crate) fn extended(self, alloc: Global, added: Vec<Object>) -> (Held, Code)
+        ensures extends { (s : Stored) → store_at (Some self) ≡ Some s → IsExtension s (map meaning_of added.items) (number result.1) (Some result.0) }
+        ensures no_store { store_at (Some self) ≡ None → (result.1 ≡ Code.NotHeld) × (result.0 ≡ self) }
+    {
+        match self {
+            Held::OfStore(store) => match store.renew_with(alloc, added) {
+                Ok((grown, _history)) => (Held::OfStore(grown), Code::Done),
+                Err((kept, refusal)) => (Held::OfStore(kept), extend_code(refusal)),
             },
             Held::OfType(checked) => (Held::OfType(checked), Code::NotHeld),
             Held::OfObjects(objects) => (Held::OfObjects(objects), Code::NotHeld),

@@ -235,6 +235,11 @@ extern "C" {
     /// Begins anew at the states that are kept, with no event and the same limits: transactions count from 0 again.
     /// [`code::STILL_OPEN`], [`code::NO_MEMORY`].
     pub fn colock_renew(store: *mut Handle) -> u32;
+    /// The same with more objects, which come after those that there are, each in its initial state: those of `added`,
+    /// which was begun and isn't opened. They are taken, whatever it returns but [`code::NOT_HELD`]: `added` is begun
+    /// without an object then, and may be used again. It returns the first that holds of [`code::NOT_HELD`],
+    /// [`code::STILL_OPEN`], [`code::TOO_MANY_OBJECTS`] and [`code::NO_MEMORY`]: the store stays.
+    pub fn colock_store_extend(store: *mut Handle, added: *mut Handle) -> u32;
     /// Ends what the handle holds; a store aborts what is open. The handle may be used again. [`code::NOT_HELD`] where it
     /// holds nothing. In C it is called by one of the two below.
     pub fn colock_close(handle: *mut Handle) -> u32;

@@ -11,6 +11,12 @@ pub enum Error {
     NotOpen,
     /// The store has no object of this number.
     NoObject,
+    /// The store has no object of this name.
+    NoObjectNamed(String),
+    /// An object was given this name, which isn't 1 to 64 bytes of `a-z`, `A-Z`, `0-9`, `_`, `:`, `-`, `.` and `/`.
+    BadName(String),
+    /// An object was given this name, which another one has.
+    NameTaken(String),
     /// No operation of the object's type has this call.
     NoCall,
     /// As many transactions are open as may be: 1,024, or what its [`Limits`](crate::Limits) say.
@@ -300,6 +306,9 @@ impl Error {
     /// The words of the errors that the library by itself never returns.
     fn write_of_clients(&self, f: &mut fmt::Formatter<'_>) -> fmt::Result {
         match self {
+            Error::NoObjectNamed(name) => write!(f, "the store has no object {name:?}"),
+            Error::BadName(name) => write!(f, "{name:?} is no name of an object"),
+            Error::NameTaken(name) => write!(f, "two objects have the name {name}"),
             Error::Busy { blocker } => write!(f, "transaction {blocker} is in the way"),
             Error::Illegal => f.write_str("no operation of the call is legal"),
             Error::Deadlock { waited_for } => write!(f, "a deadlock: the transaction waited for {waited_for}, and was aborted"),

@@ -67,6 +67,24 @@
 //! # Ok::<(), colock::Error>(())
 //! ```
 //!
+//! # Names, and more objects
+//!
+//! An object of a store in memory may have a name, by which calls then have it ([`NewObject`], [`ObjectRef`]). While no
+//! transaction is open a store gets more objects: [`Store::extend`] begins anew with them, at the states that are kept.
+//!
+//! ```
+//! use colock::{Kind, Store, Type};
+//!
+//! let seat = Type::seats(1, Kind::Undo)?;
+//! let mut hall = Store::new([("A1", &seat), ("A2", &seat)], 1_000_000)?;
+//! let mut transaction = hall.begin()?;
+//! transaction.expect("A2", "hold:1", "ok")?;
+//! transaction.commit()?;
+//! hall.extend([("B1", &seat), ("B2", &seat)])?;
+//! assert_eq!((hall.find("B1")?, hall.kept("A2")?, hall.kept("B2")?), (2, 1, 0));
+//! # Ok::<(), colock::Error>(())
+//! ```
+//!
 //! # Threads
 //!
 //! A [`Store`] may go to another thread, and isn't shared between threads but behind a lock, as
@@ -172,6 +190,8 @@ mod fork;
 mod limits;
 mod locks;
 mod memory;
+mod object;
+mod objects;
 mod operation_id;
 mod reply;
 mod shared;
@@ -188,6 +208,7 @@ pub use failure::Failure;
 pub use limits::Limits;
 pub use memory::store::Store;
 pub use memory::transaction::{LeftOpen, Transaction};
+pub use object::{NewObject, Object, ObjectRef};
 pub use operation_id::OperationId;
 pub use reply::{Operation, Reply};
 pub use shared::transaction::{OwnedTransaction, SharedTransaction};

@@ -13,7 +13,9 @@ use crate::error::Error;
 use crate::fork::Origin;
 use crate::limits::Limits;
 use crate::locks::locked;
-use crate::memory::store::{calls_at, Store};
+use crate::memory::store::Store;
+use crate::object::{NewObject, Object};
+use crate::objects::Objects;
 use crate::reply::{Outcome, Reply};
 use crate::shared::in_turn::InTurn;
 use crate::shared::state::{Held, State, Ticket};
@@ -21,10 +23,7 @@ use crate::shared::transaction::{OwnedTransaction, SharedTransaction};
 use crate::transaction_id::TransactionId;
 use crate::types::calls::Calls;
 use crate::types::Type;
-use crate::wire::child::Link;
-use crate::wire::ending::FileId;
-use crate::wire::past::Past;
-use crate::wire::remote::Remote;
+use crate::wire::remote::{Remote, RemoteState};
 use std::fmt;
 use std::sync::atomic::{AtomicBool, Ordering};
 use std::sync::{Arc, Mutex, MutexGuard};
@@ -40,8 +39,7 @@ use std::sync::{Arc, Mutex, MutexGuard};
 /// [`OpenOptions::open`](crate::OpenOptions::open) waits for it; another process can't open the file yet.
 pub struct SharedStore {
     state: Arc<Mutex<State>>,
-    /// Of each object.
-    types: Vec<Type>,
+    objects: Arc<Objects>,
     remote: Option<Remote>,
     /// The process that opened it.
     origin: Origin,
@@ -70,8 +68,8 @@ pub(crate) enum Lock {
 }
 
 impl SharedStore {
-    /// A store in memory, of an object of each of these types. Its history will have at most `max_events` events; the other
-    /// limits are [`Limits::STANDARD`].
+    /// A store in memory, of these objects. Its history will have at most `max_events` events; the other limits are
+    /// [`Limits::STANDARD`]. An object is given as its type, or as a pair of a name and its type ([`NewObject`]).
     ///
     /// ```
     /// use colock::{Kind, SharedStore, Type};
@@ -94,11 +92,11 @@ impl SharedStore {
     /// # Errors
     ///
     /// As of [`Store::new`](crate::Store::new).
-    pub fn new<'t>(types: impl IntoIterator<Item = &'t Type>, max_events: u64) -> Result<SharedStore, Error> {
-        SharedStore::with_limits(types, Limits::of_events(max_events))
+    pub fn new<'t>(objects: impl IntoIterator<Item = impl Into<NewObject<'t>>>, max_events: u64) -> Result<SharedStore, Error> {
+        SharedStore::with_limits(objects, Limits::of_events(max_events))
     }
 
-    /// A store in memory, of an object of each of these types, with limits of its own.
+    /// A store in memory, of these objects, with limits of its own.
     ///
     /// ```
     /// use colock::{Kind, Limits, SharedStore, Type};
@@ -114,25 +112,25 @@ impl SharedStore {
     /// # Errors
     ///
     /// As of [`Store::with_limits`](crate::Store::with_limits).
-    pub fn with_limits<'t>(types: impl IntoIterator<Item = &'t Type>, limits: Limits) -> Result<SharedStore, Error> {
-        let types: Vec<Type> = types.into_iter().cloned().collect();
-        let store = Store::with_limits(&types, limits)?;
-        let state = State::new(Held::Memory(store), &types, 0);
-        Ok(SharedStore::of(state, types, None))
+    pub fn with_limits<'t>(objects: impl IntoIterator<Item = impl Into<NewObject<'t>>>, limits: Limits) -> Result<SharedStore, Error> {
+        let store = Store::with_limits(objects, limits)?;
+        let objects = Arc::clone(store.objects());
+        Ok(SharedStore::of(Held::Memory(store), objects, 0, None))
     }
 
     /// A store behind a child that was greeted.
-    pub(crate) fn of_remote(state: State, types: Vec<Type>, link: Arc<Link>, past: Past, file: Option<FileId>) -> SharedStore {
-        let store = SharedStore::of(state, types, Some(Remote::new(link, past, file)));
+    pub(crate) fn of_remote(remote_state: RemoteState, types: &[Type], life: u64, remote: Remote) -> SharedStore {
+        let objects = Arc::new(Objects::unnamed(types));
+        let store = SharedStore::of(Held::Remote(remote_state), objects, life, Some(remote));
         if let Some(remote) = &store.remote {
             remote.link.belongs_to(&store.state);
         }
         store
     }
 
-    fn of(state: State, types: Vec<Type>, remote: Option<Remote>) -> SharedStore {
-        let state = Arc::new(Mutex::new(state));
-        SharedStore { state, types, remote, origin: Origin::here(), in_turn: InTurn::default(), is_closed: AtomicBool::new(false) }
+    fn of(held: Held, objects: Arc<Objects>, life: u64, remote: Option<Remote>) -> SharedStore {
+        let state = Arc::new(Mutex::new(State::new(held, Arc::clone(&objects), life)));
+        SharedStore { state, objects, remote, origin: Origin::here(), in_turn: InTurn::default(), is_closed: AtomicBool::new(false) }
     }
 
     /// The lock, where it may be waited for, and the store isn't closed.
@@ -194,10 +192,24 @@ impl SharedStore {
         self.remote.as_ref()
     }
 
+    /// What is known of its objects.
+    pub(crate) fn objects(&self) -> &Objects {
+        &self.objects
+    }
+
     /// The calls of an object.
     #[inline]
     pub(crate) fn calls_at(&self, object: u32) -> Result<&Calls, Error> {
-        calls_at(&self.types, object)
+        self.objects.calls_at(object)
+    }
+
+    /// The number of an object. Over a child no object has a name.
+    #[inline]
+    pub(crate) fn number_of(&self, object: Object<'_>) -> Result<u32, Error> {
+        if let Object::Name(_) = object {
+            self.is_here()?; // in a fork nothing is looked up
+        }
+        self.objects.number_of(object)
     }
 
     /// What was answered to a transaction of this life, with its words.
@@ -306,6 +318,6 @@ impl SharedStore {
 impl fmt::Debug for SharedStore {
     fn fmt(&self, f: &mut fmt::Formatter<'_>) -> fmt::Result {
         let is_in_memory = self.remote.is_none();
-        f.debug_struct("SharedStore").field("objects", &self.types.len()).field("is_in_memory", &is_in_memory).finish_non_exhaustive()
+        f.debug_struct("SharedStore").field("objects", &self.objects.len()).field("is_in_memory", &is_in_memory).finish_non_exhaustive()
     }
 }

@@ -37,6 +37,11 @@ impl Stats {
         Stats { busy: vec![0; objects], ..Stats::default() }
     }
 
+    /// There are so many objects now.
+    pub(crate) fn extend(&mut self, objects: usize) {
+        self.busy.resize(objects, 0);
+    }
+
     pub(crate) fn count_busy(&mut self, object: u32) {
         let place = usize::try_from(object).unwrap_or(usize::MAX);
         if let Some(count) = self.busy.get_mut(place) {

@@ -486,9 +486,9 @@ impl Type {
     /// # let store = Store::new([&Type::counter(5, &[1], Kind::Undo)?], 100)?;
     /// store.begin()?.expect(0, "inc:1", "ok")?;
     /// if let Event::Operation { object, operation, .. } = store.events(1)?[0] {
-    ///     assert_eq!(store.types()[object as usize].in_words(operation)?.to_string(), "inc:1 ok");
+    ///     assert_eq!(store.type_of(object)?.in_words(operation)?.to_string(), "inc:1 ok");
     /// }
-    /// assert_eq!(store.types()[0].in_words(2), Err(Error::NoOperation));
+    /// assert_eq!(store.type_of(0)?.in_words(2), Err(Error::NoOperation));
     /// # Ok::<(), Error>(())
     /// ```
     ///

@@ -197,7 +197,7 @@ fn a_type_is_read() {
 #[test]
 fn stores_are_refused() {
     let counter = Type::read(CTR2, Kind::Undo).unwrap();
-    assert_eq!(Store::new([], 9).err(), Some(Error::NoObjects));
+    assert_eq!(Store::new([&counter; 0], 9).err(), Some(Error::NoObjects));
     for max in [0, 1, 1 << 32, u64::MAX] {
         assert_eq!(Store::new([&counter], max).err(), Some(Error::BadMax));
     }

@@ -112,8 +112,9 @@ fn are_told(store: &SharedStore) -> bool {
     ];
     let done = [is_told(store.begin()), is_told(store.begin_as(1)), is_told(store.transact(|turn| turn.expect(0, "inc:1", "ok")))];
     let in_memory = [is_told(store.forgotten_count()), is_told(store.forget(1)), is_told(store.renew()), is_told(store.abort_all())];
+    let named = [is_told(store.find("a")), is_told(store.kept("a")), is_told(store.extend([&counter()]))];
     let followed = store.follow(&[]).map_err(|followed| followed.error);
-    [&read[..], &done, &in_memory, &[is_told(followed), store.stats().commits == 0]].concat().iter().all(|is_told| *is_told)
+    [&read[..], &done, &in_memory, &named, &[is_told(followed), store.stats().commits == 0]].concat().iter().all(|is_told| *is_told)
 }
 
 #[test]

@@ -42,7 +42,7 @@ fn limits_have_ranges() {
     for limits in [Limits { events: 2, open: 1, objects: 2 }, Limits { events: u32::MAX.into(), open: MOST, objects: MOST }] {
         assert_eq!(refused(limits), (None, None));
     }
-    assert_eq!(Store::with_limits([], Limits { events: 0, open: 0, objects: 0 }).err(), Some(Error::NoObjects));
+    assert_eq!(Store::with_limits([&counter; 0], Limits { events: 0, open: 0, objects: 0 }).err(), Some(Error::NoObjects));
     assert_eq!(Error::BadMax.to_string(), "a limit of the store is out of its range");
 }
 

@@ -189,7 +189,8 @@ fn are_told(store: &SharedStore) -> bool {
     let retry = store.retry(&Retry::default(), |t| t.expect(0, "inc:1", "ok"));
     let done = [store.begin().err(), turn.err(), retry.err()];
     let followed = store.follow(&[]).err().map(|followed| followed.error);
-    let in_memory = [store.forgotten_count().err(), store.forget(1).err(), store.renew().err(), store.abort_all().err(), followed];
+    let extended = store.extend([&counter()]).err();
+    let in_memory = [store.forgotten_count().err(), store.forget(1).err(), store.renew().err(), extended, store.abort_all().err(), followed];
     read.iter().chain(&done).chain(&in_memory).all(|error| *error == told)
 }
 
@@ -464,13 +465,18 @@ fn what_a_child_doesnt_do() {
     );
     let followed = store.follow(&[Event::Begin { worker: 0, transaction: 0 }]).unwrap_err();
     assert_eq!((followed.made, followed.error), (0, Error::InMemoryOnly));
-    assert_eq!(store.begin_as(0).unwrap().begun(), Ok(id("1.0")));
+    assert_eq!((store.extend([&counter()]), store.types().len()), (Err(Error::InMemoryOnly), 1));
+    // nor has an object a name
+    let none = Error::NoObjectNamed("a".to_string());
+    assert_eq!((store.kept("a"), store.find("a"), store.name_of(0)), (Err(none.clone()), Err(none.clone()), None));
+    let mut t = store.begin_as(0).unwrap();
+    assert_eq!((t.call("a", "inc:1"), t.begun()), (Err(none), Ok(id("1.0"))));
 }
 
 #[test]
 fn limits_of_a_store_in_memory() {
     let counter = counter();
-    assert_eq!(SharedStore::new([], 9).err(), Some(Error::NoObjects));
+    assert_eq!(SharedStore::new([&counter; 0], 9).err(), Some(Error::NoObjects));
     assert_eq!(SharedStore::new([&counter], 1).err(), Some(Error::BadMax));
     let store = SharedStore::new([&counter], 3).unwrap();
     let mut t = store.begin().unwrap();

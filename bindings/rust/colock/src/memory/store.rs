@@ -3,12 +3,15 @@ use crate::event::Event;
 use crate::limits::Limits;
 use crate::memory::handle::{done, Handle};
 use crate::memory::transaction::{LeftOpen, Transaction};
+use crate::object::{NewObject, Object, ObjectRef};
+use crate::objects::{Known, Objects};
 use crate::operation_id::OperationId;
 use crate::types::calls::Calls;
 use crate::types::Type;
 use colock_sys as sys;
 use std::fmt;
 use std::sync::atomic::{AtomicU64, Ordering};
+use std::sync::Arc;
 
 /// A store of objects. Where it is dropped, what is open aborts.
 pub struct Store {
@@ -19,6 +22,8 @@ pub struct Store {
     life: u64,
     /// Of each object.
     types: Vec<Type>,
+    /// The same, with their names; a shared store has it too.
+    objects: Arc<Objects>,
 }
 
 /// How many events there were, and how many of them were forgotten.
@@ -33,8 +38,10 @@ fn next_mark() -> u64 {
 }
 
 impl Store {
-    /// A store of an object of each of these types, each in its initial state. Its history will have at most
-    /// `max_events` events, those that were forgotten among them; the other limits are [`Limits::STANDARD`].
+    /// A store of these objects, each in the initial state of its type. Its history will have at most `max_events` events,
+    /// those that were forgotten among them; the other limits are [`Limits::STANDARD`].
+    ///
+    /// An object is given as its type, or as a pair of a name and its type ([`NewObject`]).
     ///
     /// ```
     /// use colock::{Error, Kind, Store, Type};
@@ -44,17 +51,22 @@ impl Store {
     /// let store = Store::new([&counter, &account, &account], 1_000_000)?;
     /// assert_eq!(store.kept(2)?, 0);
     /// assert_eq!(Store::new([&counter], 1).err(), Some(Error::BadMax));
+    ///
+    /// let named = Store::new([("clicks", &counter), ("purse/7", &account)], 1_000_000)?;
+    /// assert_eq!(named.kept("purse/7")?, 0);
+    /// assert_eq!(named.kept("purse/8"), Err(Error::NoObjectNamed("purse/8".into())));
     /// # Ok::<(), Error>(())
     /// ```
     ///
     /// # Errors
     ///
-    /// [`Error::NoObjects`], [`Error::TooManyObjects`], [`Error::BadMax`] or [`Error::NoMemory`].
-    pub fn new<'t>(types: impl IntoIterator<Item = &'t Type>, max_events: u64) -> Result<Store, Error> {
-        Store::with_limits(types, Limits::of_events(max_events))
+    /// [`Error::BadName`], [`Error::NameTaken`], [`Error::NoObjects`], [`Error::TooManyObjects`], [`Error::BadMax`] or
+    /// [`Error::NoMemory`].
+    pub fn new<'t>(objects: impl IntoIterator<Item = impl Into<NewObject<'t>>>, max_events: u64) -> Result<Store, Error> {
+        Store::with_limits(objects, Limits::of_events(max_events))
     }
 
-    /// A store of an object of each of these types, with limits of its own.
+    /// A store of these objects, with limits of its own.
     ///
     /// ```
     /// use colock::{Error, Kind, Limits, Store, Type};
@@ -71,17 +83,14 @@ impl Store {
     /// # Errors
     ///
     /// As of [`Store::new`]; [`Error::BadMax`] where any limit is out of its range.
-    pub fn with_limits<'t>(types: impl IntoIterator<Item = &'t Type>, limits: Limits) -> Result<Store, Error> {
-        // SAFETY: `made` gives a handle of its own.
-        let handle = Handle::made(|handle| unsafe { sys::colock_store_new(handle) }).map_err(|(code, _)| Error::of_code(code))?;
-        let types: Vec<Type> = types.into_iter().cloned().collect();
-        for of in &types {
-            // SAFETY: handles as `Handle::at` says, which are two.
-            done(unsafe { sys::colock_store_add(handle.at(), of.handle().at()) })?;
-        }
+    pub fn with_limits<'t>(objects: impl IntoIterator<Item = impl Into<NewObject<'t>>>, limits: Limits) -> Result<Store, Error> {
+        let first = Objects::none().checked(objects)?;
+        let handle = begun(&first)?;
         // SAFETY: a handle as `Handle::at` says, as in all below.
         done(unsafe { sys::colock_store_open_with(handle.at(), limits.events, limits.open, limits.objects) })?;
-        Ok(Store { handle, mark: next_mark(), life: 0, types })
+        let types = first.iter().map(|known| known.of().clone()).collect();
+        let most = usize::try_from(limits.objects).unwrap_or(usize::MAX);
+        Ok(Store { handle, mark: next_mark(), life: 0, types, objects: Arc::new(Objects::of(first, most)) })
     }
 
     #[inline]
@@ -111,10 +120,71 @@ impl Store {
         &self.types
     }
 
+    /// The type of an object.
+    ///
+    /// ```
+    /// # use colock::{Error, Kind, Store, Type};
+    /// # let store = Store::new([("clicks", &Type::counter(5, &[1], Kind::Undo)?)], 100)?;
+    /// assert_eq!(store.type_of("clicks")?.name(), "counter");
+    /// assert_eq!(store.type_of(1).err(), Some(Error::NoObject));
+    /// # Ok::<(), Error>(())
+    /// ```
+    ///
+    /// # Errors
+    ///
+    /// [`Error::NoObject`] or [`Error::NoObjectNamed`].
+    pub fn type_of(&self, object: impl ObjectRef) -> Result<&Type, Error> {
+        let object = self.number_of(object.as_object())?;
+        self.objects.type_at(object).ok_or(Error::NoObject)
+    }
+
+    /// What is known of its objects.
+    pub(crate) fn objects(&self) -> &Arc<Objects> {
+        &self.objects
+    }
+
     /// The calls of an object.
     #[inline]
     pub(crate) fn calls_at(&self, object: u32) -> Result<&Calls, Error> {
-        calls_at(&self.types, object)
+        let place = usize::try_from(object).unwrap_or(usize::MAX);
+        self.types.get(place).map(Type::calls).ok_or(Error::NoObject)
+    }
+
+    /// The number of an object.
+    #[inline]
+    pub(crate) fn number_of(&self, object: Object<'_>) -> Result<u32, Error> {
+        self.objects.number_of(object)
+    }
+
+    /// The number of the object of this name.
+    ///
+    /// ```
+    /// # use colock::{Error, Kind, Store, Type};
+    /// # let seat = Type::seats(1, Kind::Undo)?;
+    /// let store = Store::new([("A12", &seat), ("A13", &seat)], 100)?;
+    /// assert_eq!(store.find("A13"), Ok(1));
+    /// assert_eq!(store.find("B1"), Err(Error::NoObjectNamed("B1".into())));
+    /// # Ok::<(), Error>(())
+    /// ```
+    ///
+    /// # Errors
+    ///
+    /// [`Error::NoObjectNamed`].
+    pub fn find(&self, name: &str) -> Result<u32, Error> {
+        self.number_of(Object::Name(name))
+    }
+
+    /// The name of an object, where it has one.
+    ///
+    /// ```
+    /// # use colock::{Kind, Store, Type};
+    /// # let seat = Type::seats(1, Kind::Undo)?;
+    /// let store = Store::new([(Some("A12"), &seat), (None, &seat)], 100)?;
+    /// assert_eq!((store.name_of(0), store.name_of(1), store.name_of(2)), (Some("A12"), None, None));
+    /// # Ok::<(), colock::Error>(())
+    /// ```
+    pub fn name_of(&self, object: u32) -> Option<&str> {
+        self.objects.name_at(object)
     }
 
     /// Begins a transaction, as worker 0.
@@ -193,9 +263,9 @@ impl Store {
     ///
     /// # Errors
     ///
-    /// [`Error::NoObject`] or [`Error::NoCall`].
-    pub fn call_number(&self, object: u32, name: &str) -> Result<OperationId, Error> {
-        let mut call = 0;
+    /// [`Error::NoObject`], [`Error::NoObjectNamed`] or [`Error::NoCall`].
+    pub fn call_number(&self, object: impl ObjectRef, name: &str) -> Result<OperationId, Error> {
+        let (object, mut call) = (self.number_of(object.as_object())?, 0);
         // SAFETY: as in `new`; the name is one slice.
         done(unsafe { sys::colock_call_number(self.handle.at(), object, name.as_ptr(), name.len(), &mut call) })?;
         OperationId::try_from(call).map_err(|_| Error::Unknown(call))
@@ -214,9 +284,9 @@ impl Store {
     ///
     /// # Errors
     ///
-    /// [`Error::NoObject`].
-    pub fn kept(&self, object: u32) -> Result<u64, Error> {
-        let mut state = 0;
+    /// [`Error::NoObject`] or [`Error::NoObjectNamed`].
+    pub fn kept(&self, object: impl ObjectRef) -> Result<u64, Error> {
+        let (object, mut state) = (self.number_of(object.as_object())?, 0);
         // SAFETY: as in `new`.
         done(unsafe { sys::colock_kept(self.handle.at(), object, &mut state) })?;
         Ok(state)
@@ -381,17 +451,57 @@ impl Store {
     pub fn renew(&mut self) -> Result<(), Error> {
         // SAFETY: as in `new`.
         done(unsafe { sys::colock_renew(self.handle.at()) })?;
+        self.has_begun_anew();
+        Ok(())
+    }
+
+    fn has_begun_anew(&mut self) {
         self.mark = next_mark();
         self.life += 1;
-        Ok(())
+    }
+
+    /// Begins anew, as [`Store::renew`], with more objects: they come after those that there are, each in the initial state
+    /// of its type. It gives the number of the first of them. They are given as to [`Store::new`].
+    ///
+    /// ```
+    /// # use colock::{Error, Kind, Store, Type};
+    /// # let seat = Type::seats(1, Kind::Undo)?;
+    /// let mut store = Store::new([("A12", &seat)], 100)?;
+    /// let mut transaction = store.begin()?;
+    /// transaction.expect("A12", "hold:1", "ok")?;
+    /// transaction.commit()?;
+    /// assert_eq!(store.extend([("A13", &seat), ("A14", &seat)])?, 1);
+    /// assert_eq!((store.kept("A12")?, store.kept("A14")?, store.event_count()), (1, 0, 0));
+    /// assert_eq!(store.extend([("A13", &seat)]), Err(Error::NameTaken("A13".into())));
+    /// # Ok::<(), Error>(())
+    /// ```
+    ///
+    /// # Errors
+    ///
+    /// [`Error::BadName`], [`Error::NameTaken`], [`Error::StillOpen`] where a transaction was left open,
+    /// [`Error::TooManyObjects`] or [`Error::NoMemory`].
+    pub fn extend<'t>(&mut self, objects: impl IntoIterator<Item = impl Into<NewObject<'t>>>) -> Result<u32, Error> {
+        let added = self.objects.checked(objects)?;
+        let handle = begun(&added)?;
+        let first = u32::try_from(self.types.len()).map_err(|_| Error::TooManyObjects)?;
+        // SAFETY: handles as `Handle::at` says, which are two.
+        done(unsafe { sys::colock_store_extend(self.handle.at(), handle.at()) })?;
+        self.types.extend(added.iter().map(|known| known.of().clone()));
+        self.objects.add(first, added);
+        self.has_begun_anew();
+        Ok(first)
     }
 }
 
-/// The calls of an object, by the types of all objects.
-#[inline]
-pub(crate) fn calls_at(types: &[Type], object: u32) -> Result<&Calls, Error> {
-    let place = usize::try_from(object).unwrap_or(usize::MAX);
-    types.get(place).map(Type::calls).ok_or(Error::NoObject)
+/// The beginning of a store of these objects.
+fn begun(objects: &[Known]) -> Result<Handle, Error> {
+    // SAFETY: `made` gives a handle of its own.
+    let handle = Handle::made(|handle| unsafe { sys::colock_store_new(handle) }).map_err(|(code, _)| Error::of_code(code))?;
+    for known in objects {
+        // SAFETY: handles as `Handle::at` says, which are two.
+        done(unsafe { sys::colock_store_add(handle.at(), known.of().handle().at()) })?;
+    }
+    Ok(handle)
 }
 
 impl fmt::Debug for Store {

@@ -1,6 +1,7 @@
 use crate::error::Error;
 use crate::memory::handle::done;
 use crate::memory::store::Store;
+use crate::object::ObjectRef;
 use crate::operation_id::OperationId;
 use crate::reply::{Outcome, Reply};
 use crate::transaction_id::TransactionId;
@@ -84,10 +85,11 @@ impl<'s> Transaction<'s> {
     ///
     /// # Errors
     ///
-    /// [`Error::NotOpen`] where another [`LeftOpen`] of it ended it, [`Error::NoObject`],
+    /// [`Error::NotOpen`] where another [`LeftOpen`] of it ended it, [`Error::NoObject`], [`Error::NoObjectNamed`],
     /// [`Error::NoCall`], [`Error::HistoryFull`] or [`Error::NoMemory`].
     #[inline]
-    pub fn call(&mut self, object: u32, name: &str) -> Result<Reply, Error> {
+    pub fn call(&mut self, object: impl ObjectRef, name: &str) -> Result<Reply, Error> {
+        let object = self.store.number_of(object.as_object())?;
         let outcome = self.call_in_numbers(object, name)?;
         self.in_words(object, outcome)
     }
@@ -114,7 +116,8 @@ impl<'s> Transaction<'s> {
     ///
     /// As of [`Transaction::call`].
     #[inline]
-    pub fn call_op(&mut self, object: u32, call: impl Into<OperationId>) -> Result<Reply, Error> {
+    pub fn call_op(&mut self, object: impl ObjectRef, call: impl Into<OperationId>) -> Result<Reply, Error> {
+        let object = self.store.number_of(object.as_object())?;
         let outcome = self.call_op_in_numbers(object, call.into())?;
         self.in_words(object, outcome)
     }
@@ -144,7 +147,8 @@ impl<'s> Transaction<'s> {
     /// [`Error::Unexpected`] where it has another reply: the operation was executed all the same, and stays in the
     /// transaction. [`Error::Busy`] or [`Error::Illegal`] where nothing was executed; and as of [`Transaction::call`].
     #[inline]
-    pub fn expect(&mut self, object: u32, call: &str, reply: &str) -> Result<OperationId, Error> {
+    pub fn expect(&mut self, object: impl ObjectRef, call: &str, reply: &str) -> Result<OperationId, Error> {
+        let object = self.store.number_of(object.as_object())?;
         let outcome = self.call_in_numbers(object, call)?;
         self.expected(object, outcome, reply)
     }
@@ -163,7 +167,8 @@ impl<'s> Transaction<'s> {
     ///
     /// As of [`Transaction::expect`].
     #[inline]
-    pub fn expect_op(&mut self, object: u32, call: impl Into<OperationId>, reply: &str) -> Result<OperationId, Error> {
+    pub fn expect_op(&mut self, object: impl ObjectRef, call: impl Into<OperationId>, reply: &str) -> Result<OperationId, Error> {
+        let object = self.store.number_of(object.as_object())?;
         let outcome = self.call_op_in_numbers(object, call.into())?;
         self.expected(object, outcome, reply)
     }
@@ -192,7 +197,8 @@ impl<'s> Transaction<'s> {
     /// # Errors
     ///
     /// As of [`Transaction::call`].
-    pub fn would(&self, object: u32, name: &str) -> Result<Reply, Error> {
+    pub fn would(&self, object: impl ObjectRef, name: &str) -> Result<Reply, Error> {
+        let object = self.store.number_of(object.as_object())?;
         self.in_words(object, self.would_in_numbers(object, name)?)
     }
 
@@ -214,7 +220,8 @@ impl<'s> Transaction<'s> {
     /// # Errors
     ///
     /// As of [`Transaction::call`].
-    pub fn would_op(&self, object: u32, call: impl Into<OperationId>) -> Result<Reply, Error> {
+    pub fn would_op(&self, object: impl ObjectRef, call: impl Into<OperationId>) -> Result<Reply, Error> {
+        let object = self.store.number_of(object.as_object())?;
         self.in_words(object, self.would_op_in_numbers(object, call.into())?)
     }
 

@@ -2,6 +2,7 @@
 
 use crate::error::{Error, NotFollowed};
 use crate::event::Event;
+use crate::object::NewObject;
 use crate::shared::state::State;
 use crate::shared::SharedStore;
 
@@ -86,9 +87,34 @@ impl SharedStore {
     pub fn renew(&self) -> Result<(), Error> {
         let mut guard = self.enter()?;
         guard.memory()?.renew()?;
-        guard.life += 1;
-        guard.all_ended();
+        guard.renewed();
         Ok(())
+    }
+
+    /// Begins anew, as [`SharedStore::renew`], with more objects: they come after those that there are, each in the initial
+    /// state of its type. It gives the number of the first of them. They are given as to [`SharedStore::new`].
+    ///
+    /// ```
+    /// # use colock::{Error, Kind, SharedStore, Type};
+    /// # let seat = Type::seats(1, Kind::Undo)?;
+    /// let store = SharedStore::new([("A12", &seat)], 100)?;
+    /// assert_eq!(store.extend([("A13", &seat), ("A14", &seat)])?, 1);
+    /// store.transact(|turn| turn.expect("A14", "hold:1", "ok"))?;
+    /// assert_eq!((store.kept("A12"), store.kept("A14")), (Ok(0), Ok(1)));
+    /// # Ok::<(), Error>(())
+    /// ```
+    ///
+    /// # Errors
+    ///
+    /// As of [`Store::extend`](crate::Store::extend), and [`Error::InMemoryOnly`].
+    pub fn extend<'t>(&self, objects: impl IntoIterator<Item = impl Into<NewObject<'t>>>) -> Result<u32, Error> {
+        // before the lock is taken, which what gives them may ask for
+        let objects: Vec<NewObject<'t>> = objects.into_iter().map(Into::into).collect();
+        let mut guard = self.enter()?;
+        let first = guard.memory()?.extend(objects)?;
+        guard.stats.extend(self.objects().len());
+        guard.renewed();
+        Ok(first)
     }
 
     /// Aborts each transaction that is open, in ascending order, as the worker that began it. Their owners' next calls fail with

@@ -2,6 +2,7 @@
 
 use crate::error::Error;
 use crate::event::Event;
+use crate::object::{Object, ObjectRef};
 use crate::operation_id::OperationId;
 use crate::shared::SharedStore;
 use crate::stats::Stats;
@@ -13,7 +14,8 @@ use std::sync::atomic::Ordering;
 const MOST_EVENTS: u32 = 65_536;
 
 impl SharedStore {
-    /// The types of its objects, in the order of the objects; of a file those that it has.
+    /// The types of its objects, in the order of the objects; of a file those that it has. Of one object
+    /// [`SharedStore::type_of`] gives it.
     ///
     /// ```
     /// # use colock::{Kind, SharedStore, Type};
@@ -21,8 +23,57 @@ impl SharedStore {
     /// assert_eq!(store.types()[0].name(), "counter");
     /// # Ok::<(), colock::Error>(())
     /// ```
-    pub fn types(&self) -> &[Type] {
-        &self.types
+    pub fn types(&self) -> Vec<Type> {
+        self.objects().types().cloned().collect()
+    }
+
+    /// The type of an object.
+    ///
+    /// ```
+    /// # use colock::{Error, Kind, SharedStore, Type};
+    /// # let store = SharedStore::new([("clicks", &Type::counter(5, &[1], Kind::Undo)?)], 100)?;
+    /// assert_eq!(store.type_of("clicks")?.name(), "counter");
+    /// assert_eq!(store.type_of(1).err(), Some(Error::NoObject));
+    /// # Ok::<(), Error>(())
+    /// ```
+    ///
+    /// # Errors
+    ///
+    /// [`Error::NoObject`] or [`Error::NoObjectNamed`].
+    pub fn type_of(&self, object: impl ObjectRef) -> Result<&Type, Error> {
+        let object = self.number_of(object.as_object())?;
+        self.objects().type_at(object).ok_or(Error::NoObject)
+    }
+
+    /// The number of the object of this name. Over a child no object has a name.
+    ///
+    /// ```
+    /// # use colock::{Error, Kind, SharedStore, Type};
+    /// # let seat = Type::seats(1, Kind::Undo)?;
+    /// let store = SharedStore::new([("A12", &seat), ("A13", &seat)], 100)?;
+    /// assert_eq!(store.find("A13"), Ok(1));
+    /// assert_eq!(store.find("B1"), Err(Error::NoObjectNamed("B1".into())));
+    /// # Ok::<(), Error>(())
+    /// ```
+    ///
+    /// # Errors
+    ///
+    /// [`Error::NoObjectNamed`].
+    pub fn find(&self, name: &str) -> Result<u32, Error> {
+        self.number_of(Object::Name(name))
+    }
+
+    /// The name of an object, where it has one.
+    ///
+    /// ```
+    /// # use colock::{Kind, SharedStore, Type};
+    /// # let seat = Type::seats(1, Kind::Undo)?;
+    /// let store = SharedStore::new([(Some("A12"), &seat), (None, &seat)], 100)?;
+    /// assert_eq!((store.name_of(0), store.name_of(1), store.name_of(2)), (Some("A12"), None, None));
+    /// # Ok::<(), colock::Error>(())
+    /// ```
+    pub fn name_of(&self, object: u32) -> Option<&str> {
+        self.objects().name_at(object)
     }
 
     /// The call of this name at an object, for [`call_op`](crate::SharedTransaction::call_op): the first operation that has it, of `value`
@@ -38,8 +89,9 @@ impl SharedStore {
     ///
     /// # Errors
     ///
-    /// [`Error::NoObject`] or [`Error::NoCall`].
-    pub fn call_number(&self, object: u32, name: &str) -> Result<OperationId, Error> {
+    /// [`Error::NoObject`], [`Error::NoObjectNamed`] or [`Error::NoCall`].
+    pub fn call_number(&self, object: impl ObjectRef, name: &str) -> Result<OperationId, Error> {
+        let object = self.number_of(object.as_object())?;
         self.calls_at(object)?.number(name).ok_or(Error::NoCall)
     }
 
@@ -55,8 +107,9 @@ impl SharedStore {
     ///
     /// # Errors
     ///
-    /// [`Error::NoObject`], and over a child [`Error::ConnectionLost`].
-    pub fn kept(&self, object: u32) -> Result<u64, Error> {
+    /// [`Error::NoObject`] or [`Error::NoObjectNamed`], and over a child [`Error::ConnectionLost`].
+    pub fn kept(&self, object: impl ObjectRef) -> Result<u64, Error> {
+        let object = self.number_of(object.as_object())?;
         match self.remote() {
             None => self.enter()?.memory()?.kept(object),
             Some(remote) => {

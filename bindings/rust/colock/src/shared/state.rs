@@ -3,11 +3,11 @@
 use crate::error::Error;
 use crate::memory::store::Store;
 use crate::memory::transaction::Transaction;
+use crate::objects::Objects;
 use crate::reply::Outcome;
 use crate::shared::calling::would;
 use crate::stats::Stats;
 use crate::transaction_id::TransactionId;
-use crate::types::Type;
 use crate::wait::waiters::{Waiters, Woken};
 use crate::wire::remote::RemoteState;
 use crate::wire::request::Request;
@@ -54,8 +54,14 @@ pub(crate) struct State {
 }
 
 impl State {
-    pub(crate) fn new(held: Held, types: &[Type], life: u64) -> State {
-        State { held, waiters: Waiters::new(types.to_vec()), stats: Stats::new(types.len()), life, ends: 0 }
+    pub(crate) fn new(held: Held, objects: Arc<Objects>, life: u64) -> State {
+        State { held, stats: Stats::new(objects.len()), waiters: Waiters::new(objects), life, ends: 0 }
+    }
+
+    /// The store in memory has begun anew.
+    pub(crate) fn renewed(&mut self) {
+        self.life += 1;
+        self.all_ended();
     }
 
     /// Does what was decided about those that wait. In memory the store is asked for them here, so that nobody is woken who

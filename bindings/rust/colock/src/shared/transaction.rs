@@ -1,5 +1,6 @@
 use crate::error::Error;
 use crate::locks::locked;
+use crate::object::ObjectRef;
 use crate::operation_id::OperationId;
 use crate::reply::{Outcome, Reply};
 use crate::shared::calling::{Call, Question};
@@ -210,9 +211,10 @@ impl<'s> SharedTransaction<'s> {
     ///
     /// # Errors
     ///
-    /// [`Error::NotOpen`], [`Error::NoObject`], [`Error::NoCall`], [`Error::HistoryFull`] or [`Error::NoMemory`]; over
-    /// a child [`Error::EpochEnded`] or [`Error::ConnectionLost`] too.
-    pub fn call(&mut self, object: u32, name: &str) -> Result<Reply, Error> {
+    /// [`Error::NotOpen`], [`Error::NoObject`], [`Error::NoObjectNamed`], [`Error::NoCall`], [`Error::HistoryFull`] or
+    /// [`Error::NoMemory`]; over a child [`Error::EpochEnded`] or [`Error::ConnectionLost`] too.
+    pub fn call(&mut self, object: impl ObjectRef, name: &str) -> Result<Reply, Error> {
+        let object = self.store.number_of(object.as_object())?;
         let outcome = self.called(object, Call::Name(name))?;
         self.in_words(object, outcome)
     }
@@ -230,7 +232,8 @@ impl<'s> SharedTransaction<'s> {
     /// # Errors
     ///
     /// As of [`SharedTransaction::call`].
-    pub fn call_op(&mut self, object: u32, call: impl Into<OperationId>) -> Result<Reply, Error> {
+    pub fn call_op(&mut self, object: impl ObjectRef, call: impl Into<OperationId>) -> Result<Reply, Error> {
+        let object = self.store.number_of(object.as_object())?;
         let outcome = self.called(object, Call::Number(call.into()))?;
         self.in_words(object, outcome)
     }
@@ -299,7 +302,8 @@ impl<'s> SharedTransaction<'s> {
     ///
     /// As of [`SharedTransaction::call`]. [`Error::TimedOut`] where the limit is over: it stays open.
     /// [`Error::Deadlock`] where it waited in a circle and is the youngest there: it has been aborted.
-    pub fn call_within(&mut self, object: u32, name: &str, limit: Duration) -> Result<Reply, Error> {
+    pub fn call_within(&mut self, object: impl ObjectRef, name: &str, limit: Duration) -> Result<Reply, Error> {
+        let object = self.store.number_of(object.as_object())?;
         self.waited(object, Call::Name(name), limit)
     }
 
@@ -319,7 +323,8 @@ impl<'s> SharedTransaction<'s> {
     /// # Errors
     ///
     /// As of [`SharedTransaction::call_within`].
-    pub fn call_op_within(&mut self, object: u32, call: impl Into<OperationId>, limit: Duration) -> Result<Reply, Error> {
+    pub fn call_op_within(&mut self, object: impl ObjectRef, call: impl Into<OperationId>, limit: Duration) -> Result<Reply, Error> {
+        let object = self.store.number_of(object.as_object())?;
         self.waited(object, Call::Number(call.into()), limit)
     }
 
@@ -361,7 +366,8 @@ impl<'s> SharedTransaction<'s> {
     /// [`Error::Unexpected`] where it has another reply: the operation was executed all the same, and stays in the
     /// transaction. [`Error::Busy`] or [`Error::Illegal`] where nothing was executed; and as of
     /// [`SharedTransaction::call`].
-    pub fn expect(&mut self, object: u32, call: &str, reply: &str) -> Result<OperationId, Error> {
+    pub fn expect(&mut self, object: impl ObjectRef, call: &str, reply: &str) -> Result<OperationId, Error> {
+        let object = self.store.number_of(object.as_object())?;
         self.expected(object, Call::Name(call), reply)
     }
 
@@ -378,7 +384,8 @@ impl<'s> SharedTransaction<'s> {
     /// # Errors
     ///
     /// As of [`SharedTransaction::expect`].
-    pub fn expect_op(&mut self, object: u32, call: impl Into<OperationId>, reply: &str) -> Result<OperationId, Error> {
+    pub fn expect_op(&mut self, object: impl ObjectRef, call: impl Into<OperationId>, reply: &str) -> Result<OperationId, Error> {
+        let object = self.store.number_of(object.as_object())?;
         self.expected(object, Call::Number(call.into()), reply)
     }
 
@@ -397,7 +404,7 @@ impl<'s> SharedTransaction<'s> {
     /// # Errors
     ///
     /// As of [`SharedTransaction::expect`] and [`SharedTransaction::call_within`].
-    pub fn expect_within(&mut self, object: u32, call: &str, reply: &str, limit: Duration) -> Result<OperationId, Error> {
+    pub fn expect_within(&mut self, object: impl ObjectRef, call: &str, reply: &str, limit: Duration) -> Result<OperationId, Error> {
         self.call_within(object, call, limit)?.expected(reply)
     }
 
@@ -413,7 +420,8 @@ impl<'s> SharedTransaction<'s> {
     /// # Errors
     ///
     /// As of [`SharedTransaction::call`].
-    pub fn would(&self, object: u32, name: &str) -> Result<Reply, Error> {
+    pub fn would(&self, object: impl ObjectRef, name: &str) -> Result<Reply, Error> {
+        let object = self.store.number_of(object.as_object())?;
         self.asked(object, Call::Name(name))
     }
 
@@ -429,7 +437,8 @@ impl<'s> SharedTransaction<'s> {
     /// # Errors
     ///
     /// As of [`SharedTransaction::call`].
-    pub fn would_op(&self, object: u32, call: impl Into<OperationId>) -> Result<Reply, Error> {
+    pub fn would_op(&self, object: impl ObjectRef, call: impl Into<OperationId>) -> Result<Reply, Error> {
+        let object = self.store.number_of(object.as_object())?;
         self.asked(object, Call::Number(call.into()))
     }
 

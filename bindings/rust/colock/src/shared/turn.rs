@@ -1,4 +1,5 @@
 use crate::error::Error;
+use crate::object::ObjectRef;
 use crate::operation_id::OperationId;
 use crate::reply::{Outcome, Reply};
 use crate::shared::calling::{in_memory, Call, Question};
@@ -195,7 +196,8 @@ impl<'s> Turn<'s> {
     ///
     /// As of [`SharedTransaction::call`](crate::SharedTransaction::call).
     #[inline]
-    pub fn call(&mut self, object: u32, name: &str) -> Result<Reply, Error> {
+    pub fn call(&mut self, object: impl ObjectRef, name: &str) -> Result<Reply, Error> {
+        let object = self.store.number_of(object.as_object())?;
         let outcome = self.called(object, Call::Name(name))?;
         self.store.in_words(object, outcome, self.ticket.id.life)
     }
@@ -215,7 +217,8 @@ impl<'s> Turn<'s> {
     ///
     /// As of [`SharedTransaction::call`](crate::SharedTransaction::call).
     #[inline]
-    pub fn call_op(&mut self, object: u32, call: impl Into<OperationId>) -> Result<Reply, Error> {
+    pub fn call_op(&mut self, object: impl ObjectRef, call: impl Into<OperationId>) -> Result<Reply, Error> {
+        let object = self.store.number_of(object.as_object())?;
         let outcome = self.called(object, Call::Number(call.into()))?;
         self.store.in_words(object, outcome, self.ticket.id.life)
     }
@@ -234,7 +237,8 @@ impl<'s> Turn<'s> {
     ///
     /// As of [`SharedTransaction::expect`](crate::SharedTransaction::expect).
     #[inline]
-    pub fn expect(&mut self, object: u32, call: &str, reply: &str) -> Result<OperationId, Error> {
+    pub fn expect(&mut self, object: impl ObjectRef, call: &str, reply: &str) -> Result<OperationId, Error> {
+        let object = self.store.number_of(object.as_object())?;
         self.expected(object, Call::Name(call), reply)
     }
 
@@ -252,7 +256,8 @@ impl<'s> Turn<'s> {
     ///
     /// As of [`Turn::expect`].
     #[inline]
-    pub fn expect_op(&mut self, object: u32, call: impl Into<OperationId>, reply: &str) -> Result<OperationId, Error> {
+    pub fn expect_op(&mut self, object: impl ObjectRef, call: impl Into<OperationId>, reply: &str) -> Result<OperationId, Error> {
+        let object = self.store.number_of(object.as_object())?;
         self.expected(object, Call::Number(call.into()), reply)
     }
 
@@ -268,7 +273,8 @@ impl<'s> Turn<'s> {
     /// # Errors
     ///
     /// As of [`SharedTransaction::call`](crate::SharedTransaction::call).
-    pub fn would(&mut self, object: u32, name: &str) -> Result<Reply, Error> {
+    pub fn would(&mut self, object: impl ObjectRef, name: &str) -> Result<Reply, Error> {
+        let object = self.store.number_of(object.as_object())?;
         self.asked(object, Call::Name(name))
     }
 
@@ -285,7 +291,8 @@ impl<'s> Turn<'s> {
     /// # Errors
     ///
     /// As of [`SharedTransaction::call`](crate::SharedTransaction::call).
-    pub fn would_op(&mut self, object: u32, call: impl Into<OperationId>) -> Result<Reply, Error> {
+    pub fn would_op(&mut self, object: impl ObjectRef, call: impl Into<OperationId>) -> Result<Reply, Error> {
+        let object = self.store.number_of(object.as_object())?;
         self.asked(object, Call::Number(call.into()))
     }
 

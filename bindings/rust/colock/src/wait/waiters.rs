@@ -1,7 +1,7 @@
 //! The threads that wait at a store, and the engine that says for whom. All of it is under the one lock of a store.
 
+use crate::objects::Objects;
 use crate::operation_id::OperationId;
-use crate::types::Type;
 use colock_waiting::{Age, Asker, Class, Conflicts, Decision, Number, ObjectIndex, OnlookerId, Touched, Verdict, Waiting};
 use std::collections::BTreeMap;
 use std::sync::{Arc, Condvar, OnceLock};
@@ -71,12 +71,11 @@ pub(crate) struct Watch {
 
 /// Which calls of the objects block which.
 #[derive(Debug)]
-struct Blocks(Vec<Type>);
+struct Blocks(Arc<Objects>);
 
 impl Conflicts for Blocks {
     fn blocks(&self, object: ObjectIndex, call: Class, other: Class) -> bool {
-        let of = usize::try_from(object.0).ok().and_then(|place| self.0.get(place));
-        of.is_some_and(|of| of.calls().blocks(OperationId::listed(call.0), OperationId::listed(other.0)))
+        self.0.calls_at(object.0).is_ok_and(|calls| calls.blocks(OperationId::listed(call.0), OperationId::listed(other.0)))
     }
 }
 
@@ -96,8 +95,8 @@ pub(crate) struct Waiters {
 }
 
 impl Waiters {
-    pub(crate) fn new(types: Vec<Type>) -> Waiters {
-        Waiters { waiting: Waiting::new(Blocks(types)), asleep: BTreeMap::new(), watching: BTreeMap::new() }
+    pub(crate) fn new(objects: Arc<Objects>) -> Waiters {
+        Waiters { waiting: Waiting::new(Blocks(objects)), asleep: BTreeMap::new(), watching: BTreeMap::new() }
     }
 
     /// An age, which is greater than those before it.

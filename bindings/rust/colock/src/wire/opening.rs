@@ -1,7 +1,6 @@
 use crate::error::Error;
 use crate::failure::Failure;
 use crate::operation_id::OperationId;
-use crate::shared::state::{Held, State};
 use crate::shared::SharedStore;
 use crate::types::bounds::Bounds;
 use crate::types::{Kind, Type};
@@ -11,7 +10,7 @@ use crate::wire::ending::{wait_for_end, FileId};
 use crate::wire::identity::store_id;
 use crate::wire::past::{Archive, Past};
 use crate::wire::program;
-use crate::wire::remote::RemoteState;
+use crate::wire::remote::{Remote, RemoteState};
 use crate::wire::request::Request;
 use crate::wire::slot::Slot;
 use std::fs;
@@ -22,7 +21,7 @@ use std::sync::Arc;
 use std::time::Duration;
 
 /// The version of what is spoken with a child.
-const VERSION: &str = "3";
+const VERSION: &str = "4";
 
 /// How a store in a file is opened. A child process serves it, the program `colock serve`, in a process group of its
 /// own.
@@ -180,8 +179,8 @@ impl<'t> OpenOptions<'t> {
         }
         let past = Past { greeted: life, found: link.found(), archive };
         let types: Vec<Type> = types.into_iter().cloned().collect();
-        let state = State::new(Held::Remote(RemoteState::new(conversation)), &types, life);
-        Ok(SharedStore::of_remote(state, types, Arc::clone(link), past, FileId::of(path)))
+        let remote = Remote::new(Arc::clone(link), past, FileId::of(path));
+        Ok(SharedStore::of_remote(RemoteState::new(conversation), &types, life, remote))
     }
 }
 
@@ -299,12 +298,12 @@ mod tests {
 
     #[test]
     fn greetings_are_read() {
-        assert_eq!(life_of("colock 3 12"), Ok(12));
-        for other in ["1", "2", "4", "30"] {
-            let told = format!("the program speaks version {other}, and this client version 3");
+        assert_eq!(life_of("colock 4 12"), Ok(12));
+        for other in ["1", "2", "3", "30"] {
+            let told = format!("the program speaks version {other}, and this client version 4");
             assert_eq!(life_of(&format!("colock {other} 12")), Err(Error::CannotOpen(told.into())));
         }
-        for wrong in ["colock 3 x", "hello", "colock", "", "colock 3 1 1"] {
+        for wrong in ["colock 4 x", "hello", "colock", "", "colock 4 1 1"] {
             assert!(matches!(life_of(wrong), Err(Error::CannotOpen(_))), "{wrong}");
         }
     }

@@ -148,7 +148,7 @@ mod tests {
         let (one, _) = pending(Form::One, None);
         assert_eq!((one.own("12 ok 3"), one.own("13 ok"), one.own("12"), one.own("12 ")), (Some("ok 3"), None, None, Some("")));
         let (greeting, _) = pending(Form::Greeting, None);
-        assert_eq!(greeting.own("colock 3 1"), Some("colock 3 1"));
+        assert_eq!(greeting.own("colock 4 1"), Some("colock 4 1"));
     }
 
     #[test]
