@@ -1,4 +1,7 @@
-"""Times of texts and files of many objects, up to the most that there may be: each is to take as long for each object."""
+"""Times of texts and files of many objects, up to the most that there may be: each is to take as long for each object.
+
+And of stores in memory of many objects, and of many transactions that are open at one.
+"""
 import os
 import re
 import subprocess
@@ -94,6 +97,19 @@ def times(colock, rounds, count, folder):
     yield "run, three commands an object", seconds(rounds, [colock, "run", put("a.script", script_of(count)), modulo])
 
 
+def show_memory(folder, rounds):
+    """A commit by how many objects there are, and by how many transactions are open at its object, and at another."""
+    many = programs.library_of_c(folder, "many")
+    files = {"undo": "modulo.type", "intentions": "modulo.type", "escrow": "taken.type"}
+    print(f"{'nanoseconds of a commit, least of':34} {rounds} rounds")
+    for kind, name in files.items():
+        call = "give:1" if kind == "escrow" else "inc:1"
+        told = subprocess.run([many, kind, os.path.join(folder, name), call, str(rounds)], check=True, capture_output=True, text=True).stdout
+        for what, count, *found in map(str.split, told.splitlines()):
+            rest = f"{found[0]:>9} anew {found[1]:>7} ms" if what == "objects" else f"{found[0]:>9} there {found[1]:>7} elsewhere"
+            print(f"{kind + ', ' + what:24}{int(count):>10,}{rest}", flush=True)
+
+
 def main(rounds):
     colock = programs.built("colock")
     found = {}
@@ -106,3 +122,7 @@ def main(rounds):
     for name, row in found.items():
         more = max(after / before for before, after in zip(row, row[1:]))
         print(f"{name:34}" + "".join(f"{1000 * took:9.0f}" for took in row) + f"{more:10.2f}")
+    with tempfile.TemporaryDirectory() as folder:
+        programs.written(folder, "modulo.type", type_texts.modulo())
+        programs.written(folder, "taken.type", "number taken\nmax 4294967295\ninitial 0\ngive 1\nend\n")
+        show_memory(folder, rounds)

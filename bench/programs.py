@@ -48,10 +48,10 @@ def library_of_rust(folder):
     return os.path.join(folder, "target", "release", "library")
 
 
-def library_of_c(folder):
-    """The program of `bench/library.c`."""
-    program = os.path.join(folder, "library_c")
-    subprocess.run(["cc", "-O2", "-Wall", "-Wextra", "-o", program, os.path.join(HERE, "library.c"), f"-I{C}",
+def library_of_c(folder, name="library"):
+    """The program of `bench/library.c`, or of another such file."""
+    program = os.path.join(folder, f"{name}_c")
+    subprocess.run(["cc", "-O2", "-Wall", "-Wextra", "-o", program, os.path.join(HERE, f"{name}.c"), f"-I{C}",
                     os.path.join(library(), "libcolock.a")], check=True)
     return program
 

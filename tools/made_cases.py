@@ -251,10 +251,15 @@ def does(words, out=(), given=()):
     return Step(tuple(words), lines(*given), Expected(lines(*out)), Expected(), 0, words[0] != "serve")
 
 
+def refuses(words, fault):
+    """A command whose words or texts have a fault."""
+    return Step(tuple(words), lines(), Expected(), Expected(lines(f"colock: {fault}")), 2, True)
+
+
 def served(life, *lines_and_answers):
     """Lines that are served in a life, each with its answer."""
     given, told = zip(*((f"a {line}", [f"a {told}" for told in answer]) for line, *answer in lines_and_answers))
-    return does(["serve", "a.db"], [f"colock 3 {life}", *(line for answer in told for line in answer)], given)
+    return does(["serve", "a.db"], [f"colock 4 {life}", *(line for answer in told for line in answer)], given)
 
 
 def file_of_many(count):
@@ -290,9 +295,46 @@ def file_of_far_places():
     return Session("many: a file of 300 types", {"the.objects": text, **COUNTER}, steps)
 
 
+def file_that_grows(count, more):
+    """A file of so many objects, and then of more, up to which they are numbered."""
+    old, new = of_all_kinds(count), of_all_kinds(more)
+    total, every = count + more, [*old, *new]
+    whole = [*sized(total, every), "end"]
+    first = served(1, ("begin", "ok 1.0"), (f"call 1.0 {count - 1} inc:1", "reply ok"), (f"call 1.0 {count} inc:1", "refused NoObject"),
+                   ("commit 1.0", "ok"))
+    second = served(5, (f"kept {count - 1}", "ok 1"), (f"kept {count}", "ok 0"), ("begin", "ok 5.0"),
+                    (f"call 5.0 {total - 1} inc:1", "reply ok"), (f"call 5.0 {total} inc:1", "refused NoObject"), ("commit 5.0", "ok"))
+    steps = (does(["create", "a.db", "the.objects", "ctr2.type"]), first, does(["extend", "a.db", "more.objects", "ctr2.type"]),
+             does(["history", "a.db"], whole), does(["audit", "--database", "a.db"], judged(total, {count - 1: 1})), second,
+             does(["audit", "--database", "a.db"], judged(total, {count - 1: 1, total - 1: 1})))
+    texts = {"the.objects": lines(*sized(count, old), "end"), "more.objects": lines(*sized(more, new), "end")}
+    return Session(f"many: a file of {count} objects, and then of {total}", {**texts, **COUNTER}, steps)
+
+
+def file_that_is_full():
+    """A file of 65,535 objects, which may have one more, and no two more."""
+    some = of_all_kinds(65_535)
+    texts = {"the.objects": lines(*sized(65_535, some), "end"), "one.objects": lines("object undo 0", "end"),
+             "two.objects": lines("object undo 0", "object undo 0", "end")}
+    one = does(["extend", "a.db", "one.objects", "ctr2.type"])
+    steps = (does(["create", "a.db", "the.objects", "ctr2.type"]), refuses(["extend", "a.db", "two.objects", "ctr2.type"], "TooLarge"), one,
+             refuses(["extend", "a.db", "one.objects", "ctr2.type"], "TooLarge"),
+             served(3, ("begin", "ok 3.0"), ("call 3.0 65535 inc:1", "reply ok"), ("call 3.0 65536 inc:1", "refused NoObject")))
+    return Session("many: a file that is full", {**texts, **COUNTER}, steps)
+
+
+def longest_requests():
+    """Lines of requests about as long as they may be."""
+    given = ["A" * 4_095, "\t" * 4_096, "a" * 4_096, "a " + "b" * 4_093, "a " + "b" * 4_094, "a begin"]
+    faults = ["- fault BadTag", "- fault TooLong", "- fault TooLong", "a fault UnknownVerb", "- fault TooLong"]
+    steps = (does(["create", "a.db", "the.objects", "ctr2.type"]), does(["serve", "a.db"], ["colock 4 1", *faults, "a ok 1.0"], given))
+    return Session("longest: requests", {"the.objects": lines("object undo 0", "end"), **COUNTER}, steps)
+
+
 def made_sessions():
     """Commands at a file, one after another."""
-    return [*map(file_of_many, COUNTS), file_of_far_places()]
+    grown = [file_that_grows(*counts) for counts in ((1, 1), (1, 300), (255, 1), (256, 1), (300, 300), (60_000, 5_536))]
+    return [*map(file_of_many, COUNTS), file_of_far_places(), *grown, file_that_is_full(), longest_requests()]
 
 
 # Beside other cases.

@@ -7,7 +7,7 @@ goes through all fronts of what each transaction did, and through all numbers th
 """
 import re
 
-LONGEST, MOST_OPEN, MOST_TOLD = 256, 1024, 65_536
+LONGEST, MOST_OPEN, MOST_TOLD = 4_096, 1024, 65_536
 # How many objects a text may have that doesn't say it.
 FEW = 256
 # What comes after each verb: a transaction, a number or a name.
