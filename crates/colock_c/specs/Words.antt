@@ -34,6 +34,7 @@ fault_number fault.Missing = 8
 fault_number fault.AfterEnd = 9
 fault_number fault.TwiceOp = 10
 fault_number fault.NoMemory = 11
+fault_number fault.TwiceName = 12
 
 -- a text's fault
 abbrev pub fault_words : TextFault → ColockFault

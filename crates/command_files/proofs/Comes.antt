@@ -2,7 +2,7 @@
 use Rattle.std.proofs.Common.{ℕ, List, Option, Result, Ok, Err, refl, inl, inr, ⊎_elim}
 use Rattle.command_files.specs.Answers.{Answers, Comes, ComesOr, Faults, IsEarlyFault}
 use Rattle.command_files.specs.declared.fault.Fault.{Fault}
-use Rattle.command_files.specs.declared.fault.Fault.TheVariants.{Usage, Text, NoType, NeedsEscrow, ObjectNeedsEscrow, OtherObjects, Order, HasEvents, BadParameter, TooLarge, CannotRead, Database, NoStore, NoMemory, Output}
+use Rattle.command_files.specs.declared.fault.Fault.TheVariants.{Usage, Text, NoType, NeedsEscrow, ObjectNeedsEscrow, NameTaken, OtherObjects, Order, HasEvents, BadParameter, TooLarge, CannotRead, Database, NoStore, NoMemory, Output}
 use Rattle.command_files.specs.declared.status.Verdict.{Verdict}
 
 -- of texts that are written as a whole and that may be begun, and of what is amiss
@@ -13,6 +13,7 @@ faults whole whole' begun begun' bad bad' (Text path fault) old new all more wor
 faults whole whole' begun begun' bad bad' (NoType path x place) old new all more worse f = (worse f.0, f.1)
 faults whole whole' begun begun' bad bad' (NeedsEscrow path) old new all more worse f = (worse f.0, f.1)
 faults whole whole' begun begun' bad bad' (ObjectNeedsEscrow path x) old new all more worse f = (worse f.0, f.1)
+faults whole whole' begun begun' bad bad' (NameTaken path x) old new all more worse f = (worse f.0, f.1)
 faults whole whole' begun begun' bad bad' (OtherObjects path first) old new all more worse f = (worse f.0, f.1)
 faults whole whole' begun begun' bad bad' (Order path fault) old new all more worse f = (worse f.0, f.1)
 faults whole whole' begun begun' bad bad' (HasEvents path) old new all more worse f = (worse f.0, f.1)
@@ -51,6 +52,7 @@ refuses whole begun bad bad' old (Text path fault) worse refused = (worse refuse
 refuses whole begun bad bad' old (NoType path x place) worse refused = (worse refused, refl)
 refuses whole begun bad bad' old (NeedsEscrow path) worse refused = (worse refused, refl)
 refuses whole begun bad bad' old (ObjectNeedsEscrow path x) worse refused = (worse refused, refl)
+refuses whole begun bad bad' old (NameTaken path x) worse refused = (worse refused, refl)
 refuses whole begun bad bad' old (OtherObjects path first) worse refused = (worse refused, refl)
 refuses whole begun bad bad' old (Order path fault) worse refused = (worse refused, refl)
 refuses whole begun bad bad' old (HasEvents path) worse refused = (worse refused, refl)
@@ -69,6 +71,7 @@ refused_more bad bad' (Text path fault) worse refused = worse refused
 refused_more bad bad' (NoType path x place) worse refused = worse refused
 refused_more bad bad' (NeedsEscrow path) worse refused = worse refused
 refused_more bad bad' (ObjectNeedsEscrow path x) worse refused = worse refused
+refused_more bad bad' (NameTaken path x) worse refused = worse refused
 refused_more bad bad' (OtherObjects path first) worse refused = worse refused
 refused_more bad bad' (Order path fault) worse refused = worse refused
 refused_more bad bad' (HasEvents path) worse refused = worse refused

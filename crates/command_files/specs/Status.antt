@@ -1,7 +1,7 @@
 -- How the program ends.
 use Rattle.std.specs.Prelude.{ℕ, Bool, true, false}
 use Rattle.command_files.specs.declared.fault.Fault.{Fault}
-use Rattle.command_files.specs.declared.fault.Fault.TheVariants.{Usage, Text, NoType, NeedsEscrow, ObjectNeedsEscrow, OtherObjects, Order, HasEvents, BadParameter, TooLarge, CannotRead, Database, NoStore, NoMemory, Output}
+use Rattle.command_files.specs.declared.fault.Fault.TheVariants.{Usage, Text, NoType, NeedsEscrow, ObjectNeedsEscrow, NameTaken, OtherObjects, Order, HasEvents, BadParameter, TooLarge, CannotRead, Database, NoStore, NoMemory, Output}
 use Rattle.command_files.specs.declared.status.Status.{Status}
 use Rattle.command_files.specs.declared.status.Status.TheVariants.{Yes, No, BadInput, Failed}
 use Rattle.command_files.specs.declared.status.Verdict.{Verdict}
@@ -26,6 +26,7 @@ is_input (Text path fault) = true
 is_input (NoType path x place) = true
 is_input (NeedsEscrow path) = true
 is_input (ObjectNeedsEscrow path x) = true
+is_input (NameTaken path x) = true
 is_input (OtherObjects path first) = true
 is_input (Order path fault) = true
 is_input (HasEvents path) = true

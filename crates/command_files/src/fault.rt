@@ -40,6 +40,11 @@ pub enum Fault<'a> {
         path: &'a str,
         x: usize,
     },
+    /// Object x of the text at a path has a name that an object of the store has.
+    NameTaken {
+        path: &'a str,
+        x: usize,
+    },
     /// The history at a path isn't one of the objects of the first one.
     OtherObjects {
         path: &'a str,
@@ -98,6 +103,7 @@ impl<'a> Fault<'a> {
             | Fault::NoType { .. }
             | Fault::NeedsEscrow { .. }
             | Fault::ObjectNeedsEscrow { .. }
+            | Fault::NameTaken { .. }
             | Fault::OtherObjects { .. }
             | Fault::Order { .. }
             | Fault::HasEvents { .. }
@@ -122,6 +128,9 @@ impl<'a> Fault<'a> {
             }
             Fault::ObjectNeedsEscrow { path, x } => {
                 format!(in alloc; "colock: {path}: object {x}: number needs escrow\n")
+            }
+            Fault::NameTaken { path, x } => {
+                format!(in alloc; "colock: {path}: object {x}: name taken\n")
             }
             Fault::OtherObjects { path, first } => {
                 format!(in alloc; "colock: {path}: not the objects of {first}\n")

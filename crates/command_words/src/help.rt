@@ -504,6 +504,8 @@ What the faults on standard error mean.
       F isn't the place of one of the TYPEs, from 0.
   colock: FILE: number needs escrow, object X: number needs escrow
       A number has no conflict table, so it is for escrow alone.
+  colock: FILE: object X: name taken
+      Of extend: an object of the store has this name.
   colock: FILE: not the objects of HISTORY
       A history after --then has other objects than the first.
   colock: HISTORY: order: T not committed, T twice, T missing
@@ -535,8 +537,9 @@ A text is lines of at most 200 bytes that end in LF. There is no CR, no tab, no
 byte order mark and no letter but those of ASCII. A line that begins with # is a
 comment, also one after end. Words are separated by spaces. A number is 0, or up
 to seven digits without a leading zero, and in a number file up to ten.
-A name is 1 to 32 of a-z, 0-9 and _ : -. A text of a type whose first word is
-number is a number file, and any other a type file.
+A name is 1 to 32 of a-z, 0-9 and _ : -, an object's name 1 to 64 of these, A-Z,
+. and /. A text of a type whose first word is number is a number file, and any
+other a type file.
 
 KIND, by the first test that refuses the line:
   NotAscii       It has a byte that isn't 32 to 126: a CR before the LF, a tab,
@@ -560,6 +563,7 @@ KIND, by the first test that refuses the line:
   OutOfOrder     The numbers of step, reach, equi or conflict, or the amounts of
                  take, give or atleast, don't ascend.
   TwiceOp        An operation with this call and reply came before.
+  TwiceName      An object with this name came before.
   NoMemory       Memory was refused here.
 
 docs/formats.md has an example of each.

@@ -6,7 +6,7 @@ use Rattle.std.specs.Io.KnownBytes.{Appends, append_known}
 use Rattle.command_files.specs.Answers.{ComesOr, IsEarlyFault}
 use Rattle.command_files.specs.Status.{is_input, status_at, status_of}
 use Rattle.command_files.specs.declared.fault.Fault.{Fault}
-use Rattle.command_files.specs.declared.fault.Fault.TheVariants.{Usage, Text, NoType, NeedsEscrow, ObjectNeedsEscrow, OtherObjects, Order, HasEvents, BadParameter, TooLarge, CannotRead, Database, NoStore, NoMemory, Output}
+use Rattle.command_files.specs.declared.fault.Fault.TheVariants.{Usage, Text, NoType, NeedsEscrow, ObjectNeedsEscrow, NameTaken, OtherObjects, Order, HasEvents, BadParameter, TooLarge, CannotRead, Database, NoStore, NoMemory, Output}
 use Rattle.command_files.specs.declared.status.Status.{Status}
 use Rattle.command_files.specs.declared.status.Status.TheVariants.{BadInput, Failed}
 use Rattle.command_files.specs.declared.status.Verdict.{Verdict}
@@ -164,6 +164,7 @@ module _ (old gathered new err new_err : Option (List ℕ)) (status : Status) (n
   amiss_or_failed bad (NoType path x place) refused which = ⊎_elim (λ is. inl (is, refused)) (λ is. inr is) which
   amiss_or_failed bad (NeedsEscrow path) refused which = ⊎_elim (λ is. inl (is, refused)) (λ is. inr is) which
   amiss_or_failed bad (ObjectNeedsEscrow path x) refused which = ⊎_elim (λ is. inl (is, refused)) (λ is. inr is) which
+  amiss_or_failed bad (NameTaken path x) refused which = ⊎_elim (λ is. inl (is, refused)) (λ is. inr is) which
   amiss_or_failed bad (OtherObjects path first) refused which = ⊎_elim (λ is. inl (is, refused)) (λ is. inr is) which
   amiss_or_failed bad (Order path fault) refused which = ⊎_elim (λ is. inl (is, refused)) (λ is. inr is) which
   amiss_or_failed bad (HasEvents path) refused which = ⊎_elim (λ is. inl (is, refused)) (λ is. inr is) which
@@ -244,6 +245,7 @@ module _ (old gathered new err new_err : Option (List ℕ)) (status : Status) (n
     does (Err (NoType path x place)) says c ended = amiss (NoType path x place) refl c ended
     does (Err (NeedsEscrow path)) says c ended = amiss (NeedsEscrow path) refl c ended
     does (Err (ObjectNeedsEscrow path x)) says c ended = amiss (ObjectNeedsEscrow path x) refl c ended
+    does (Err (NameTaken path x)) says c ended = amiss (NameTaken path x) refl c ended
     does (Err (OtherObjects path first)) says c ended = amiss (OtherObjects path first) refl c ended
     does (Err (Order path fault)) says c ended = amiss (Order path fault) refl c ended
     does (Err (HasEvents path)) says c ended = amiss (HasEvents path) refl c ended

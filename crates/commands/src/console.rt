@@ -7,11 +7,13 @@ pub struct Console<W, E> {
     pub err: E,
 }
 
-/// What the program is given beside its words: files, databases, archives, and what a client asks.
+/// What the program is given beside its words: files, databases, archives, what a client asks, and where
+/// objects are read that it asks to be added.
 #[derive(Drop)]
-pub struct Given<S, D, K, I> {
+pub struct Given<S, D, K, N, I> {
     pub source: S,
     pub databases: D,
     pub archives: K,
+    pub additions: N,
     pub input: I,
 }

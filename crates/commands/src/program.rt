@@ -20,6 +20,7 @@ use database_commands::{NewStore, audit_database, create_store, extend_store, te
 use database_files::{Databases, TornWrites};
 use outputs::Out;
 use serve_command::{Archives, Serving, fault_of_archive, serve_database};
+use serving::Additions;
 use std::alloc::Global;
 use std::io::Read;
 use std::rt::Clock;
@@ -39,13 +40,14 @@ pub fn do_words<
     S: Source,
     D: Databases,
     K: Archives,
+    N: Additions,
     I: Read,
     W: Out,
     E: Out,
 >(
     rt: &R,
     words: Result<Vec<String>, Fault<'static>>,
-    given: &mut Given<S, D, K, I>,
+    given: &mut Given<S, D, K, N, I>,
     console: Console<W, E>,
 ) -> (Status, Console<W, E>)
     requires out_takes { W.fault (under console.out) ≡ None }
@@ -68,13 +70,14 @@ fn do_given<
     S: Source,
     D: Databases,
     K: Archives,
+    N: Additions,
     I: Read,
     W: Out,
     E: Out,
 >(
     rt: &R,
     words: &[String],
-    given: &mut Given<S, D, K, I>,
+    given: &mut Given<S, D, K, N, I>,
     console: Console<W, E>,
 ) -> (Status, Console<W, E>)
     requires out_takes { W.fault (under console.out) ≡ None }
@@ -97,13 +100,14 @@ fn do_read<
     S: Source,
     D: Databases,
     K: Archives,
+    N: Additions,
     I: Read,
     W: Out,
     E: Out,
 >(
     rt: &R,
     words: &[&str],
-    given: &mut Given<S, D, K, I>,
+    given: &mut Given<S, D, K, N, I>,
     console: Console<W, E>,
 ) -> (Status, Console<W, E>)
     requires out_takes { W.fault (under console.out) ≡ None }
@@ -160,10 +164,20 @@ fn serving<'a>(path: &'a str, fast: bool, archive: Option<&'a str>, drain: u32) 
 }
 
 /// Serves the store in the database at a path: its client gets the answers from the console's output.
-fn do_serve<'a, R: AllocGlobal + Clock, S, D: Databases, K: Archives, I: Read, W: Out, E: Out>(
+fn do_serve<
+    'a,
+    R: AllocGlobal + Clock,
+    S,
+    D: Databases,
+    K: Archives,
+    N: Additions,
+    I: Read,
+    W: Out,
+    E: Out,
+>(
     rt: &R,
     asked: Serving<'a>,
-    given: &mut Given<S, D, K, I>,
+    given: &mut Given<S, D, K, N, I>,
     console: Console<W, E>,
 ) -> (Result<Verdict, Fault<'a>>, Console<W, E>)
     requires out_takes { W.fault (under console.out) ≡ None }
@@ -189,6 +203,7 @@ fn do_serve<'a, R: AllocGlobal + Clock, S, D: Databases, K: Archives, I: Read, W
         rt.alloc(),
         asked,
         &mut given.databases,
+        &mut given.additions,
         &mut archive,
         &mut given.input,
         out,
@@ -205,13 +220,14 @@ fn do_task<
     S: Source,
     D: Databases,
     K: Archives,
+    N: Additions,
     I: Read,
     W: Out,
     E: Out,
 >(
     rt: &R,
     task: Task<'a>,
-    given: &mut Given<S, D, K, I>,
+    given: &mut Given<S, D, K, N, I>,
     mut console: Console<W, E>,
 ) -> (Result<Verdict, Fault<'a>>, Console<W, E>)
     requires out_takes { W.fault (under console.out) ≡ None }

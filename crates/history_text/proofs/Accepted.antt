@@ -1,7 +1,8 @@
 -- The lines of a canonical text are accepted.
 use Rattle.std.proofs.Common.{◌≡◌, ℕ, ◌+◌, ◌<◌, ◌≤◌, true, false, cond, eqb, leb, List, [], ◌∷◌, ◌++◌, length, map, Option, Some, None, refl, subst, arith, append_assoc}
 use Rattle.std.specs.Prelude.{IfSome}
-use Rattle.std.specs.List.{AllByRecursion}
+use Rattle.std.specs.List.{AllByRecursion, IsDistinct, list_any}
+use Rattle.std.specs.Str.{bytes_eq}
 use Rattle.std.proofs.lemmas.Bool.{and_from, le-leb, lt-ltb, lt-leb}
 use Rattle.std.proofs.lemmas.List.Sums.{sum_by-append, sum_by-cons}
 use Rattle.type_table.proofs.Elements.{each-append, none_any}
@@ -9,14 +10,16 @@ use Rattle.line_text.specs.LineTests.{lacks}
 use Rattle.line_text.specs.Rules.{was_read}
 use Rattle.line_text.specs.Accepted.{HasPassed, IsAccepted}
 use Rattle.object_trait.specs.declared.event.Event.{Event}
-use Rattle.store_text.specs.Body.{store_rules, has_size, rank_of}
+use Rattle.store_text.specs.Body.{store_rules, has_size, rank_of, is_twin}
 use Rattle.store_text.specs.Kept.{size_lines}
+use Rattle.store_text.specs.Named.{names_of}
 use Rattle.store_text.specs.Size.{may_have, IsSize}
 use Rattle.store_text.specs.declared.line.Line.TheVariants.{Objects, End}
 use Rattle.store_text.specs.declared.line.ObjectLine.{ObjectLine}
 use Rattle.history_text.specs.Events.{history_body, line_of, is_in_range}
 use Rattle.history_text.specs.Canonical.{object_line, event_line, canonical_lines, canonical_size, AreInRange}
 use Rattle.history_text.proofs.Follows.{HistoryLine, count, AreUpTo, Follow, follow_append, accepted_with_end, not_late, not_late_single, ascending}
+use Rattle.history_text.proofs.Names.{AreOther, size_other, distinct_first, other_more}
 use Rattle.history_text.proofs.Sizes.{canonical_fits, enough_objects, files_below}
 
 -- one more line after others
@@ -97,26 +100,29 @@ module _ (says : Option ℕ) where
   -- ---- objects
 
   -- an object line passes
-  object_passes : (before : List HistoryLine) (o : ObjectLine) → AreUpTo 2 before → Sized says before → count 2 before < may_have says → o.file < may_have says → HasPassed (store_rules history_body says) before (object_line o)
-  object_passes before o low sized room fit = record {
+  object_passes : (before : List HistoryLine) (o : ObjectLine) → AreUpTo 2 before → Sized says before → count 2 before < may_have says → o.file < may_have says → list_any (is_twin (object_line o)) before ≡ false
+      → HasPassed (store_rules history_body says) before (object_line o)
+  object_passes before o low sized room fit other = record {
     in_order = not_late says before (object_line o) low refl;
     lacks_none = size_there says before sized;
     misses_none = refl;
     in_range = lt-ltb o.file (may_have says) fit;
     has_room = lt-leb (may_have says) (count 2 before) room;
     ascending = ascending says before (object_line o);
-    no_twin = none_any before;
+    no_twin = other;
   }
 
   -- so do all
   objects_follow : (before : List HistoryLine) (objects : List ObjectLine) → AreUpTo 2 before → Sized says before → count 2 before + length objects ≤ may_have says
-      → AllByRecursion (λ (o : ObjectLine). o.file < may_have says) objects → Follow says before (map object_line objects)
-  objects_follow before [] low sized room fit = tt
-  objects_follow before (o ∷ objects) low sized room fit =
+      → AllByRecursion (λ (o : ObjectLine). o.file < may_have says) objects → AreOther before objects → IsDistinct bytes_eq (names_of objects) → Follow says before (map object_line objects)
+  objects_follow before [] low sized room fit other distinct = tt
+  objects_follow before (o ∷ objects) low sized room fit other distinct =
+      let first = distinct_first o objects distinct in
       let next = before ++ object_line o ∷ [] in
       let more : count 2 next ≡ count 2 before + 1 = count-push 2 before (object_line o) in (
-        object_passes before o low sized (omega (arith, room)) fit.0,
-        objects_follow next objects (each-append (λ x. rank_of x ≤ 2) before (object_line o ∷ []) low (omega arith, tt)) (sized_more before (object_line o) sized) (omega (arith, more, room)) fit.1,
+        object_passes before o low sized (omega (arith, room)) fit.0 other.0,
+        objects_follow next objects (each-append (λ x. rank_of x ≤ 2) before (object_line o ∷ []) low (omega arith, tt)) (sized_more before (object_line o) sized) (omega (arith, more, room)) fit.1
+            (other_more before o objects other.1 first.0) first.1,
       )
 
   -- ---- events
@@ -212,8 +218,8 @@ canonical_accepted objects happened h =
     let sized = size_read says in
     let sized_front : has_size says ≡ true → 0 < count 0 (first ++ front) = λ has. omega (arith, sized has, both_counts 0 first front) in
     let sized_all : has_size says ≡ true → 0 < count 0 ((first ++ front) ++ body) = λ has. omega (arith, sized_front has, both_counts 0 (first ++ front) body) in
-    let by_size : Follow says [] first = size_follows says (canonical_fits objects h.objects_fit h.files_fit) in
-    let by_objects : Follow says first front = objects_follow says first objects up_front sized (omega (arith, no_object_in_size says, enough_objects objects)) (files_below objects) in
+    let by_size : Follow says [] first = size_follows says (canonical_fits objects h.some_object h.objects_fit h.files_fit) in
+    let by_objects : Follow says first front = objects_follow says first objects up_front sized (omega (arith, no_object_in_size says, enough_objects objects)) (files_below objects) (size_other says objects) h.named.distinct in
     let by_events : Follow says (first ++ front) body = events_follow says (first ++ front) happened front_low sized_front some (omega (arith, events_in, no_event_in_size says, no_event objects, h.events_fit)) h.numbers_fit in
     let by_end : Follow says ((first ++ front) ++ body) (End ∷ []) = (end_passes says ((first ++ front) ++ body) low sized_all (omega (arith, still, some)), tt) in
     let all : Follow says [] (((first ++ front) ++ body) ++ End ∷ []) = follow_append says [] ((first ++ front) ++ body) (End ∷ []) (follow_append says [] (first ++ front) body (follow_append says [] first front by_size by_objects) by_events) by_end in

@@ -67,6 +67,7 @@ is_fit parts happened same fit = record {
   some_object = fit.some_object;
   objects_fit = fit.objects;
   files_fit = fit.files;
+  named = fit.named;
   events_fit = rw (same, ← length-map parts.entries.items line_of) fit.entries;
   numbers_fit = rw same (events_in_range (may_have parts.size) parts.entries.items fit.in_range);
 }

@@ -2,6 +2,7 @@ pub mod Sizes
 pub mod Skipped
 pub mod Writing
 pub mod Follows
+pub mod Names
 pub mod Accepted
 pub mod Spelled
 pub mod Said

@@ -1,11 +1,11 @@
 -- How many objects a canonical text says that it may have, and how it is found there.
 use Rattle.std.specs.Ordering.{ord_max}
 use Rattle.std.proofs.lemmas.Grind.{common_steps}
-use Rattle.std.proofs.Common.{nat_cmp, ◌≡◌, ℕ, ◌+◌, max, ◌<◌, ◌≤◌, ◌^◌, Bool, true, false, ◌&&◌, cond, ltb, leb, eqb, List, [], ◌∷◌, ◌++◌, length, get_or, take, filter, Some, None, refl, sym, ap, ◌∙◌, arith}
+use Rattle.std.proofs.Common.{nat_cmp, ◌≡◌, ℕ, ◌+◌, max, ◌<◌, ◌≤◌, ◌^◌, Bool, true, false, ◌&&◌, ◌||◌, cond, ltb, leb, eqb, List, [], ◌∷◌, ◌++◌, length, get_or, take, filter, Some, None, refl, sym, ap, ◌∙◌, arith}
 use Rattle.std.specs.Prelude.{codes, slice_get, IfSome}
 use Rattle.std.specs.Fmt.{decimal}
 use Rattle.std.specs.List.{AllByRecursion, slice_split}
-use Rattle.std.proofs.lemmas.Bool.{ltb-true, ltb-false, and_from, le-leb, ne_eqb}
+use Rattle.std.proofs.lemmas.Bool.{ltb-false, and_from, le-leb, ne_eqb}
 use Rattle.std.proofs.lemmas.List.Splits.{slice_split_at, slice_split_none}
 use Rattle.type_table.proofs.Elements.{take-found}
 use Rattle.line_text.specs.Shapes.{is_key}
@@ -16,7 +16,7 @@ use Rattle.line_text.proofs.Words.{content_of-plain}
 use Rattle.line_text.proofs.Spelled.{first_line, no_space, spaced_bytes}
 use Rattle.store_text.specs.Size.{first_words, may_have, words_or, size_in, IsSize}
 use Rattle.store_text.specs.declared.line.ObjectLine.{ObjectLine}
-use Rattle.history_text.specs.Canonical.{places_of, needed_size, canonical_size}
+use Rattle.history_text.specs.Canonical.{places_of, needed_size, canonical_size, have_names}
 
 -- ---- the number
 
@@ -35,11 +35,12 @@ places_next objects i o most new there so_far is = is ∙ ap (λ m. max m (o.fil
 
 -- a text may have as many as are needed
 enough : (objects : List ObjectLine) → needed_size objects ≤ may_have (canonical_size objects)
-enough objects = go (ltb 256 (needed_size objects)) refl
+enough objects = go (ltb 256 (needed_size objects)) (have_names objects) refl
   where
-    go : (more : Bool) → ltb 256 (needed_size objects) ≡ more → needed_size objects ≤ may_have (cond more (Some (needed_size objects)) None)
-    go true e = omega arith
-    go false e = ltb-false 256 (needed_size objects) e
+    go : (more names : Bool) → ltb 256 (needed_size objects) ≡ more → needed_size objects ≤ may_have (cond (more || names) (Some (needed_size objects)) None)
+    go true names e = omega arith
+    go false true e = omega arith
+    go false false e = ltb-false 256 (needed_size objects) e
 
 -- so it may have the objects
 pub enough_objects : (objects : List ObjectLine) → length objects ≤ may_have (canonical_size objects)
@@ -54,16 +55,16 @@ pub files_below : (objects : List ObjectLine) → AllByRecursion (λ (o : Object
 files_below objects = below (may_have (canonical_size objects)) objects (omega (arith, enough objects))
 
 -- the number is one that a text may say
-pub canonical_fits : (objects : List ObjectLine) → length objects ≤ 65536 → AllByRecursion (λ (o : ObjectLine). o.file < 65536) objects → IfSome (canonical_size objects) IsSize
-canonical_fits objects few low = go (ltb 256 (needed_size objects)) refl
+pub canonical_fits : (objects : List ObjectLine) → 0 < length objects → length objects ≤ 65536 → AllByRecursion (λ (o : ObjectLine). o.file < 65536) objects → IfSome (canonical_size objects) IsSize
+canonical_fits objects some few low = go (ltb 256 (needed_size objects) || have_names objects)
   where
     within : (objects : List ObjectLine) → AllByRecursion (λ (o : ObjectLine). o.file < 65536) objects → places_of objects ≤ 65536
     within [] h = omega arith
     within (o ∷ objects) h = omega (arith, h.0, within objects h.1)
 
-    go : (more : Bool) → ltb 256 (needed_size objects) ≡ more → IfSome (cond more (Some (needed_size objects)) None) IsSize
-    go true e = (omega (arith, ltb-true 256 (needed_size objects) e), omega (arith, few, within objects low))
-    go false e = tt
+    go : (said : Bool) → IfSome (cond said (Some (needed_size objects)) None) IsSize
+    go true = (omega (arith, some), omega (arith, few, within objects low))
+    go false = tt
 
 -- ---- the first line
 
@@ -104,6 +105,6 @@ size_said_again numbers n fits =
     rw (read, is) refl
 
 -- those of an `object` line
-pub no_size_said : (kind place : List ℕ) → size_in (codes "object" ∷ kind ∷ place ∷ []) ≡ None
+pub no_size_said : (words : List (List ℕ)) → size_in (codes "object" ∷ words) ≡ None
 unfolding is_key
-no_size_said kind place = refl
+no_size_said words = refl

@@ -1,9 +1,10 @@
 -- The words of a line say it.
-use Rattle.std.proofs.Common.{◌≡◌, ℕ, ◌+◌, ◌*◌, ◌<◌, ◌≤◌, ◌^◌, true, ◌&&◌, leb, List, [], ◌∷◌, ◌++◌, length, map, Option, refl, arith}
+use Rattle.std.proofs.Common.{◌≡◌, ℕ, ◌+◌, ◌*◌, ◌<◌, ◌≤◌, ◌^◌, true, ◌&&◌, leb, List, [], ◌∷◌, ◌++◌, length, map, Option, Some, None, refl, ◌∙◌, arith}
 use Rattle.std.specs.Prelude.{codes}
 use Rattle.std.specs.Fmt.{decimal}
 use Rattle.std.specs.List.{AllByRecursion}
 use Rattle.std.proofs.lemmas.Bool.{leb-true, ltb-true, and_parts}
+use Rattle.type_table.specs.Kind.{kind_of, kind_word}
 use Rattle.type_table.specs.declared.kind.Kind.{Kind}
 use Rattle.type_table.specs.declared.kind.Kind.TheVariants.{Undo, Intentions, Escrow}
 use Rattle.type_table.proofs.Elements.{each-append}
@@ -13,12 +14,13 @@ use Rattle.line_text.specs.Spelling.{spaced, IsWord, Spells, NumberIsReadAgain}
 use Rattle.line_text.proofs.Items.{keyword, length-spaced}
 use Rattle.decimals.proofs.Decimals.{read_long}
 use Rattle.line_text.proofs.Decimals.{long_is_word}
-use Rattle.store_text.specs.Body.{store_rules, has_size, line_of, size_of_words, object_of_words, end_of_words}
+use Rattle.store_text.specs.Body.{store_rules, has_size, line_of, size_of_words, object_of_words, nameless_of_words, named_of_words, object_name_at, end_of_words}
 use Rattle.store_text.specs.declared.line.Line.TheVariants.{Objects, Object, Entry, End}
 use Rattle.history_text.specs.declared.event_line.EventLine.{EventLine}
 use Rattle.history_text.specs.declared.event_line.EventLine.TheVariants.{Begin, Op, OpOf, Busy, Nothing, Commit, Abort, Rollback}
 use Rattle.history_text.specs.Events.{history_body, event_line_of, begin_event_of, op_event_of, counted_of, listed_of, busy_of, nothing_of, commit_event_of, abort_event_of, rollback_event_of, is_in_range, is_worker, is_transaction, is_object, is_operation, is_event_amount}
 use Rattle.history_text.specs.Canonical.{words_of}
+use Rattle.history_text.proofs.Names.{MayHave, name_is_word}
 
 -- ---- ranges
 
@@ -54,30 +56,52 @@ module _ (says : Option ℕ) (numbers : (n : ℕ) → n < 10 ^ 7 → NumberIsRea
   short_long_line w [] n h last = omega (arith, length-spaced w (decimal n) [], last)
   short_long_line w (m ∷ ns) n h last = omega (arith, length-spaced w (decimal m) (map decimal ns ++ decimal n ∷ []), short_long_line (decimal m) ns n h.1 last, (numbers m h.0).short)
 
+  -- the word of a kind
+  kind_is_word : (kind : Kind) → IsWord (kind_word kind) × (length (kind_word kind) ≤ 10)
+  kind_is_word Undo = (keyword (codes "undo") refl refl, omega arith)
+  kind_is_word Intentions = (keyword (codes "intentions") refl refl, omega arith)
+  kind_is_word Escrow = (keyword (codes "escrow") refl refl, omega arith)
+
+  -- is read as the kind
+  kind_again : (kind : Kind) → kind_of (kind_word kind) ≡ Some kind
+  kind_again Undo = refl
+  kind_again Intentions = refl
+  kind_again Escrow = refl
+
+  -- what three words of an `object` line say, and what four do in a text that says its size
+  without_name : (says : Option ℕ) (k f : List ℕ) → object_of_words {A = EventLine} says (codes "object" ∷ k ∷ f ∷ []) ≡ nameless_of_words (codes "object" ∷ k ∷ f ∷ [])
+  unfolding object_of_words
+  without_name None k f = refl
+  without_name (Some n) k f = refl
+
+  with_name : (says : Option ℕ) (k f w : List ℕ) → has_size says ≡ true → object_of_words {A = EventLine} says (codes "object" ∷ k ∷ f ∷ w ∷ []) ≡ named_of_words (codes "object" ∷ k ∷ f ∷ w ∷ [])
+  unfolding object_of_words
+  with_name None k f w has = absurd cc
+  with_name (Some n) k f w has = refl
+
   -- the words of an `object` line
-  object_spells : (kind : Kind) (file : ℕ) → file < 10 ^ 7 → Spells (store_rules history_body says) (Object kind file) (words_of (Object kind file))
-  unfolding line_of object_of_words exactly number_at kind_at is_key
-  object_spells Undo file small = record {
-    some = omega arith;
-    each = (keyword (codes "object") refl refl, (keyword (codes "undo") refl refl, are_words (file ∷ []) (small, tt)));
-    no_comment = λ e. omega (arith, e);
-    short = omega (arith, length-spaced (codes "object") (codes "undo") (decimal file ∷ []), short_line (codes "undo") (file ∷ []) (small, tt));
-    said = rw (numbers file small).read refl;
-  }
-  object_spells Intentions file small = record {
-    some = omega arith;
-    each = (keyword (codes "object") refl refl, (keyword (codes "intentions") refl refl, are_words (file ∷ []) (small, tt)));
-    no_comment = λ e. omega (arith, e);
-    short = omega (arith, length-spaced (codes "object") (codes "intentions") (decimal file ∷ []), short_line (codes "intentions") (file ∷ []) (small, tt));
-    said = rw (numbers file small).read refl;
-  }
-  object_spells Escrow file small = record {
-    some = omega arith;
-    each = (keyword (codes "object") refl refl, (keyword (codes "escrow") refl refl, are_words (file ∷ []) (small, tt)));
-    no_comment = λ e. omega (arith, e);
-    short = omega (arith, length-spaced (codes "object") (codes "escrow") (decimal file ∷ []), short_line (codes "escrow") (file ∷ []) (small, tt));
-    said = rw (numbers file small).read refl;
-  }
+  object_spells : (kind : Kind) (file : ℕ) (name : Option (List ℕ)) → file < 10 ^ 7 → MayHave says name → Spells (store_rules history_body says) (Object kind file name) (words_of (Object kind file name))
+  unfolding line_of nameless_of_words named_of_words object_name_at exactly number_at kind_at is_key
+  object_spells kind file None small may =
+      let word = kind_is_word kind in
+      record {
+        some = omega arith;
+        each = (keyword (codes "object") refl refl, (word.0, are_words (file ∷ []) (small, tt)));
+        no_comment = λ e. omega (arith, e);
+        short = omega (arith, length-spaced (codes "object") (kind_word kind) (decimal file ∷ []), short_line (kind_word kind) (file ∷ []) (small, tt), word.1);
+        said = without_name says (kind_word kind) (decimal file) ∙ rw (kind_again kind, (numbers file small).read) refl;
+      }
+  object_spells kind file (Some w) small may =
+      let word = kind_is_word kind in
+      let name = name_is_word w may.1 in
+      let number = numbers file small in
+      record {
+        some = omega arith;
+        each = (keyword (codes "object") refl refl, (word.0, (number.is_word, (name.0, tt))));
+        no_comment = λ e. omega (arith, e);
+        short = omega (arith, length-spaced (codes "object") (kind_word kind) (decimal file ∷ w ∷ []), length-spaced (kind_word kind) (decimal file) (w ∷ []), length-spaced (decimal file) w [], word.1, number.short, name.1);
+        said = with_name says (kind_word kind) (decimal file) w may.0 ∙ rw (may.1, kind_again kind, number.read) refl;
+      }
 
   -- the words of an `objects` line, in a text that has one
   pub size_spells : (n : ℕ) → n < 10 ^ 7 → has_size says ≡ true → Spells (store_rules history_body says) (Objects n) (words_of (Objects n))
@@ -207,8 +231,8 @@ module _ (says : Option ℕ) (numbers : (n : ℕ) → n < 10 ^ 7 → NumberIsRea
   }
 
   -- the line of an object is said by its words
-  pub object_line_spells : (kind : Kind) (file : ℕ) → file < 65536 → Spells (store_rules history_body says) (Object kind file) (words_of (Object kind file))
-  object_line_spells kind file fit = object_spells kind file (omega (arith, fit))
+  pub object_line_spells : (kind : Kind) (file : ℕ) (name : Option (List ℕ)) → file < 65536 → MayHave says name → Spells (store_rules history_body says) (Object kind file name) (words_of (Object kind file name))
+  object_line_spells kind file name fit may = object_spells kind file name (omega (arith, fit)) may
 
   -- so is that of an event whose numbers are in range
   pub event_line_spells : (objects : ℕ) → objects ≤ 65536 → (x : EventLine) → is_in_range objects x ≡ true → Spells (store_rules history_body says) (Entry x) (words_of (Entry x))

@@ -1,9 +1,9 @@
--- The canonical text of a history: how many objects it may have where these are more than 256, its objects and its events in order, one line for
--- each, and `end`.
-use Rattle.std.specs.Prelude.{◌≡◌, ℕ, ◌+◌, max, nat_lt, ◌<◌, ◌≤◌, true, List, [], ◌∷◌, ◌++◌, filter, length, map, if◌then◌else◌, Option, Some, None, Ok, codes}
+-- The canonical text of a history: how many objects it may have where these are more than 256 or one has a name, its objects and its events in
+-- order, one line for each, and `end`.
+use Rattle.std.specs.Prelude.{◌≡◌, ℕ, ◌+◌, max, nat_lt, ◌<◌, ◌≤◌, Bool, true, ◌||◌, is_some, List, [], ◌∷◌, ◌++◌, filter, length, map, if◌then◌else◌, Option, Some, None, Ok, codes}
 use Rattle.type_table.specs.Limits.{most_events}
 use Rattle.std.specs.Fmt.{decimal}
-use Rattle.std.specs.List.{AllByRecursion}
+use Rattle.std.specs.List.{AllByRecursion, list_any}
 use Rattle.std.specs.Option.{option_to_list}
 use Rattle.type_table.specs.Kind.{kind_word}
 use Rattle.object_trait.specs.declared.event.Event.{Event}
@@ -11,6 +11,7 @@ use Rattle.line_text.specs.Comments.{MaySkip, lines_text, tells}
 use Rattle.line_text.specs.Spelling.{text_of}
 use Rattle.store_text.specs.Body.{store_outcome}
 use Rattle.store_text.specs.Kept.{size_lines}
+use Rattle.store_text.specs.Named.{AreNamed}
 use Rattle.store_text.specs.Parts.{ReadsStoreText}
 use Rattle.store_text.specs.Said.{said_sizes, said_objects, entries_of}
 use Rattle.store_text.specs.Size.{may_have, most_size}
@@ -40,7 +41,7 @@ event_line_words (Rollback w t n) = codes "rollback" ∷ decimal w ∷ decimal t
 abbrev pub words_of : Line EventLine → List (List ℕ)
 words_of (Objects n) = codes "objects" ∷ decimal n ∷ []
 words_of (Max most) = codes "max" ∷ decimal most ∷ []
-words_of (Object kind file) = codes "object" ∷ kind_word kind ∷ decimal file ∷ []
+words_of (Object kind file name) = codes "object" ∷ kind_word kind ∷ decimal file ∷ option_to_list name
 words_of (Entry x) = event_line_words x
 words_of End = codes "end" ∷ []
 
@@ -48,7 +49,7 @@ words_of End = codes "end" ∷ []
 
 -- the line of an object
 abbrev pub object_line : ObjectLine → Line EventLine
-object_line o = Object o.kind o.file
+object_line o = Object o.kind o.file o.name
 
 -- the line of an event
 abbrev pub event_line : Event → Line EventLine
@@ -63,9 +64,13 @@ places_of (o ∷ objects) = max (o.file + 1) (places_of objects)
 abbrev pub needed_size : List ObjectLine → ℕ
 needed_size objects = max (length objects) (places_of objects)
 
--- which is said where it is more than a text may have that doesn't say it
+-- whether an object has a name
+abbrev pub have_names : List ObjectLine → Bool
+have_names objects = list_any (λ (o : ObjectLine). is_some o.name) objects
+
+-- which is said where it is more than a text may have that doesn't say it, or where an object has a name
 abbrev pub canonical_size : List ObjectLine → Option ℕ
-canonical_size objects = if nat_lt (may_have None) (needed_size objects) then Some (needed_size objects) else None
+canonical_size objects = if nat_lt (may_have None) (needed_size objects) || have_names objects then Some (needed_size objects) else None
 
 abbrev pub canonical_lines : List ObjectLine → List Event → List (Line EventLine)
 canonical_lines objects happened = size_lines (canonical_size objects) ++ (map object_line objects ++ (map event_line happened ++ End ∷ []))
@@ -75,11 +80,12 @@ canonical_text objects happened = text_of words_of (canonical_lines objects happ
 
 -- ---- that it is read again
 
--- every number and count is in its range
+-- every number and count is in its range, and no name comes twice
 pub record AreInRange (objects : List ObjectLine) (happened : List Event) : Type 0 where
   pub some_object : 0 < length objects
   pub objects_fit : length objects ≤ most_size
   pub files_fit : AllByRecursion (λ (o : ObjectLine). o.file < most_size) objects
+  pub named : AreNamed objects
   pub events_fit : length happened ≤ most_events
   pub numbers_fit : AllByRecursion (λ e. is_in_range (may_have (canonical_size objects)) (line_of e) ≡ true) happened
 

@@ -1,5 +1,5 @@
 -- Texts of histories whose outcome was worked out by hand.
-use Rattle.std.specs.Prelude.{◌≡◌, ℕ, List, [], ◌∷◌, ◌++◌, slice_set, Some, Ok, Err, codes}
+use Rattle.std.specs.Prelude.{◌≡◌, ℕ, List, [], ◌∷◌, ◌++◌, slice_set, Some, None, Ok, Err, codes}
 use Rattle.std.specs.List.{flat_map}
 use Rattle.type_table.specs.Operation.{operation_at}
 use Rattle.type_table.specs.declared.kind.Kind.TheVariants.{Undo, Intentions}
@@ -36,8 +36,8 @@ two_objects_text =
 -- what its lines say
 abbrev pub history_lines : List (Line EventLine)
 history_lines =
-    Object Undo 0
-    ∷ Object Intentions 255
+    Object Undo 0 None
+    ∷ Object Intentions 255 None
     ∷ Entry (Begin 0 0)
     ∷ Entry (Begin 255 1)
     ∷ Entry (Op 0 0 1 63)
@@ -52,7 +52,7 @@ history_lines =
 
 -- its objects
 abbrev pub some_objects : List ObjectLine
-some_objects = record { kind = Undo; file = 0 } ∷ record { kind = Intentions; file = 255 } ∷ []
+some_objects = record { kind = Undo; file = 0; name = None } ∷ record { kind = Intentions; file = 255; name = None } ∷ []
 
 abbrev at_worker : ℕ → EventKind → Event
 at_worker w kind = record { worker = w; kind = kind }
@@ -101,7 +101,7 @@ sized_history_text =
 
 -- what its lines say
 abbrev pub sized_history_lines : List (Line EventLine)
-sized_history_lines = Objects 300 ∷ Object Undo 299 ∷ Entry (Op 0 0 299 1) ∷ End ∷ []
+sized_history_lines = Objects 300 ∷ Object Undo 299 None ∷ Entry (Op 0 0 299 1) ∷ End ∷ []
 
 -- its text with another line in place of the one at a place, counted from 0
 abbrev pub sized_history_with : ℕ → List ℕ → List (List ℕ)
@@ -116,4 +116,12 @@ text_of_two = codes "objects 1" ∷ codes "object undo 0" ∷ codes "object undo
 
 -- an object of a type at the place 256
 abbrev pub far_objects : List ObjectLine
-far_objects = record { kind = Undo; file = 256 } ∷ record { kind = Undo; file = 0 } ∷ []
+far_objects = record { kind = Undo; file = 256; name = None } ∷ record { kind = Undo; file = 0; name = None } ∷ []
+
+-- two objects, of which one has a name
+abbrev pub named_objects : List ObjectLine
+named_objects = record { kind = Undo; file = 0; name = None } ∷ record { kind = Intentions; file = 1; name = Some (codes "LH-455.A12") } ∷ []
+
+-- their text
+abbrev pub named_history_text : List (List ℕ)
+named_history_text = codes "objects 2" ∷ codes "object undo 0" ∷ codes "object intentions 1 LH-455.A12" ∷ codes "end" ∷ []

@@ -5,6 +5,7 @@ use Rattle.std.specs.Option.{option_to_list}
 use Rattle.type_table.specs.Limits.{most_events}
 use Rattle.store_text.specs.declared.line.Line.{Line}
 use Rattle.store_text.specs.declared.line.ObjectLine.{ObjectLine}
+use Rattle.store_text.specs.Named.{AreNamed}
 use Rattle.store_text.specs.Said.{said_sizes, said_objects, entries_of}
 use Rattle.store_text.specs.Size.{may_have, IsSize}
 use Rattle.history_text.specs.declared.event_line.EventLine.{EventLine}
@@ -23,5 +24,6 @@ pub record IsFitHistory (file : HistoryFile) : Type 0 where
   pub some_object : 0 < length file.objects.items
   pub objects_fit : length file.objects.items ≤ may_have file.size
   pub files_fit : AllByRecursion (λ (o : ObjectLine). o.file < may_have file.size) file.objects.items
+  pub named : AreNamed file.objects.items
   pub events_fit : length file.events.items ≤ most_events
   pub numbers_fit : AllByRecursion (λ e. is_in_range (may_have file.size) (line_of e) ≡ true) file.events.items

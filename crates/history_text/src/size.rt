@@ -1,21 +1,29 @@
 //! How many objects the canonical text of a history says that it may have.
 
 ghost use Rattle.std.specs.Prelude.{◌≡◌};
-ghost use Rattle.history_text.specs.Canonical.{canonical_size, places_of};
+ghost use Rattle.history_text.specs.Canonical.{canonical_size, have_names, places_of};
 
 use store_text::{ObjectLine, may_have};
 
 /// The number of the `objects` line of these objects: how many there are, or one more than the greatest place
-/// of a type, if that is greater. `None` where it is at most 256, so that no such line is needed.
+/// of a type, if that is greater. `None` where it is at most 256 and no object has a name, so that no such line is
+/// needed.
 pub fn canonical_size(objects: &[ObjectLine]) -> Option<usize>
     ensures { result ≡ canonical_size objects.now }
 {
     let needed = objects.len().max(places_of(objects));
-    if needed > may_have(None) as usize {
+    if needed > may_have(None) as usize || have_names(objects) {
         Some(needed)
     } else {
         None
     }
+}
+
+/// Whether an object has a name.
+fn have_names(objects: &[ObjectLine]) -> bool
+    ensures { result ≡ have_names objects.now }
+{
+    objects.iter().any(|object| object.name.is_some())
 }
 
 /// One more than the greatest place of a type.

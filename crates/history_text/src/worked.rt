@@ -2,19 +2,19 @@
 #![tactic(auto)]
 
 ghost use Rattle.std.specs.Prelude.{◌≡◌, [], ◌∷◌, ◌++◌, take, drop, map, replicate, Some, None, codes};
-ghost use Rattle.type_table.specs.declared.kind.Kind.TheVariants.{Undo};
+ghost use Rattle.type_table.specs.declared.kind.Kind.TheVariants.{Undo, Intentions};
 ghost use Rattle.line_text.specs.declared.fault.FaultKind.TheVariants.{UnknownWord, BadNumber, OutOfRange, OutOfOrder, Missing, AfterEnd};
 ghost use Rattle.store_text.specs.declared.line.Line.TheVariants.{Objects, Object, End};
 ghost use Rattle.store_text.specs.Said.{said_objects, entries_of};
 ghost use Rattle.history_text.specs.Events.{event_in_line};
 ghost use Rattle.history_text.specs.Canonical.{canonical_size, canonical_text};
-ghost use Rattle.history_text.specs.Examples.{SaysEvents, RefusesHistory, ended, two_objects_text, history_lines, history_with, some_objects, some_events, sized_history_text, sized_history_lines, sized_history_with, text_of_one, text_of_two, far_objects};
+ghost use Rattle.history_text.specs.Examples.{SaysEvents, RefusesHistory, ended, two_objects_text, history_lines, history_with, some_objects, some_events, sized_history_text, sized_history_lines, sized_history_with, text_of_one, text_of_two, far_objects, named_objects, named_history_text};
 
 pub fn texts_say_their_lines()
     ensures history { SaysEvents two_objects_text history_lines }
     ensures spaced { SaysEvents
         (codes "# note" ∷ codes " object  undo 7" ∷ [] ∷ codes "end" ∷ codes "# kept 0 0" ∷ [])
-        (Object Undo 7 ∷ End ∷ []) }
+        (Object Undo 7 None ∷ End ∷ []) }
 {}
 
 pub fn lines_say_their_history()
@@ -45,10 +45,10 @@ pub fn faults_of_the_history()
 /// A text may say that it may have up to 65,536 objects, by its first line that has words.
 pub fn texts_say_their_size()
     ensures sized { SaysEvents sized_history_text sized_history_lines }
-    ensures one { SaysEvents text_of_one (Objects 1 ∷ Object Undo 0 ∷ End ∷ []) }
+    ensures one { SaysEvents text_of_one (Objects 1 ∷ Object Undo 0 None ∷ End ∷ []) }
     ensures most { SaysEvents
         (codes "objects 65536" ∷ codes "object undo 65535" ∷ codes "end" ∷ [])
-        (Objects 65536 ∷ Object Undo 65535 ∷ End ∷ []) }
+        (Objects 65536 ∷ Object Undo 65535 None ∷ End ∷ []) }
 {}
 
 pub fn faults_of_the_size()
@@ -67,8 +67,15 @@ pub fn faults_of_the_size()
 /// The canonical text says how many objects it may have where there are more than 256, or a type's place is above 255.
 pub fn sizes_are_said_where_they_are_needed()
     ensures few { canonical_size some_objects ≡ None }
-    ensures most { canonical_size (replicate 256 (record { kind = Undo; file = 0 })) ≡ None }
-    ensures more { canonical_size (replicate 257 (record { kind = Undo; file = 0 })) ≡ Some 257 }
+    ensures most { canonical_size (replicate 256 (record { kind = Undo; file = 0; name = None })) ≡ None }
+    ensures more { canonical_size (replicate 257 (record { kind = Undo; file = 0; name = None })) ≡ Some 257 }
     ensures far { canonical_size far_objects ≡ Some 257 }
     ensures text { canonical_text far_objects [] ≡ ended (codes "objects 257" ∷ codes "object undo 256" ∷ codes "object undo 0" ∷ codes "end" ∷ []) }
+{}
+
+/// The canonical text has names, and says how many objects it may have where there is one.
+pub fn names_are_written()
+    ensures size { canonical_size named_objects ≡ Some 2 }
+    ensures text { canonical_text named_objects [] ≡ ended named_history_text }
+    ensures read { SaysEvents named_history_text (Objects 2 ∷ Object Undo 0 None ∷ Object Intentions 1 (Some (codes "LH-455.A12")) ∷ End ∷ []) }
 {}

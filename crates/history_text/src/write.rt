@@ -38,7 +38,8 @@ pub fn write_history<W: Out>(
     put_line(out, b"end", &[])
 }
 
-/// Writes the `objects` line of these objects, where they are more than 256 or a type's place is above 255.
+/// Writes the `objects` line of these objects, where they are more than 256, a type's place is above 255 or one
+/// has a name.
 ///
 /// # Errors
 ///
@@ -93,14 +94,12 @@ pub fn write_object<W: Out>(out: &mut W, object: &ObjectLine) -> Result<(), OutF
     ensures { Puts (W.taken out.old) (W.taken out.new) (W.fault out.new) (spaced (words_of (object_line object.now)) ++ 10 ∷ []) result }
 {
     let mut file = Buffer::new();
-    put_line(
-        out,
-        b"object",
-        &[
-            object.kind.word().as_bytes(),
-            file.format(object.file).as_bytes(),
-        ],
-    )
+    let kind = object.kind.word().as_bytes();
+    let file = file.format(object.file).as_bytes();
+    match object.name {
+        Some(name) => put_line(out, b"object", &[kind, file, name.as_bytes()]),
+        None => put_line(out, b"object", &[kind, file]),
+    }
 }
 
 /// Writes the line of an event. The output is offered it as one piece, or spells it where it keeps its

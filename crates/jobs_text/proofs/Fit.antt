@@ -40,4 +40,5 @@ is_fit workers parts lists fit are =
           let same = ap (λ (ls : List (List Call)). length ls) (are.each w list there) in
           omega (arith, same, length-map list.items (λ (job : Job). job.calls.items), few_jobs w parts.entries.items, fit.entries);
       files_fit = fit.files;
+      named = fit.named;
     }

@@ -1,5 +1,5 @@
 -- Texts of jobs whose outcome was worked out by hand.
-use Rattle.std.specs.Prelude.{◌≡◌, ℕ, List, [], ◌∷◌, ◌++◌, slice_set, Ok, Err, codes}
+use Rattle.std.specs.Prelude.{◌≡◌, ℕ, List, [], ◌∷◌, ◌++◌, slice_set, None, Ok, Err, codes}
 use Rattle.std.specs.List.{flat_map}
 use Rattle.type_table.specs.declared.kind.Kind.TheVariants.{Undo}
 use Rattle.line_text.specs.Outcome.{fault_on}
@@ -33,7 +33,7 @@ job_lines = Job 1 ∷ Do 0 (codes "inc:1") ∷ Do 255 (codes "dec:1") ∷ Job 0 
 abbrev pub jobs_lines : List (Line JobLine)
 jobs_lines =
     Max 1000000
-    ∷ Object Undo 0
+    ∷ Object Undo 0 None
     ∷ Entry (Job 1)
     ∷ Entry (Do 0 (codes "inc:1"))
     ∷ Entry (Do 255 (codes "dec:1"))
@@ -65,7 +65,7 @@ sized_jobs_text = codes "objects 300" ∷ codes "max 20" ∷ codes "object undo 
 
 -- what its lines say
 abbrev pub sized_jobs_lines : List (Line JobLine)
-sized_jobs_lines = Objects 300 ∷ Max 20 ∷ Object Undo 299 ∷ Entry (Job 0) ∷ Entry (Do 299 (codes "inc:1")) ∷ End ∷ []
+sized_jobs_lines = Objects 300 ∷ Max 20 ∷ Object Undo 299 None ∷ Entry (Job 0) ∷ Entry (Do 299 (codes "inc:1")) ∷ End ∷ []
 
 -- it with another line in place of the one at a place, counted from 0
 abbrev pub sized_jobs_with : ℕ → List ℕ → List (List ℕ)

@@ -6,6 +6,7 @@ use Rattle.std.specs.List.{AllByRecursion}
 use Rattle.std.specs.Option.{option_to_list}
 use Rattle.store_text.specs.declared.line.Line.{Line}
 use Rattle.store_text.specs.declared.line.ObjectLine.{ObjectLine}
+use Rattle.store_text.specs.Named.{AreNamed}
 use Rattle.store_text.specs.Said.{said_sizes, said_limits, said_objects, entries_of}
 use Rattle.store_text.specs.Size.{may_have, IsSize}
 use Rattle.jobs_text.specs.declared.job_line.JobLine.{JobLine}
@@ -67,4 +68,5 @@ pub record AreJobsFit (file : JobsFile) : Type 0 where
   pub some_object : 0 < length file.objects.items
   pub objects_fit : length file.objects.items ≤ may_have file.size
   pub files_fit : AllByRecursion (λ (o : ObjectLine). o.file < may_have file.size) file.objects.items
+  pub named : AreNamed file.objects.items
   pub jobs_fit : (w : ℕ) (list : Vec Job Global) → slice_get file.jobs.items w ≡ Some list → length list.items ≤ most_events

@@ -1,7 +1,7 @@
 //! Worked examples of the definitions: each function does nothing, and its contract is the example.
 #![tactic(auto)]
 
-ghost use Rattle.std.specs.Prelude.{◌≡◌, [], ◌∷◌, ◌++◌, take, codes};
+ghost use Rattle.std.specs.Prelude.{◌≡◌, [], ◌∷◌, ◌++◌, take, None, codes};
 ghost use Rattle.type_table.specs.declared.kind.Kind.TheVariants.{Undo};
 ghost use Rattle.line_text.specs.declared.fault.FaultKind.TheVariants.{UnknownWord, BadNumber, OutOfRange, OutOfOrder, Missing, AfterEnd};
 ghost use Rattle.store_text.specs.declared.line.Line.TheVariants.{Max, Object, End};
@@ -14,7 +14,7 @@ pub fn texts_say_their_lines()
     ensures sized { SaysJobs sized_jobs_text sized_jobs_lines }
     ensures spaced { SaysJobs
         (codes "# note" ∷ codes " max  2" ∷ [] ∷ codes "object undo 0" ∷ codes "end" ∷ codes "#" ∷ [])
-        (Max 2 ∷ Object Undo 0 ∷ End ∷ []) }
+        (Max 2 ∷ Object Undo 0 None ∷ End ∷ []) }
 {}
 
 pub fn lines_say_their_jobs()

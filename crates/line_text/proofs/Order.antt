@@ -12,7 +12,7 @@ use Rattle.line_text.specs.Rules.{Rules, count_at, was_read, end_rank, last_item
 use Rattle.line_text.specs.LineTests.{item_fault, is_late, lacks, is_full, is_single, is_needed, ascends, pair_below}
 use Rattle.line_text.specs.Accepted.{IsAccepted, HasPassed, HavePassed, AreAt, HaveNoTwins, HaveRisingRanks, HasKeys, HaveRisingKeys, HaveSinglesOnce, HaveItemOf, HaveNeeded, KeepLimits, HaveOneEnd, HaveSinglesInFront, AreInOrder}
 use Rattle.line_text.specs.declared.fault.FaultKind.{FaultKind}
-use Rattle.line_text.specs.declared.fault.FaultKind.TheVariants.{OutOfOrder, Missing, OutOfRange, TwiceOp}
+use Rattle.line_text.specs.declared.fault.FaultKind.TheVariants.{OutOfOrder, Missing, OutOfRange}
 use Rattle.line_text.specs.declared.section.Section.{Section}
 use Rattle.line_text.proofs.Counts.{count_at_push}
 
@@ -63,7 +63,7 @@ HasPassed-from g before x e =
     let missing = no_kind (lacks g before (g.rank_of x) || g.misses before x) Missing _ late.1 in
     let ranged = no_kind (not (g.is_in_range before x) || is_full (slice_get g.sections (g.rank_of x)) (count_at g before (g.rank_of x))) OutOfRange _ missing.1 in
     let ordered = no_kind (not (ascends g (last_item before) x)) OutOfOrder _ ranged.1 in
-    let twice = no_kind (list_any (g.is_twin x) before) TwiceOp None ordered.1 in
+    let twice = no_kind (list_any (g.is_twin x) before) (g.twin_fault x) None ordered.1 in
     let missed = or_parts (lacks g before (g.rank_of x)) (g.misses before x) missing.0 in
     let outside = or_parts (not (g.is_in_range before x)) (is_full (slice_get g.sections (g.rank_of x)) (count_at g before (g.rank_of x))) ranged.0 in
     record {

@@ -87,6 +87,7 @@ example = record {
   is_in_range = is_in_range;
   key_of = key_of;
   is_twin = is_twin;
+  twin_fault = λ x. TwiceOp;
 }
 
 -- lines that are ended

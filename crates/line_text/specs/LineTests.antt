@@ -6,7 +6,7 @@ use Rattle.type_table.specs.Limits.{longest_line}
 use Rattle.line_text.specs.Text.{TextLine, content_of}
 use Rattle.line_text.specs.Rules.{Rules, items_of, count_at, was_read, end_rank, last_item}
 use Rattle.line_text.specs.declared.fault.FaultKind.{FaultKind}
-use Rattle.line_text.specs.declared.fault.FaultKind.TheVariants.{NotAscii, LineTooLong, Unterminated, OutOfRange, OutOfOrder, Missing, AfterEnd, TwiceOp}
+use Rattle.line_text.specs.declared.fault.FaultKind.TheVariants.{NotAscii, LineTooLong, Unterminated, OutOfRange, OutOfOrder, Missing, AfterEnd}
 use Rattle.line_text.specs.declared.section.Section.{Section}
 
 -- the kind beside the first test that holds
@@ -69,7 +69,7 @@ item_fault g before x =
     ∷ (lacks g before (g.rank_of x) || g.misses before x, Missing)
     ∷ (not (g.is_in_range before x) || is_full (slice_get g.sections (g.rank_of x)) (count_at g before (g.rank_of x)), OutOfRange)
     ∷ (not (ascends g (last_item before) x), OutOfOrder)
-    ∷ (list_any (g.is_twin x) before, TwiceOp)
+    ∷ (list_any (g.is_twin x) before, g.twin_fault x)
     ∷ [])
 
 -- the fault of what the words of a line are: not to be read, or tests 7 to 11

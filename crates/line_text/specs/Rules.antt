@@ -22,6 +22,8 @@ pub record Rules (Item : Type 0) : Type 0 where
   pub key_of : Item → Option (ℕ × ℕ)
   -- whether the first item may not come after the second
   pub is_twin : Item → Item → Bool
+  -- the fault of an item after a twin
+  pub twin_fault : Item → FaultKind
 
 -- the item of a line's words, where there is a word and they say one
 abbrev pub item_in : {Item : Type 0} → Rules Item → List (List ℕ) → Option Item

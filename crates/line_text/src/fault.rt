@@ -26,10 +26,12 @@ pub enum FaultKind {
     Missing = 8,
     /// A line after `end`.
     AfterEnd = 9,
-    /// An entry that came before and may not come twice.
+    /// An operation that came before.
     TwiceOp = 10,
     /// Memory was refused while the line was read.
     NoMemory = 11,
+    /// An object's name that came before.
+    TwiceName = 12,
 }
 
 /// Writes the variant's name.

@@ -89,4 +89,8 @@ pub trait Grammar {
     /// `false` at once.
     fn has_twin(&self, before: &Self::Kept, item: Self::Item) -> bool
         ensures { result ≡ list_any ((rules self.now).is_twin item) (kept before.now) };
+
+    /// The fault of an item that has a twin before it.
+    fn twin_fault(&self, item: Self::Item) -> FaultKind
+        ensures { result ≡ (rules self.now).twin_fault item };
 }

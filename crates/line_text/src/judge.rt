@@ -75,7 +75,7 @@ fn item_fault<G: Grammar>(
         return Some(FaultKind::OutOfOrder);
     }
     if grammar.has_twin(&so_far.kept, item) {
-        return Some(FaultKind::TwiceOp);
+        return Some(grammar.twin_fault(item));
     }
     None
 }

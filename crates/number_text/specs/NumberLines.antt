@@ -5,7 +5,7 @@ use Rattle.std.specs.Str.{bytes_eq}
 use Rattle.line_text.specs.Rules.{Rules}
 use Rattle.line_text.specs.Shapes.{◌>>=◌, word, exactly, name_at, is_key}
 use Rattle.line_text.specs.declared.fault.FaultKind.{FaultKind}
-use Rattle.line_text.specs.declared.fault.FaultKind.TheVariants.{UnknownWord}
+use Rattle.line_text.specs.declared.fault.FaultKind.TheVariants.{UnknownWord, TwiceOp}
 use Rattle.line_text.specs.declared.section.Section.{Section}
 use Rattle.line_text.specs.LongNumbers.{long_number_at}
 use Rattle.number_types.specs.Calls.{most_number, most_calls, call_rank, amount_of, is_within, are_ascending}
@@ -152,6 +152,7 @@ number_rules = record {
   is_in_range = is_in_range;
   key_of = λ x. Some (amount_in x, 0);
   is_twin = λ x y. false;
+  twin_fault = λ x. TwiceOp;
 }
 
 -- ---- lines that describe a number

@@ -122,6 +122,10 @@ impl Grammar for NumberGrammar {
     fn has_twin(&self, _before: &Vec<NumberLine>, _item: NumberLine) -> bool {
         false
     }
+
+    fn twin_fault(&self, _item: NumberLine) -> FaultKind {
+        FaultKind::TwiceOp
+    }
 }
 
 fn call_rank(call: NumberCall) -> usize

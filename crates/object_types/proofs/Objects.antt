@@ -4,7 +4,7 @@ use Rattle.std.specs.Prelude.{slice_get, IfErr}
 use Rattle.std.specs.declared.sync.Arc.{Arc}
 use Rattle.std.specs.Option.{option_map}
 use Rattle.std.proofs.lemmas.List.{length-map}
-use Rattle.std.proofs.lemmas.Option.{slice_get-get_or, slice_get-map, slice_get_read, slice_get_within}
+use Rattle.std.proofs.lemmas.Option.{slice_get-map, slice_get_read, slice_get_within}
 use Rattle.type_table.specs.declared.kind.Kind.{Kind}
 use Rattle.type_table.proofs.Elements.{take-found}
 use Rattle.type_table.specs.declared.kind.Kind.TheVariants.{Escrow}
@@ -14,7 +14,7 @@ use Rattle.declared_types.specs.declared.declared_type.Declaration.TheVariants.{
 use Rattle.table_checker.specs.Checked.{Checked, IsChecked}
 use Rattle.declared_types.specs.Declarations.{number_file}
 use Rattle.store_text.specs.declared.line.ObjectLine.{ObjectLine}
-use Rattle.object_types.specs.Types.{AreTypesOf, HasAcceptedType, IsCheckedFor, IsFaultAt, IsFirstObjectFault, IsRefusedFor, IsTypeOf, value_of}
+use Rattle.object_types.specs.Types.{AreTypesOf, HasAcceptedType, IsCheckedFor, IsFaultAt, IsFirstObjectFault, IsRefusedFor, IsSharedAt, IsTypeOf, value_of}
 use Rattle.object_types.specs.declared.object_fault.ObjectFault.{ObjectFault}
 use Rattle.object_types.specs.declared.object_fault.ObjectFault.TheVariants.{NoType, NeedsEscrow, Refused, NoMemory}
 use Rattle.object_types.proofs.Pairs.{each_has, each_push, one_more}
@@ -31,15 +31,20 @@ types_push declared objects types new i o c there known here is =
     } in
     subst (λ (os : List ObjectLine). AreTypesOf declared os new) (sym (take-found objects i o there)) (subst (AreTypesOf declared (take i objects ++ o ∷ [])) (sym is) grown)
 
--- the type of an object is that of an equal one before it
+-- the type of an object is that of one before it with the same kind and place
 pub shared_type : {A : Type 0} (declared : List Declaration) (before : List ObjectLine) (types : List (Arc Checked A)) (j : ℕ) (o : ObjectLine) (shared a : Arc Checked A)
-    → AreTypesOf declared before (map value_of types) → slice_get before j ≡ Some o → shared ≡ get_or types j shared → value_of a ≡ value_of shared → IsTypeOf declared o (value_of a)
-shared_type {A} declared before types j o shared a known there is same =
-    let in_before : j < length before = slice_get_within before j o there in
+    → AreTypesOf declared before (map value_of types) → IsSharedAt before j o → shared ≡ get_or types j shared → value_of a ≡ value_of shared → IsTypeOf declared o (value_of a)
+shared_type {A} declared before types j o shared a known sharing is same =
+    let in_before : j < length before = slice_get_within before j sharing.other sharing.there in
     let in_types : j < length types = omega (arith, known.as_many, length-map types (value_of {A = A})) in
     let at : slice_get (map value_of types) j ≡ Some (value_of shared) =
     slice_get-map value_of types j ∙ ap (option_map value_of) (slice_get_read types (length types) j shared refl in_types is) in
-    subst (IsTypeOf declared o) (sym same) (known.each j o (value_of shared) there at)
+    let its = known.each j sharing.other (value_of shared) sharing.there at in
+    record {
+      declaration = its.declaration;
+      there = sym (ap (slice_get declared) sharing.file) ∙ its.there;
+      checked = subst (λ (k : Kind). IsCheckedFor k its.declaration (value_of a)) sharing.kind (subst (IsCheckedFor sharing.other.kind its.declaration) (sym same) its.checked);
+    }
 
 -- what was accepted of a copy of a number
 pub number_checked : {A : Type 0} (kind : Kind) (number copy : Number) (checked : Checked) (a : Arc Checked A) → kind ≡ Escrow → copy ≡ number → checked ≡ record { kind = Escrow; file = number_file copy }
@@ -76,9 +81,7 @@ first_fault declared objects x o types NoMemory there known at = tt
 
 -- ---- lines
 
--- a line is another where the kinds and the places are
-pub same_line : (lines : List ObjectLine) (i : ℕ) (d line : ObjectLine) → i < length lines → (get_or lines i d).kind ≡ line.kind → (get_or lines i d).file ≡ line.file
-    → slice_get lines i ≡ Some line
-same_line lines i d line inside kinds places =
-    let same : get_or lines i d ≡ line = ap₂ (λ (k : Kind) (f : ℕ). record { kind = k; file = f }) kinds places in
-    slice_get-get_or lines i d inside ∙ ap Some same
+-- a line shares the type of another where the kinds and the places are the same
+pub same_line : (lines : List ObjectLine) (i : ℕ) (other line : ObjectLine) → i < length lines → other ≡ get_or lines i other → other.kind ≡ line.kind → other.file ≡ line.file
+    → IsSharedAt lines i line
+same_line lines i other line inside is kinds places = record { other = other; there = slice_get_read lines (length lines) i other refl inside is; kind = kinds; file = places }

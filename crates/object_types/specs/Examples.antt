@@ -1,5 +1,5 @@
 -- Objects at two types and at a number, worked by hand.
-use Rattle.std.specs.Prelude.{ℕ, List, [], ◌∷◌}
+use Rattle.std.specs.Prelude.{ℕ, List, [], ◌∷◌, None}
 use Rattle.type_table.specs.declared.kind.Kind.{Kind}
 use Rattle.type_table.specs.declared.kind.Kind.TheVariants.{Undo}
 use Rattle.number_types.specs.Examples.{five}
@@ -18,7 +18,7 @@ with_a_number = Table counter_file ∷ Numbers five ∷ []
 
 -- an object of a kind, of the type at a place
 abbrev pub of_kind : Kind → ℕ → ObjectLine
-of_kind kind place = record { kind = kind; file = place }
+of_kind kind place = record { kind = kind; file = place; name = None }
 
 -- one with update in place
 abbrev pub line_in_place : ℕ → ObjectLine

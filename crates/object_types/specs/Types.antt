@@ -32,6 +32,13 @@ pub record AreTypesOf (declared : List Declaration) (objects : List ObjectLine) 
   pub as_many : length types ≡ length objects
   pub each : (x : ℕ) (o : ObjectLine) (c : Checked) → slice_get objects x ≡ Some o → slice_get types x ≡ Some c → IsTypeOf declared o c
 
+-- a line at a place names the same type as this one, for the same kind; their names may differ
+pub record IsSharedAt (lines : List ObjectLine) (place : ℕ) (line : ObjectLine) : Type 0 where
+  pub other : ObjectLine
+  pub there : slice_get lines place ≡ Some other
+  pub kind : other.kind ≡ line.kind
+  pub file : other.file ≡ line.file
+
 -- ---- objects without types
 
 -- the object's type is accepted

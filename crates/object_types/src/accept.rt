@@ -1,8 +1,8 @@
 //! The checked types of objects, one after another.
 
-ghost use Rattle.std.specs.Prelude.{◌≡◌, true, Some, map, IfOk, IfErr, IfSome, slice_get};
+ghost use Rattle.std.specs.Prelude.{◌≡◌, true, map, IfOk, IfErr, IfSome};
 ghost use Rattle.declared_types.specs.declared.declared_type.Declaration.{Declaration as AnyDeclaration};
-ghost use Rattle.object_types.specs.Types.{AreTypesOf, IsTypeOf, IsFirstObjectFault, HasAcceptedType, IsFaultAt, IsCheckedFor, IsRefusedFor, value_of};
+ghost use Rattle.object_types.specs.Types.{AreTypesOf, IsTypeOf, IsFirstObjectFault, HasAcceptedType, IsFaultAt, IsCheckedFor, IsRefusedFor, IsSharedAt, value_of};
 
 use crate::object_fault::ObjectFault;
 use declared_types::{Declaration, DeclaredType, TypeFile};
@@ -29,7 +29,7 @@ pub fn accept_types(
 {
     let mut types = Vec::new(alloc);
     for (x, object) in objects.iter().enumerate() {
-        let accepted = accept(alloc, declared, &objects[..x], &types, x, *object)?;
+        let accepted = accept(alloc, declared, &objects[..x], &types, x, object)?;
         types.push(accepted)?;
     }
     Ok(types)
@@ -43,11 +43,11 @@ fn accept(
     before: &[ObjectLine],
     types: &Vec<Arc<CheckedType>>,
     x: usize,
-    object: ObjectLine,
+    object: &ObjectLine,
 ) -> Result<Arc<CheckedType>, ObjectFault>
     requires known { AreTypesOf declared.now before.now (map value_of types.now.items) }
-    ensures accepted { IfOk result (λ a. IsTypeOf declared.now object (value_of a)) }
-    ensures refused { IfErr result (IsFaultAt declared.now x object) }
+    ensures accepted { IfOk result (λ a. IsTypeOf declared.now object.now (value_of a)) }
+    ensures refused { IfErr result (IsFaultAt declared.now x object.now) }
 {
     if let Some(other) = place_of(before, object) {
         return Ok(Arc::clone(&types[other])?);
@@ -61,12 +61,13 @@ fn accept(
     }
 }
 
-/// The place of a line among others, looked for from the last: equal lines often follow each other.
-fn place_of(lines: &[ObjectLine], line: ObjectLine) -> Option<usize>
-    ensures { IfSome result (λ place. slice_get lines.now place ≡ Some line) }
+/// The place of a line with the same kind and place among others, looked for from the last: such lines often
+/// follow each other.
+fn place_of(lines: &[ObjectLine], line: &ObjectLine) -> Option<usize>
+    ensures { IfSome result (λ place. IsSharedAt lines.now place line.now) }
 {
     for place in (0..lines.len()).rev() {
-        let other = lines[place];
+        let other = &lines[place];
         if other.kind == line.kind && other.file == line.file {
             return Some(place);
         }

@@ -93,6 +93,7 @@ run-in_range numbers = λ lines objects H told.
       some_object = told.some_object;
       objects_fit = told.objects_fit;
       files_fit = told.files_fit;
+      named = told.named;
       events_fit = told.events_fit;
       numbers_fit = events-in (length H) (length objects) (may_have (canonical_size lines)) told.events_fit (omega (arith, told.as_many, enough_objects lines)) H told.workers_fit low (ops-in objects told.ops_fit [] H told.run);
     }

@@ -1,5 +1,5 @@
 -- Scripts over the counter of two, worked by hand.
-use Rattle.std.specs.Prelude.{ℕ, Bool, false, ◌==◌, List, [], ◌∷◌, ◌++◌, codes}
+use Rattle.std.specs.Prelude.{ℕ, Bool, false, ◌==◌, List, [], ◌∷◌, ◌++◌, None, codes}
 use Rattle.std.specs.List.{flat_map}
 use Rattle.type_table.specs.declared.kind.Kind.TheVariants.{Undo}
 use Rattle.object_trait.specs.Object.{Object}
@@ -15,7 +15,7 @@ abbrev pub one_counter : List Object
 one_counter = undo_counter ∷ []
 
 abbrev pub one_line : List ObjectLine
-one_line = record { kind = Undo; file = 0 } ∷ []
+one_line = record { kind = Undo; file = 0; name = None } ∷ []
 
 -- two transactions count up, one aborts and the other commits; its abort is asked a second time, and a third transaction stays open
 abbrev pub keeps_others : List Command

@@ -14,6 +14,7 @@ use Rattle.serial_order.specs.History.{summary, is_open}
 use Rattle.serial_order.specs.Machine.{IsRun}
 use Rattle.serial_order.specs.Replay.{replay}
 use Rattle.serial_order.specs.declared.command.Command.{Command}
+use Rattle.store_text.specs.Named.{AreNamed}
 use Rattle.store_text.specs.Size.{most_size}
 use Rattle.store_text.specs.declared.line.ObjectLine.{ObjectLine}
 use Rattle.store_text.specs.Body.{store_outcome}
@@ -93,6 +94,7 @@ pub record MayBeTold (lines : List ObjectLine) (objects : List Object) (H : List
   pub some_object : 0 < length lines
   pub objects_fit : length lines ≤ most_size
   pub files_fit : AllByRecursion (λ (o : ObjectLine). o.file < most_size) lines
+  pub named : AreNamed lines
   pub events_fit : length H ≤ most_events
   pub workers_fit : AllByRecursion (λ (e : Event). e.worker ≤ 255) H
 

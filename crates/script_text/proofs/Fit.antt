@@ -17,5 +17,6 @@ is_fit parts cs same fit =
       some_object = fit.some_object;
       objects_fit = fit.objects;
       files_fit = fit.files;
+      named = fit.named;
       commands_fit = rw same fit.entries;
     }

@@ -1,7 +1,7 @@
 -- Texts of scripts whose outcome was worked out by hand.
-use Rattle.std.specs.Prelude.{◌≡◌, ℕ, List, [], ◌∷◌, ◌++◌, slice_set, Ok, Err, codes}
+use Rattle.std.specs.Prelude.{◌≡◌, ℕ, List, [], ◌∷◌, ◌++◌, slice_set, Some, None, Ok, Err, codes}
 use Rattle.std.specs.List.{flat_map}
-use Rattle.type_table.specs.declared.kind.Kind.TheVariants.{Undo, Intentions}
+use Rattle.type_table.specs.declared.kind.Kind.TheVariants.{Undo, Intentions, Escrow}
 use Rattle.line_text.specs.Outcome.{fault_on}
 use Rattle.line_text.specs.declared.fault.FaultKind.{FaultKind}
 use Rattle.serial_order.specs.declared.command.Command.{Command}
@@ -29,8 +29,8 @@ script_text =
 abbrev pub script_lines : List (Line Command)
 script_lines =
     Max 20
-    ∷ Object Undo 0
-    ∷ Object Intentions 1
+    ∷ Object Undo 0 None
+    ∷ Object Intentions 1 None
     ∷ Entry Begin
     ∷ Entry (Call 0 1 (codes "inc:1"))
     ∷ Entry (Rollback 0 1)
@@ -61,8 +61,38 @@ sized_script_text = codes "objects 300" ∷ codes "max 20" ∷ codes "object und
 
 -- what its lines say
 abbrev pub sized_script_lines : List (Line Command)
-sized_script_lines = Objects 300 ∷ Max 20 ∷ Object Undo 299 ∷ Entry Begin ∷ End ∷ []
+sized_script_lines = Objects 300 ∷ Max 20 ∷ Object Undo 299 None ∷ Entry Begin ∷ End ∷ []
 
 -- it with another line in place of the one at a place, counted from 0
 abbrev pub sized_script_with : ℕ → List ℕ → List (List ℕ)
 sized_script_with place line = slice_set sized_script_text place line
+
+-- a script at four objects, of which two have names
+abbrev pub named_script_text : List (List ℕ)
+named_script_text =
+    codes "objects 4"
+    ∷ codes "max 20"
+    ∷ codes "object undo 0 A12"
+    ∷ codes "object undo 0"
+    ∷ codes "object escrow 1 room:7/b"
+    ∷ codes "object undo 0"
+    ∷ codes "begin"
+    ∷ codes "end"
+    ∷ []
+
+-- what its lines say
+abbrev pub named_script_lines : List (Line Command)
+named_script_lines =
+    Objects 4
+    ∷ Max 20
+    ∷ Object Undo 0 (Some (codes "A12"))
+    ∷ Object Undo 0 None
+    ∷ Object Escrow 1 (Some (codes "room:7/b"))
+    ∷ Object Undo 0 None
+    ∷ Entry Begin
+    ∷ End
+    ∷ []
+
+-- it with another line in place of the one at a place, counted from 0
+abbrev pub named_script_with : ℕ → List ℕ → List (List ℕ)
+named_script_with place line = slice_set named_script_text place line

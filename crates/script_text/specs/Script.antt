@@ -6,6 +6,7 @@ use Rattle.type_table.specs.Limits.{most_events}
 use Rattle.serial_order.specs.declared.command.Command.{Command}
 use Rattle.store_text.specs.declared.line.Line.{Line}
 use Rattle.store_text.specs.declared.line.ObjectLine.{ObjectLine}
+use Rattle.store_text.specs.Named.{AreNamed}
 use Rattle.store_text.specs.Said.{said_sizes, said_limits, said_objects, entries_of}
 use Rattle.store_text.specs.Size.{may_have, IsSize}
 use Rattle.script_text.specs.declared.script.Script.{Script}
@@ -25,4 +26,5 @@ pub record IsFit (script : Script) : Type 0 where
   pub some_object : 0 < length script.objects.items
   pub objects_fit : length script.objects.items ≤ may_have script.size
   pub files_fit : AllByRecursion (λ (o : ObjectLine). o.file < may_have script.size) script.objects.items
+  pub named : AreNamed script.objects.items
   pub commands_fit : length script.commands ≤ most_events

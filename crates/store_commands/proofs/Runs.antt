@@ -14,7 +14,7 @@ use Rattle.history_judge.specs.declared.outcome.AuditFault.TheVariants as none
 use Rattle.command_files.specs.Answers.{ComesOr, IsThis}
 use Rattle.command_files.proofs.Comes.{comes_or}
 use Rattle.command_files.specs.declared.fault.Fault.{Fault}
-use Rattle.command_files.specs.declared.fault.Fault.TheVariants.{Usage, Text, NoType, NeedsEscrow, ObjectNeedsEscrow, OtherObjects, Order, HasEvents, BadParameter, TooLarge, CannotRead, Database, NoStore, NoMemory, Output}
+use Rattle.command_files.specs.declared.fault.Fault.TheVariants.{Usage, Text, NoType, NeedsEscrow, ObjectNeedsEscrow, NameTaken, OtherObjects, Order, HasEvents, BadParameter, TooLarge, CannotRead, Database, NoStore, NoMemory, Output}
 use Rattle.command_files.specs.declared.status.Verdict.{Verdict}
 use Rattle.command_files.specs.declared.status.Verdict.TheVariants.{Yes, No}
 use Rattle.store_text.specs.declared.line.ObjectLine.{ObjectLine}
@@ -76,6 +76,7 @@ module _ (script : Script) (types : List Checked) (old : Stored) (before mid aft
   run_audited (Err (NoType path x place)) told = absurd told
   run_audited (Err (NeedsEscrow path)) told = absurd told
   run_audited (Err (ObjectNeedsEscrow path x)) told = absurd told
+  run_audited (Err (NameTaken path x)) told = absurd told
   run_audited (Err (OtherObjects path first)) told = absurd told
   run_audited (Err (Order path fault)) told = absurd told
   run_audited (Err (HasEvents path)) told = absurd told

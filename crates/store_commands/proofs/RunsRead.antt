@@ -99,6 +99,7 @@ module _ (script : Script) (types : List Checked) (text : List ℕ) (fit : IsFit
         some_object = fit.some_object;
         objects_fit = omega (arith, fit.objects_fit, size-within script.size fit.size);
         files_fit = files-within script.size lines fit.size fit.files_fit;
+        named = fit.named;
         events_fit = omega (arith, its.history.room, limit);
         workers_fit = mine;
       })

@@ -21,7 +21,7 @@ use Rattle.store_files.specs.Types.{Held}
 use Rattle.store_commands.specs.StoreAudit.{text_limits}
 use Rattle.store_commands.proofs.Kept.{types_kept}
 use Rattle.command_files.specs.declared.fault.Fault.{Fault}
-use Rattle.command_files.specs.declared.fault.Fault.TheVariants.{Usage, Text, NoType, NeedsEscrow, ObjectNeedsEscrow, OtherObjects, Order, HasEvents, BadParameter, TooLarge, CannotRead, Database, NoStore, NoMemory, Output}
+use Rattle.command_files.specs.declared.fault.Fault.TheVariants.{Usage, Text, NoType, NeedsEscrow, ObjectNeedsEscrow, NameTaken, OtherObjects, Order, HasEvents, BadParameter, TooLarge, CannotRead, Database, NoStore, NoMemory, Output}
 use Rattle.command_files.specs.declared.status.Verdict.{Verdict}
 use Rattle.command_files.specs.declared.status.Verdict.TheVariants.{Yes, No}
 use Rattle.store_commands.specs.Works.{AreJobsAt, BeginsWork, BeginsWorkFile, IsTextOf, IsWholeTextOf, IsWholeWorkText, TellsWork, WorksFile, WorksOf, WritesWorkFile, start_of_work}
@@ -83,6 +83,7 @@ module _ (file : JobsFile) (types : List Checked) (tries : ℕ) (o : Start) (lef
   told (Err (NoType path x place)) old new t = absurd t
   told (Err (NeedsEscrow path)) old new t = absurd t
   told (Err (ObjectNeedsEscrow path x)) old new t = absurd t
+  told (Err (NameTaken path x)) old new t = absurd t
   told (Err (OtherObjects path first)) old new t = absurd t
   told (Err (Order path fault)) old new t = absurd t
   told (Err (HasEvents path)) old new t = absurd t

@@ -98,6 +98,7 @@ module _ (file : JobsFile) (types : List Checked) (tries : ℕ) (text : List ℕ
         some_object = fit.some_object;
         objects_fit = omega (arith, fit.objects_fit, size-within file.size fit.size);
         files_fit = files-within file.size lines fit.size fit.files_fit;
+        named = fit.named;
         events_fit = omega (arith, its.history.room, limit);
         workers_fit = by;
       })

@@ -25,7 +25,7 @@ everywhere text path = Some text
 
 -- the example's script: two objects, of the types at the places 0 and 1
 abbrev pub script_objects : List ObjectLine
-script_objects = record { kind = Undo; file = 0 } ∷ record { kind = Intentions; file = 1 } ∷ []
+script_objects = record { kind = Undo; file = 0; name = None } ∷ record { kind = Intentions; file = 1; name = None } ∷ []
 
 abbrev pub script_commands : List Command
 script_commands = Begin ∷ Call 0 1 (codes "inc:1") ∷ Rollback 0 1 ∷ Commit 0 ∷ Abort 7 ∷ []

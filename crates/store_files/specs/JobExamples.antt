@@ -14,7 +14,7 @@ pub record HasJobs (max : ℕ) (objects : List ObjectLine) (lists : List (List (
 
 -- the example's jobs: one object
 abbrev pub one_object : List ObjectLine
-one_object = record { kind = Undo; file = 0 } ∷ []
+one_object = record { kind = Undo; file = 0; name = None } ∷ []
 
 -- and a job without calls for worker 0, two jobs for worker 1
 abbrev pub both_lists : List (List (List Call))

@@ -36,7 +36,7 @@ module _ {A : Type 0} (b : Body A) (says : Option ℕ) where
   behind_end : (x : Line A) → is_late (store_rules b says) (Some End) x ≡ false → ⊥
   behind_end (Objects n) e = cc
   behind_end (Max most) e = cc
-  behind_end (Object kind file) e = cc
+  behind_end (Object kind file name) e = cc
   behind_end (Entry y) e = cc
   behind_end End e = cc
 
@@ -44,7 +44,7 @@ module _ {A : Type 0} (b : Body A) (says : Option ℕ) where
   behind_entry : (y : A) (x : Line A) → is_late (store_rules b says) (Some (Entry y)) x ≡ false → 3 ≤ rank_of x
   behind_entry y (Objects n) e = absurd cc
   behind_entry y (Max most) e = absurd cc
-  behind_entry y (Object kind file) e = absurd cc
+  behind_entry y (Object kind file name) e = absurd cc
   behind_entry y (Entry z) e = omega arith
   behind_entry y End e = omega arith
 
@@ -52,7 +52,7 @@ module _ {A : Type 0} (b : Body A) (says : Option ℕ) where
   behind_object : (o : ObjectLine) (x : Line A) → is_late (store_rules b says) (Some (line_of_object o)) x ≡ false → 2 ≤ rank_of x
   behind_object o (Objects n) e = absurd cc
   behind_object o (Max most) e = absurd cc
-  behind_object o (Object kind file) e = omega arith
+  behind_object o (Object kind file name) e = omega arith
   behind_object o (Entry z) e = omega arith
   behind_object o End e = omega arith
 
@@ -65,7 +65,7 @@ module _ {A : Type 0} (b : Body A) (says : Option ℕ) where
   behind_max : (most : ℕ) (x : Line A) → is_late (store_rules b says) (Some (Max most)) x ≡ false → 2 ≤ rank_of x
   behind_max most (Objects n) e = absurd cc
   behind_max most (Max other) e = absurd (let clash : true ≡ false = sym (single b.has_max) ∙ e in cc)
-  behind_max most (Object kind file) e = omega arith
+  behind_max most (Object kind file name) e = omega arith
   behind_max most (Entry z) e = omega arith
   behind_max most End e = omega arith
 
@@ -73,7 +73,7 @@ module _ {A : Type 0} (b : Body A) (says : Option ℕ) where
   behind_size : (n : ℕ) (x : Line A) → is_late (store_rules b says) (Some (Objects n)) x ≡ false → 1 ≤ rank_of x
   behind_size n (Objects other) e = absurd (let clash : true ≡ false = sym (single (has_size says)) ∙ e in cc)
   behind_size n (Max most) e = omega arith
-  behind_size n (Object kind file) e = omega arith
+  behind_size n (Object kind file name) e = omega arith
   behind_size n (Entry z) e = omega arith
   behind_size n End e = omega arith
 
@@ -150,10 +150,10 @@ module _ {A : Type 0} (b : Body A) (says size max : Option ℕ) (objects : List 
       let x : Line A = Max most in
       rw (ended_not b says size max objects entries has_ended x late, entries_none b says size max objects entries has_ended x late (omega arith), objects_none b says size max objects entries has_ended x late (omega arith), max_none b says size max objects entries has_ended x late (omega arith)) (simp append-nil)
 
-  pub object_more : (kind : Kind) (file : ℕ) → MayCome (Object kind file)
-      → lines_of_parts size max (objects ++ record { kind = kind; file = file } ∷ []) entries has_ended ≡ lines_of_parts size max objects entries has_ended ++ Object kind file ∷ []
-  object_more kind file late =
-      let x : Line A = Object kind file in
+  pub object_more : (kind : Kind) (file : ℕ) (name : Option (List ℕ)) → MayCome (Object kind file name)
+      → lines_of_parts size max (objects ++ record { kind = kind; file = file; name = name } ∷ []) entries has_ended ≡ lines_of_parts size max objects entries has_ended ++ Object kind file name ∷ []
+  object_more kind file name late =
+      let x : Line A = Object kind file name in
       rw (ended_not b says size max objects entries has_ended x late, entries_none b says size max objects entries has_ended x late (omega arith)) (simp (map-append, append-nil, append_assoc))
 
   pub entry_more : (y : A) → MayCome (Entry y) → lines_of_parts size max objects (entries ++ y ∷ []) has_ended ≡ lines_of_parts size max objects entries has_ended ++ Entry y ∷ []

@@ -1,4 +1,5 @@
 pub mod Sizes
+pub mod Names
 pub mod Keeping
 pub mod Accepted
 pub mod Says

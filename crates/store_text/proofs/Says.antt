@@ -109,7 +109,7 @@ size_count b says (Objects n ∷ lines) =
     let one : count_at (store_rules b says) (Objects n ∷ lines) 0 ≡ 1 + count_at (store_rules b says) lines 0 = sum_by-cons (λ x. cond (eqb (rank_of x) 0) 1 0) (Objects n) lines in
     omega (arith, one, size_count b says lines)
 size_count b says (Max most ∷ lines) = size_count b says lines
-size_count b says (Object kind file ∷ lines) = size_count b says lines
+size_count b says (Object kind file name ∷ lines) = size_count b says lines
 size_count b says (Entry x ∷ lines) = size_count b says lines
 size_count b says (End ∷ lines) = size_count b says lines
 

@@ -1,12 +1,14 @@
 -- The grammar of the texts about a store's objects.
-use Rattle.std.specs.Prelude.{ℕ, Bool, true, false, ◌&&◌, List, [], ◌∷◌, nat_le, nat_lt, ◌==◌, if◌then◌else◌, count_by, Option, Some, None, Result, Ok, codes}
+use Rattle.std.specs.Prelude.{ℕ, Bool, true, false, ◌&&◌, List, [], ◌∷◌, length, nat_le, nat_lt, ◌==◌, if◌then◌else◌, count_by, Option, Some, None, Result, Ok, Err, codes}
 use Rattle.type_table.specs.Limits.{most_events}
 use Rattle.line_text.specs.Outcome.{outcome_of}
 use Rattle.line_text.specs.Rules.{Rules}
-use Rattle.line_text.specs.Shapes.{◌>>=◌, exactly, number_at, kind_at, is_key}
+use Rattle.line_text.specs.Shapes.{◌>>=◌, exactly, number_at, kind_at, is_key, word}
 use Rattle.line_text.specs.declared.fault.FaultKind.{FaultKind}
+use Rattle.line_text.specs.declared.fault.FaultKind.TheVariants.{UnknownWord, TwiceName}
 use Rattle.line_text.specs.declared.fault.TextFault.{TextFault}
 use Rattle.line_text.specs.declared.section.Section.{Section}
+use Rattle.object_name.specs.ObjectName.{is_object_name, is_same_name}
 use Rattle.store_text.specs.Size.{may_have, most_size, text_size}
 use Rattle.store_text.specs.declared.line.Line.{Line}
 use Rattle.store_text.specs.declared.line.Line.TheVariants.{Objects, Max, Object, Entry, End}
@@ -24,6 +26,11 @@ pub record Body (A : Type 0) : Type 0 where
 
 -- ---- what a line says
 
+-- whether a text says how many objects it may have
+abbrev pub has_size : Option ℕ → Bool
+has_size None = false
+has_size (Some n) = true
+
 unfoldable pub size_of_words : {A : Type 0} → List (List ℕ) → Result (Line A) FaultKind
 size_of_words words = do
   done ← exactly words 2
@@ -36,29 +43,41 @@ max_of_words words = do
   most ← number_at words 1
   Ok (Max most)
 
-unfoldable pub object_of_words : {A : Type 0} → List (List ℕ) → Result (Line A) FaultKind
-object_of_words words = do
+-- the name of an object at a place
+unfoldable pub object_name_at : List (List ℕ) → ℕ → Result (List ℕ) FaultKind
+object_name_at words place = if is_object_name (word words place) then Ok (word words place) else Err UnknownWord
+
+-- an object without a name
+unfoldable pub nameless_of_words : {A : Type 0} → List (List ℕ) → Result (Line A) FaultKind
+nameless_of_words words = do
   done ← exactly words 3
   kind ← kind_at words 1
   file ← number_at words 2
-  Ok (Object kind file)
+  Ok (Object kind file None)
+
+-- and one with a name
+unfoldable pub named_of_words : {A : Type 0} → List (List ℕ) → Result (Line A) FaultKind
+named_of_words words = do
+  name ← object_name_at words 3
+  kind ← kind_at words 1
+  file ← number_at words 2
+  Ok (Object kind file (Some name))
+
+-- in a text that says its size an object may have a name
+unfoldable pub object_of_words : {A : Type 0} → Option ℕ → List (List ℕ) → Result (Line A) FaultKind
+object_of_words size words = if has_size size && length words == 4 then named_of_words words else nameless_of_words words
 
 unfoldable pub end_of_words : {A : Type 0} → List (List ℕ) → Result (Line A) FaultKind
 end_of_words words = do
   done ← exactly words 1
   Ok End
 
--- whether a text says how many objects it may have
-abbrev pub has_size : Option ℕ → Bool
-has_size None = false
-has_size (Some n) = true
-
 -- by the keyword
 unfoldable pub line_of : {A : Type 0} → Body A → Option ℕ → List (List ℕ) → Result (Line A) FaultKind
 line_of b size words =
     if is_key words (codes "objects") && has_size size then size_of_words words
     else (if b.has_max && is_key words (codes "max") then max_of_words words
-    else (if is_key words (codes "object") then object_of_words words
+    else (if is_key words (codes "object") then object_of_words size words
     else (if is_key words (codes "end") then end_of_words words
     else (b.entry_of words >>= λ x. Ok (Entry x)))))
 
@@ -84,7 +103,7 @@ end_rank = 4
 abbrev pub rank_of : {A : Type 0} → Line A → ℕ
 rank_of (Objects size) = size_rank
 rank_of (Max most) = max_rank
-rank_of (Object kind file) = object_rank
+rank_of (Object kind file name) = object_rank
 rank_of (Entry x) = entry_rank
 rank_of End = end_rank
 
@@ -117,7 +136,7 @@ sections has_max size = one_line_if (has_size size) ∷ one_line_if has_max ∷ 
 abbrev pub is_in_range : {A : Type 0} → Body A → Option ℕ → Line A → Bool
 is_in_range b size (Objects n) = nat_le 1 n && nat_le n most_size
 is_in_range b size (Max most) = nat_le 2 most && nat_le most most_events
-is_in_range b size (Object kind file) = nat_lt file (may_have size)
+is_in_range b size (Object kind file name) = nat_lt file (may_have size)
 is_in_range b size (Entry x) = b.is_in_range (may_have size) x
 is_in_range b size End = true
 
@@ -125,6 +144,11 @@ is_in_range b size End = true
 abbrev pub misses : {A : Type 0} → Body A → List (Line A) → Line A → Bool
 misses b before (Entry x) = b.wants_another x && count_by (λ y. rank_of y == entry_rank) before == 0
 misses b before _ = false
+
+-- an object has the name of another
+abbrev pub is_twin : {A : Type 0} → Line A → Line A → Bool
+is_twin (Object kind file name) (Object another place second) = is_same_name name second
+is_twin _ _ = false
 
 -- the grammar of a text that says this of the number of its objects
 abbrev pub store_rules : {A : Type 0} → Body A → Option ℕ → Rules (Line A)
@@ -135,7 +159,8 @@ store_rules b size = record {
   misses = misses b;
   is_in_range = λ before x. is_in_range b size x;
   key_of = λ x. None;
-  is_twin = λ x y. false;
+  is_twin = is_twin;
+  twin_fault = λ x. TwiceName;
 }
 
 -- the grammar of a text, which is chosen by its first line that has words

@@ -17,7 +17,7 @@ limit_lines (Some most) = Max most ∷ []
 
 -- the line of an object
 abbrev pub line_of_object : {A : Type 0} → ObjectLine → Line A
-line_of_object o = Object o.kind o.file
+line_of_object o = Object o.kind o.file o.name
 
 -- the line of an entry
 abbrev pub entry_line : {A : Type 0} → A → Line A
@@ -34,7 +34,7 @@ lines_of_parts size max objects entries has_ended = size_lines size ++ (limit_li
 
 -- those of which parts were kept, where what is kept of the entries says them
 abbrev pub kept_store_lines : {K A : Type 0} → (K → List A) → KeptParts K → List (Line A)
-kept_store_lines said kept = lines_of_parts kept.size kept.max kept.objects.items (said kept.entries) kept.has_ended
+kept_store_lines said kept = lines_of_parts kept.size kept.max kept.objects.lines.items (said kept.entries) kept.has_ended
 
 -- the limit, which is 0 where no line says it
 abbrev pub limit_of : Option ℕ → ℕ

@@ -1,3 +1,4 @@
+pub mod Named
 pub mod Size
 pub mod Body
 pub mod Said

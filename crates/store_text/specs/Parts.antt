@@ -12,6 +12,7 @@ use Rattle.store_text.specs.declared.line.ObjectLine.{ObjectLine}
 use Rattle.store_text.specs.declared.parts.Parts.{Parts}
 use Rattle.store_text.specs.Body.{Body, rules_for, store_outcome}
 use Rattle.store_text.specs.Said.{said_sizes, said_limits, said_objects, entries_of}
+use Rattle.store_text.specs.Named.{AreNamed}
 use Rattle.store_text.specs.Size.{may_have, IsSize}
 
 -- the parts are what the lines say, where what is kept of the entries says them
@@ -28,6 +29,7 @@ pub record AreFit {K A : Type 0} (b : Body A) (said : K → List A) (parts : Par
   pub some_object : 0 < length parts.objects.items
   pub objects : length parts.objects.items ≤ may_have parts.size
   pub files : AllByRecursion (λ (o : ObjectLine). o.file < may_have parts.size) parts.objects.items
+  pub named : AreNamed parts.objects.items
   pub entries : length (said parts.entries) ≤ most_events
   pub in_range : AllByRecursion (λ x. b.is_in_range (may_have parts.size) x ≡ true) (said parts.entries)
 

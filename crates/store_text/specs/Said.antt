@@ -25,7 +25,7 @@ said_limits lines = filter_map limit_in_line lines
 
 -- the object of an `object` line
 abbrev pub object_in : {A : Type 0} → Line A → Option ObjectLine
-object_in (Object kind file) = Some (record { kind = kind; file = file })
+object_in (Object kind file name) = Some (record { kind = kind; file = file; name = name })
 object_in _ = None
 
 -- the objects, numbered from 0 in the order of their lines

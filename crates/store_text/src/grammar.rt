@@ -2,7 +2,7 @@
 //! before it.
 
 ghost use Rattle.std.specs.Prelude.{◌≡◌, map, IfSome};
-ghost use Rattle.store_text.specs.Body.{store_rules, line_of, size_of_words, max_of_words, object_of_words, end_of_words};
+ghost use Rattle.store_text.specs.Body.{store_rules, line_of, size_of_words, max_of_words, object_of_words, nameless_of_words, named_of_words, object_name_at, end_of_words};
 ghost use Rattle.store_text.specs.Kept.{kept_store_lines};
 ghost use Rattle.store_text.specs.Size.{IsSize};
 
@@ -11,7 +11,8 @@ use crate::kept::KeptParts;
 use crate::line::{Line, ObjectLine};
 use crate::sections::Sections;
 use crate::size::MOST_SIZE;
-use line_text::{FaultKind, Grammar, Section, exactly, is_key, kind_at, number_at};
+use line_text::{FaultKind, Grammar, Section, exactly, is_key, kind_at, number_at, word};
+use object_name::ObjectName;
 use std::alloc::{AllocError, Global};
 use type_table::MOST_EVENTS;
 
@@ -69,9 +70,9 @@ impl<E: Entries> Grammar for StoreGrammar<E> {
         match item {
             Line::Objects(size) => before.size = Some(size),
             Line::Max(most) => before.max = Some(most),
-            Line::Object { kind, file } => {
+            Line::Object { kind, file, name } => {
                 let file = file as u16;
-                before.objects.push(ObjectLine { kind, file })?;
+                before.objects.push(ObjectLine { kind, file, name })?;
             }
             Line::Entry(entry) => {
                 self.entries
@@ -89,7 +90,7 @@ impl<E: Entries> Grammar for StoreGrammar<E> {
         } else if self.entries.has_max() && is_key(words, "max") {
             max_of_words(words)
         } else if is_key(words, "object") {
-            object_of_words(words)
+            object_of_words(words, self.sections.size)
         } else if is_key(words, "end") {
             end_of_words(words)
         } else {
@@ -158,8 +159,15 @@ impl<E: Entries> Grammar for StoreGrammar<E> {
         None
     }
 
-    fn has_twin(&self, _before: &KeptParts<E::Kept>, _item: Line<E::Entry>) -> bool {
-        false
+    fn has_twin(&self, before: &KeptParts<E::Kept>, item: Line<E::Entry>) -> bool {
+        match item {
+            Line::Object { name, .. } => before.objects.have_name(name),
+            _ => false,
+        }
+    }
+
+    fn twin_fault(&self, _item: Line<E::Entry>) -> FaultKind {
+        FaultKind::TwiceName
     }
 }
 
@@ -182,13 +190,53 @@ fn max_of_words<Entry>(words: &[&[u8]]) -> Result<Line<Entry>, FaultKind>
 }
 
 #[tactic(auto, unfolding(crate::specs::Body::object_of_words))]
-fn object_of_words<Entry>(words: &[&[u8]]) -> Result<Line<Entry>, FaultKind>
-    ensures { result ≡ object_of_words (map (λ w. w.now) words.now) }
+fn object_of_words<Entry>(words: &[&[u8]], size: Option<u32>) -> Result<Line<Entry>, FaultKind>
+    ensures { result ≡ object_of_words size (map (λ w. w.now) words.now) }
+{
+    if size.is_some() && words.len() == 4 {
+        named_of_words(words)
+    } else {
+        nameless_of_words(words)
+    }
+}
+
+#[tactic(auto, unfolding(crate::specs::Body::nameless_of_words))]
+fn nameless_of_words<Entry>(words: &[&[u8]]) -> Result<Line<Entry>, FaultKind>
+    ensures { result ≡ nameless_of_words (map (λ w. w.now) words.now) }
 {
     exactly(words, 3)?;
     let kind = kind_at(words, 1)?;
     let file = number_at(words, 2)?;
-    Ok(Line::Object { kind, file })
+    Ok(Line::Object {
+        kind,
+        file,
+        name: None,
+    })
+}
+
+#[tactic(auto, unfolding(crate::specs::Body::named_of_words))]
+fn named_of_words<Entry>(words: &[&[u8]]) -> Result<Line<Entry>, FaultKind>
+    ensures { result ≡ named_of_words (map (λ w. w.now) words.now) }
+{
+    let name = object_name_at(words, 3)?;
+    let kind = kind_at(words, 1)?;
+    let file = number_at(words, 2)?;
+    Ok(Line::Object {
+        kind,
+        file,
+        name: Some(name),
+    })
+}
+
+/// The name of an object at a place of a line; else `UnknownWord`.
+#[tactic(auto, unfolding(crate::specs::Body::object_name_at))]
+fn object_name_at(words: &[&[u8]], place: usize) -> Result<ObjectName, FaultKind>
+    ensures { result ≡ object_name_at (map (λ w. w.now) words.now) place }
+{
+    match ObjectName::from_bytes(word(words, place)) {
+        Some(name) => Ok(name),
+        None => Err(FaultKind::UnknownWord),
+    }
 }
 
 #[tactic(auto, unfolding(crate::specs::Body::end_of_words))]

@@ -1,7 +1,4 @@
-ghost use Rattle.std.specs.Prelude.{◌≤◌, length};
-ghost use Rattle.store_text.specs.Size.{most_size};
-
-use crate::line::ObjectLine;
+use crate::object_lines::ObjectLines;
 use crate::parts::Parts;
 use std::alloc::Global;
 
@@ -10,29 +7,29 @@ use std::alloc::Global;
 pub struct KeptParts<Kept: Drop> {
     pub size: Option<u32>,
     pub max: Option<u32>,
-    pub objects: Vec<ObjectLine>,
+    pub objects: ObjectLines,
     pub entries: Kept,
     /// Whether `end` has come.
     pub has_ended: bool,
-    ghost few_objects: { length objects.items ≤ most_size },
 }
 
 impl<Kept: Drop> KeptParts<Kept> {
     ghost use Rattle.std.specs.Prelude.{◌≡◌, [], None, false};
     ghost use Rattle.store_text.specs.Kept.{limit_of};
+    ghost use Rattle.store_text.specs.Named.{AreNamed};
 
     /// No line, and what is kept of no entry.
     pub fn new(alloc: Global, entries: Kept) -> KeptParts<Kept>
         ensures size { result.size ≡ None }
         ensures max { result.max ≡ None }
-        ensures objects { result.objects.items ≡ [] }
+        ensures objects { result.objects.lines.items ≡ [] }
         ensures entries { result.entries ≡ entries }
         ensures unended { result.has_ended ≡ false }
     {
         KeptParts {
             size: None,
             max: None,
-            objects: Vec::new(alloc),
+            objects: ObjectLines::new(alloc),
             entries,
             has_ended: false,
         }
@@ -42,7 +39,8 @@ impl<Kept: Drop> KeptParts<Kept> {
     pub fn into_parts(self) -> Parts<Kept>
         ensures size { result.size ≡ self.size }
         ensures max { result.max ≡ limit_of self.max }
-        ensures objects { result.objects.items ≡ self.objects.items }
+        ensures objects { result.objects.items ≡ self.objects.lines.items }
+        ensures named { AreNamed result.objects.items }
         ensures entries { result.entries ≡ self.entries }
     {
         let KeptParts {
@@ -55,7 +53,7 @@ impl<Kept: Drop> KeptParts<Kept> {
         Parts {
             size,
             max: max.unwrap_or(0),
-            objects,
+            objects: objects.into_lines(),
             entries,
         }
     }

@@ -6,6 +6,7 @@ mod entries;
 mod grammar;
 mod kept;
 mod line;
+mod object_lines;
 mod parts;
 mod read;
 mod sections;

@@ -9,7 +9,7 @@ use Rattle.type_table.specs.declared.op.Op.{Op}
 use Rattle.line_text.specs.Rules.{Rules}
 use Rattle.line_text.specs.Shapes.{◌>>=◌, exactly, name_at, number_at, table_kind_at, is_key}
 use Rattle.line_text.specs.declared.fault.FaultKind.{FaultKind}
-use Rattle.line_text.specs.declared.fault.FaultKind.TheVariants.{UnknownWord}
+use Rattle.line_text.specs.declared.fault.FaultKind.TheVariants.{UnknownWord, TwiceOp}
 use Rattle.line_text.specs.declared.section.Section.{Section}
 use Rattle.type_text.specs.declared.type_line.TypeLine.{TypeLine}
 use Rattle.type_text.specs.declared.type_line.TypeLine.TheVariants.{TypeName, States, Initial, Operation, Step, Reach, Equi, Conflict, End}
@@ -202,6 +202,7 @@ type_rules = record {
   is_in_range = is_in_range;
   key_of = key_of;
   is_twin = is_twin;
+  twin_fault = λ x. TwiceOp;
 }
 
 -- ---- lines that describe a file

@@ -156,6 +156,10 @@ impl Grammar for TypeGrammar {
             _ => false,
         }
     }
+
+    fn twin_fault(&self, _item: TypeLine) -> FaultKind {
+        FaultKind::TwiceOp
+    }
 }
 
 #[tactic(auto, unfolding(crate::specs::TypeLines::type_name_of))]

@@ -38,7 +38,7 @@ tells_event (Rollback w t n) = refl
 tells_line : (l : Line EventLine) → is_comment (line l) ≡ false
 tells_line (Objects n) = refl
 tells_line (Max most) = refl
-tells_line (Object kind file) = refl
+tells_line (Object kind file name) = refl
 tells_line (Entry x) = tells_event x
 tells_line End = refl
 

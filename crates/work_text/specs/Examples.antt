@@ -1,5 +1,5 @@
 -- What two workers did at one counter, worked by hand.
-use Rattle.std.specs.Prelude.{◌≡◌, ℕ, List, [], ◌∷◌, ◌++◌}
+use Rattle.std.specs.Prelude.{◌≡◌, ℕ, List, [], ◌∷◌, ◌++◌, None}
 use Rattle.std.specs.List.{flat_map}
 use Rattle.type_table.specs.declared.kind.Kind.TheVariants.{Undo}
 use Rattle.object_trait.specs.declared.event.Event.{Event}
@@ -11,7 +11,7 @@ use Rattle.worker_turns.specs.declared.outcome.Report.{Report}
 
 -- the counter, update in place
 abbrev pub one_line : List ObjectLine
-one_line = record { kind = Undo; file = 0 } ∷ []
+one_line = record { kind = Undo; file = 0; name = None } ∷ []
 
 -- worker 1 counts up once
 abbrev pub one_up_by_one : List Event

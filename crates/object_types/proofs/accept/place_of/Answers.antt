@@ -6,4 +6,5 @@ use Rattle.object_types.proofs.accept.place_of.Goals as goal
 
 pub returns-then-other-line : goal.returns-then-other-line
 returns-then-other-line c =
-    same_line c.args.lines.now (c.loop-place.place - 1) _ c.args.line (omega (arith, c.loop-place-test.true, c.loop-place.auto.place)) (same_true the_type (search rules) _ _ (sym c.if-eq.ensures)) c.if-other-line.true
+    let other = c.index-lines-place.result in
+    same_line c.args.lines.now (c.loop-place.place - 1) other c.args.line.now (omega (arith, c.loop-place-test.true, c.loop-place.auto.place)) c.index-lines-place.is (same_true the_type (search rules) _ _ (sym c.if-eq.ensures)) c.if-other-line.true

@@ -33,7 +33,7 @@ returns-clause-size g c =
     let order = c.accepted_in_order.ensures (store_rules b (text_size text)) lines (subst (λ rules. IsAccepted rules lines) rules_are c.in_ok-kept.ensures.accepted) in
     let read = subst (λ rules. outcome_of rules text ≡ Ok lines) rules_are c.in_ok-kept.ensures.exact in
     let value = ((c.outcome_by_lines.ensures (store_rules b (text_size text)) text).value lines).0 read in
-    c.into_parts.ensures.size ∙ size_is b text lines k.size value order (sizes_said k.objects.items (said k.entries) k.has_ended k.size k.max)
+    c.into_parts.ensures.size ∙ size_is b text lines k.size value order (sizes_said k.objects.lines.items (said k.entries) k.has_ended k.size k.max)
 
 pub returns-clause-fit : goal.returns-clause-fit
 returns-clause-fit g c =
@@ -49,4 +49,4 @@ returns-clause-fit g c =
     let read = subst (λ rules. outcome_of rules c.args.text.now ≡ Ok lines) rules_are c.in_ok-kept.ensures.exact in
     let value = ((c.outcome_by_lines.ensures (store_rules b says) c.args.text.now).value lines).0 read in
     let is = size_is b c.args.text.now lines c.into_parts.result.size value order parts.size in
-    are_fit b says said lines c.into_parts.result (subst (λ s. IfSome s IsSize) c.text_size.ensures.exact c.text_size.ensures.fits) is order parts
+    are_fit b says said lines c.into_parts.result (subst (λ s. IfSome s IsSize) c.text_size.ensures.exact c.text_size.ensures.fits) is order parts are.named

@@ -1,0 +1,18 @@
+use Rattle.std.proofs.Common.{refl}
+use Rattle.std.specs.Fmt.{digits}
+use Rattle.line_text.specs.Shapes.{is_key, exactly, number_at, kind_at}
+use Rattle.line_text.specs.LongNumbers.{long_number_at}
+use Rattle.line_text.specs.LineTests.{line_fault, words_fault, item_fault}
+use Rattle.line_text.specs.Outcome.{outcome_of, first_fault}
+use Rattle.store_text.specs.Body.{line_of, size_of_words, object_of_words, nameless_of_words, named_of_words, object_name_at, end_of_words}
+use Rattle.object_name.specs.ObjectName.{is_object_name}
+use Rattle.history_text.specs.Events.{event_line_of, begin_event_of, op_event_of, counted_of, listed_of, busy_of, nothing_of, commit_event_of, abort_event_of, rollback_event_of}
+use Rattle.history_text.proofs.worked.names_are_written.Goals as goal
+
+pub returns-clause-read : goal.returns-clause-read
+unfolding outcome_of first_fault line_fault words_fault item_fault is_key exactly number_at long_number_at kind_at line_of size_of_words object_of_words nameless_of_words named_of_words object_name_at is_object_name end_of_words event_line_of begin_event_of op_event_of counted_of listed_of busy_of nothing_of commit_event_of abort_event_of rollback_event_of
+returns-clause-read c = refl
+
+pub returns-clause-text : goal.returns-clause-text
+unfolding digits
+returns-clause-text c = refl
