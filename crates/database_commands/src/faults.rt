@@ -53,7 +53,7 @@ pub fn fault_of_file<'a>(path: &'a str, error: JournalError) -> Fault<'a>
 }
 
 /// Why a new store isn't made of what was tested before.
-pub(crate) fn fault_of_making<'a>(path: &'a str, error: OpenError) -> Fault<'a>
+pub fn fault_of_making<'a>(path: &'a str, error: OpenError) -> Fault<'a>
     ensures { IsEarlyFault ⊥ result }
 {
     match error {

@@ -27,6 +27,13 @@ use store_files::{ObjectTypes, object_line, read_declared};
 use store_text::ObjectLine;
 use table_checker::CheckRefusal;
 
+/// The paths of a database and of the text that has the objects.
+#[derive(Clone, Copy)]
+struct Paths<'a> {
+    database: &'a str,
+    objects: &'a str,
+}
+
 /// What the command answers.
 #[derive(Drop)]
 struct Answer {
@@ -42,8 +49,8 @@ struct Answer {
 /// # Errors
 ///
 /// As of `create_store` for the texts; the database isn't opened, isn't one of a store or fails, it would have more
-/// objects than a store may have, memory was refused, or the output failed. After the last of these the objects may
-/// be there.
+/// objects than a store may have, a name is taken, memory was refused, or the output failed. After the last of these the
+/// objects may be there.
 pub fn extend_store<'a, S: Source, D: Databases, W: Out>(
     alloc: Global,
     asked: NewStore<'a, '_>,
@@ -60,44 +67,48 @@ pub fn extend_store<'a, S: Source, D: Databases, W: Out>(
     let declared = read_declared(alloc, asked.types, source)?;
     let found = types_among(alloc, asked.objects, &declared, &objects)?;
     let texts = texts_of(alloc, &declared)?;
-    let answer = extend_at(alloc, asked.database, &texts, &objects, found, databases)?;
+    let paths = Paths {
+        database: asked.database,
+        objects: asked.objects,
+    };
+    let answer = extend_at(alloc, paths, &texts, &objects, found, databases)?;
     put_answer(answer.verdict, answer.text.as_bytes(), out)
 }
 
 /// Adds objects to the store at a path, where their types were accepted.
 fn extend_at<'a, D: Databases>(
     alloc: Global,
-    path: &'a str,
+    paths: Paths<'a>,
     texts: &[TypeText],
     objects: &[ObjectLine],
     found: ObjectTypes,
     databases: &mut D,
 ) -> Result<Answer, Fault<'a>>
-    ensures answers { IfOk result (λ a. AnswersFound (D.is_clean databases.new) (D.holds databases.old path.now) (D.holds databases.new path.now) texts.now objects.now found a.verdict a.text.bytes.items) }
+    ensures answers { IfOk result (λ a. AnswersFound (D.is_clean databases.new) (D.holds databases.old paths.entry.database.now) (D.holds databases.new paths.entry.database.now) texts.now objects.now found a.verdict a.text.bytes.items) }
     ensures refused { IfErr result (IsEarlyFault ⊤) }
 {
-    match databases.open(path, TornWrites::AnyBytes) {
+    match databases.open(paths.database, TornWrites::AnyBytes) {
         Ok(trees) => {
-            let (answer, trees) = extend_in(alloc, path, texts, objects, found, trees);
+            let (answer, trees) = extend_in(alloc, paths, texts, objects, found, trees);
             match answer {
                 Ok(answer) => {
-                    databases.close(path, trees);
+                    databases.close(paths.database, trees);
                     Ok(answer)
                 }
                 Err(fault) => {
-                    databases.leave(path, trees);
+                    databases.leave(paths.database, trees);
                     Err(fault)
                 }
             }
         }
-        Err(fault) => Err(fault_of_unopened(path, fault)),
+        Err(fault) => Err(fault_of_unopened(paths.database, fault)),
     }
 }
 
 /// The same of the store in these trees, which come back.
 fn extend_in<'a, S: Alter>(
     alloc: Global,
-    path: &'a str,
+    paths: Paths<'a>,
     texts: &[TypeText],
     objects: &[ObjectLine],
     found: ObjectTypes,
@@ -111,14 +122,14 @@ fn extend_in<'a, S: Alter>(
 {
     let (journal, said) = match Journal::open(alloc, trees) {
         Ok(opened) => opened,
-        Err((error, trees)) => return (Err(fault_of_journal(path, error)), trees),
+        Err((error, trees)) => return (Err(fault_of_journal(paths.database, error)), trees),
     };
     match found {
         ObjectTypes::Refused { x, refusal } => {
             let answer = refused(alloc, said.objects.len(), x, refusal);
             (answer, journal.into_store())
         }
-        ObjectTypes::Accepted(_) => grow(alloc, path, journal, &said, texts, objects),
+        ObjectTypes::Accepted(_) => grow(alloc, paths, journal, &said, texts, objects),
     }
 }
 
@@ -144,7 +155,7 @@ fn refused<'a>(
 /// Adds objects to the store of a journal that was just opened, and what it says. Its trees come back.
 fn grow<'a, S: Alter>(
     alloc: Global,
-    path: &'a str,
+    paths: Paths<'a>,
     journal: Journal<S>,
     said: &FileContents,
     texts: &[TypeText],
@@ -164,15 +175,15 @@ fn grow<'a, S: Alter>(
         return (Err(Fault::TooLarge), journal.into_store());
     }
     match resume(alloc, journal, said, &[]) {
-        Ok(store) => extend(alloc, path, store, texts, objects),
-        Err((error, trees)) => (Err(fault_of_open(path, error)), trees),
+        Ok(store) => extend(alloc, paths, store, texts, objects),
+        Err((error, trees)) => (Err(fault_of_open(paths.database, error)), trees),
     }
 }
 
 /// Adds objects to a store that was opened. Its trees come back.
 fn extend<'a, S: Alter>(
     alloc: Global,
-    path: &'a str,
+    paths: Paths<'a>,
     store: Durable<S>,
     texts: &[TypeText],
     objects: &[ObjectLine],
@@ -194,16 +205,20 @@ fn extend<'a, S: Alter>(
             };
             (Ok(answer), trees)
         }
-        Err(error) => (Err(fault_of_extending(path, error)), trees),
+        Err(error) => (Err(fault_of_extending(paths, error)), trees),
     }
 }
 
 /// Why a store doesn't get more objects that were tested before.
-fn fault_of_extending<'a>(path: &'a str, error: OpenError) -> Fault<'a>
-    ensures { IsEarlyFault ⊥ result }
+fn fault_of_extending<'a>(paths: Paths<'a>, error: OpenError) -> Fault<'a>
+    ensures { IsEarlyFault ⊤ result }
 {
     match error {
+        OpenError::NameTaken(x) => Fault::NameTaken {
+            path: paths.objects,
+            x,
+        },
         OpenError::NotExtended(ExtendRefusal::NoMemory) => Fault::NoMemory,
-        _ => fault_of_making(path, error),
+        _ => fault_of_making(paths.database, error),
     }
 }

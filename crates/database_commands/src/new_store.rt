@@ -74,7 +74,7 @@ pub fn create_store<'a, S: Source, D: Databases, W: Out>(
 /// # Errors
 ///
 /// No type is at an object's place, an object of another kind than escrow names a number, or memory was refused.
-pub(crate) fn types_among<'a>(
+pub fn types_among<'a>(
     alloc: Global,
     path: &'a str,
     declared: &[DeclaredType],
@@ -96,7 +96,7 @@ pub(crate) fn types_among<'a>(
 /// # Errors
 ///
 /// The text has a fault or events, it can't be read, or memory was refused.
-pub(crate) fn read_objects<'a, S: Source>(
+pub fn read_objects<'a, S: Source>(
     alloc: Global,
     path: &'a str,
     source: &mut S,
@@ -228,10 +228,7 @@ fn publish<'a, D: Databases>(
 }
 
 /// The canonical texts of types.
-pub(crate) fn texts_of<'a>(
-    alloc: Global,
-    types: &[DeclaredType],
-) -> Result<Vec<TypeText>, Fault<'a>>
+pub fn texts_of<'a>(alloc: Global, types: &[DeclaredType]) -> Result<Vec<TypeText>, Fault<'a>>
     ensures texts { IfOk result (λ texts. texts.items ≡ map canonical_text types.now) }
     ensures failed { IfErr result (λ fault. fault ≡ NoMemory) }
 {

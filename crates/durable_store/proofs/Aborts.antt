@@ -43,7 +43,7 @@ closing-by-zero those happened =
 
 -- the aborts of what was open, but of those, are what the journal hasn't yet
 pub aborts-behind : {S : Type 0} (g : Ghosts S) (those : List ℕ) (d : Durable S) (s : Stored) (count : ℕ) → ClosingIsOwn → IsRun (objects d.store) d.store.history → IsDurable g d → count ≡ length d.store.history → d.store.forgotten ≤ count
-    → s ≡ record d.store { history = d.store.history ++ closing_but those d.store.history } → IsBehind g (record { store = s; journal = d.journal }) count
+    → s ≡ record d.store { history = d.store.history ++ closing_but those d.store.history } → IsBehind g (record { store = s; journal = d.journal; names = d.names }) count
 aborts-behind g those d s count closing run sound is remembered aborted =
     let more = closing_but those d.store.history in
     let history : s.history ≡ d.store.history ++ more = ap (λ (s : Stored). s.history) aborted in
@@ -55,6 +55,7 @@ aborts-behind g those d s count closing run sound is remembered aborted =
       settled = sound.settled;
       limit = ap (λ (s : Stored). s.limits) aborted ∙ sound.limit;
       own = subst IsOwnHistory (sym aborted) (closing those d.store run sound.own);
+      named = sound.named;
       remembered = subst (λ (s : Stored). s.forgotten ≤ count) (sym aborted) remembered;
       inside = omega (arith, long, is);
       history = λ clean. ap₂ take is history ∙ take-append_seam d.store.history more ∙ sound.history clean;

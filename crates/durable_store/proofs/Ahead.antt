@@ -77,7 +77,7 @@ has-renewed f types kept its long inside =
     }
 
 -- after a new epoch of the store alone
-pub ahead : {S : Type 0} (g : Ghosts S) (d : Durable S) (new : Stored) → IsDurable g d → Renews d.store new → IsAhead g (record { store = new; journal = d.journal })
+pub ahead : {S : Type 0} (g : Ghosts S) (d : Durable S) (new : Stored) → IsDurable g d → Renews d.store new → IsAhead g (record { store = new; journal = d.journal; names = d.names })
 ahead g d new sound renews =
     let now = types_at d.store.types renews.kept in
     let types : new.types ≡ now = ap (λ (s : Stored). s.types) renews.is in
@@ -87,6 +87,7 @@ ahead g d new sound renews =
       limit = ap (λ (s : Stored). s.limits) renews.is ∙ sound.limit;
       none = ap (λ (s : Stored). s.history) renews.is;
       own = subst IsOwnHistory (sym renews.is) tt;
+      named = sound.named;
       as_many = λ clean. ap length types ∙ length-types_at d.store.types renews.kept renews.as_many ∙ (sound.types clean).as_many ∙ sym (sound.types clean).as_many_states;
       types = λ clean.
           subst (λ ts. HasTypes (from_states (written g d.journal) (firsts ts)) ts) (sym types)

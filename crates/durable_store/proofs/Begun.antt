@@ -1,5 +1,5 @@
 -- Types at the states where a history begins, one after another.
-use Rattle.std.proofs.Common.{◌≡◌, ◌∙◌, ℕ, ◌<◌, zero, suc, List, [], ◌∷◌, ◌++◌, length, map, take, get_or, Some, refl, sym, ap, subst, inl, inr, arith}
+use Rattle.std.proofs.Common.{◌≡◌, ◌∙◌, ℕ, ◌<◌, zero, suc, List, [], ◌∷◌, ◌++◌, length, map, take, get_or, Some, refl, sym, ap, ap₂, subst, inl, inr, arith}
 use Rattle.std.specs.Prelude.{slice_get}
 use Rattle.std.specs.Option.{option_map}
 use Rattle.std.specs.declared.sync.Arc.{Arc}
@@ -10,7 +10,8 @@ use Rattle.declared_types.specs.declared.declared_type.Declaration.{Declaration}
 use Rattle.table_checker.specs.At.{checked_at, IsInside}
 use Rattle.table_checker.specs.Checked.{Checked, IsChecked}
 use Rattle.declared_types.specs.Declarations.{file_of}
-use Rattle.object_types.specs.Types.{AreTypesOf, value_of}
+use Rattle.type_table.specs.declared.kind.Kind.{Kind}
+use Rattle.object_types.specs.Types.{IsSharedAt, AreTypesOf, value_of}
 use Rattle.journal.specs.Contents.{Contents}
 use Rattle.durable_store.specs.Types.{HasTypes}
 use Rattle.store_text.specs.declared.line.ObjectLine.{ObjectLine}
@@ -50,13 +51,17 @@ from-first (a ∷ xs) zero k y at = absurd cc
 from-first (a ∷ xs) (suc n) zero y at = at
 from-first (a ∷ xs) (suc n) (suc k) y at = from-first xs n k y at
 
--- the type of an object before it with the same line that begins at the same state
+-- what shares a type with one of the first lines shares it with that of all
+shared-first : (lines : List ObjectLine) (n k : ℕ) (o : ObjectLine) → IsSharedAt (take n lines) k o → IsSharedAt lines k o
+shared-first lines n k o sharing = record { other = sharing.other; there = from-first lines n k sharing.other sharing.there; kind = sharing.kind; file = sharing.file }
+
+-- the type of an object before it of the same kind at the same place that begins at the same state
 pub shared-at : {A : Type 0} (types : List Checked) (lines : List ObjectLine) (states : List FirstState) (begun : List (Arc Checked A)) (x other : ℕ) (o : ObjectLine) (f : FirstState)
     (shared a : Arc Checked A) → length types ≡ length lines → length begun ≡ x → x < length lines → HaveOneType lines types → BeginAt types states (map value_of begun)
-    → slice_get lines x ≡ Some o → slice_get states x ≡ Some f → slice_get (take x lines) other ≡ Some o → slice_get (take x states) other ≡ Some f
+    → slice_get lines x ≡ Some o → slice_get states x ≡ Some f → IsSharedAt (take x lines) other o → slice_get (take x states) other ≡ Some f
     → shared ≡ get_or begun other shared → value_of a ≡ value_of shared → IsAtPlace types states x (value_of a)
 shared-at {A} types lines states begun x other o f shared a as-many long low alike known line state same-line same-state is cloned c first there at =
-    let before : other < length (take x lines) = slice_get_within (take x lines) other o same-line in
+    let before : other < length (take x lines) = slice_get_within (take x lines) other same-line.other same-line.there in
     let near : other < x = omega (arith, before, length-take x lines) in
     let inside : other < length types = omega (arith, near, low, as-many) in
     let d = get_or types other c in
@@ -64,7 +69,7 @@ shared-at {A} types lines states begun x other o f shared a as-many long low ali
     let begun-there : slice_get (map value_of begun) other ≡ Some (value_of shared) =
     slice_get-map (value_of {A = A}) begun other ∙ ap (option_map (value_of {A = A})) (slice_get_read begun (length begun) other shared refl (omega (arith, near, long)) is) in
     let here : BeginsAt d f (value_of shared) = known other (value_of shared) begun-there d f at-other (from-first states x other f same-state) in
-    let one : d ≡ c = alike other x o d c (from-first lines x other o same-line) line at-other there in
+    let one : d ≡ c = sym (alike x other o c d line (shared-first lines x other o same-line) there at-other) in
     let two : f ≡ first = same_Some f first (sym state ∙ at) in
     subst (BeginsAt c first) (sym cloned) (subst (λ f. BeginsAt c f (value_of shared)) two (subst (λ d. BeginsAt d f (value_of shared)) one here))
 
@@ -78,12 +83,13 @@ fresh-at {A} types states x own seen f at low is read state given c first there 
     let two : f ≡ first = same_Some f first (sym state ∙ first-there) in
     subst (λ f. BeginsAt c f at) two (subst (λ d. BeginsAt d f at) one given)
 
--- the types that lines name are alike where the lines are
+-- the types that lines name are alike where the kinds and the places are
 pub alike : (declared : List Declaration) (lines : List ObjectLine) (types : List Checked) → AreTypesOf declared lines types → HaveOneType lines types
-alike declared lines types are x y o c d line-x line-y type-x type-y =
+alike declared lines types are x y o c d line-x sharing type-x type-y =
     let p = are.each x o c line-x type-x in
-    let q = are.each y o d line-y type-y in
-    p.checked.0 ∙ ap (λ d. let it : Checked = record { kind = o.kind; file = file_of d } in it) (same_Some p.declaration q.declaration (sym p.there ∙ q.there)) ∙ sym q.checked.0
+    let q = are.each y sharing.other d sharing.there type-y in
+    let one : p.declaration ≡ q.declaration = same_Some p.declaration q.declaration (sym p.there ∙ sym (ap (slice_get declared) sharing.file) ∙ q.there) in
+    p.checked.0 ∙ ap₂ (λ (k : Kind) (d : Declaration). let it : Checked = record { kind = k; file = file_of d } in it) (sym sharing.kind) one ∙ sym q.checked.0
 
 -- they are the types of the file's objects
 pub are-types : (c : Contents) (declared : List Declaration) (types begun : List Checked) → AreRead c.types declared → AreTypesOf declared c.objects types → length c.states ≡ length c.objects

@@ -10,6 +10,7 @@ use Rattle.journal.specs.Journal.{Clean, IsJournal, durable, may_leave, written}
 use Rattle.journal.specs.declared.journal.Journal.{Journal}
 use Rattle.durable_store.specs.declared.durable.Durable.{Durable}
 use Rattle.durable_store.specs.Types.{HasTypes}
+use Rattle.durable_store.specs.Names.{IndexesNames}
 use Rattle.durable_store.specs.Durable.{IsBehind, IsDurable, events_of_kinds, kinds, with_all}
 
 -- what is remembered ends with the events after the first n
@@ -26,7 +27,7 @@ last-ones H R f n k is total low high =
 pub caught-up : {S T E : Type 0} (g : Ghosts S) (d : Durable S) (count : ℕ) (new : Journal S) (es : List Event) (r : Result T E) → IsBehind g d count → es ≡ drop count d.store.history
     → OnOk r (IsJournal g new) → OnOk r (Clean g new → written g new ≡ with_all (written g d.journal) es) → OnOk r (Clean g new → durable g new ≡ durable g d.journal)
     → (Clean g new → Clean g d.journal) → ((db : Trees) → may_leave g new db → may_leave g d.journal db)
-    → OnOk r (IsDurable g (record { store = d.store; journal = new }))
+    → OnOk r (IsDurable g (record { store = d.store; journal = new; names = d.names }))
 caught-up g d count new es (Err e) late rest kept more same was crash = tt
 caught-up g d count new es (Ok x) late rest kept more same was crash = record {
   journal = kept;
@@ -39,4 +40,5 @@ caught-up g d count new es (Ok x) late rest kept more same was crash = record {
   settled = λ clean db left. late.settled (was clean) db (crash db left) ∙ sym (same clean);
   limit = late.limit;
   own = late.own;
+  named = λ clean. subst (λ (c : Contents). IndexesNames c.objects d.names) (sym (more clean)) (late.named (was clean));
 }

@@ -23,14 +23,13 @@ use Rattle.journal.specs.declared.state_row.FirstState.{FirstState}
 use Rattle.journal.specs.Contents.{Contents, extended, from_states}
 use Rattle.journal.specs.Journal.{Clean, written}
 use Rattle.durable_store.specs.declared.durable.Durable.{Durable}
-use Rattle.durable_store.specs.declared.open_error.OpenError.{OpenError}
-use Rattle.durable_store.specs.declared.open_error.OpenError.TheVariants.{Journal, Text, Untyped, NoStore, NotExtended, NotMade, NoMemory}
+use Rattle.durable_store.specs.declared.object_names.ObjectNames.{ObjectNames}
+use Rattle.durable_store.specs.Names.{IndexesNames}
 use Rattle.durable_store.specs.Begun.{AreRead}
 use Rattle.durable_store.specs.Durable.{IsDurable}
 use Rattle.durable_store.specs.Epochs.{firsts}
-use Rattle.durable_store.specs.Growth.{AreAdded, ArePlaced, HavePlaces, RefusesGrowth}
+use Rattle.durable_store.specs.Growth.{AreAdded, ArePlaced, HavePlaces}
 use Rattle.durable_store.specs.GrowthParts.{ArePlacesOf, IsAheadBy}
-use Rattle.durable_store.specs.Recovered.{IsStrayError}
 use Rattle.durable_store.specs.Types.{AreTypes, HasTypes, IsTypeAt}
 use Rattle.durable_store.proofs.Ahead.{has-renewed}
 use Rattle.durable_store.proofs.Begun.{are-types}
@@ -46,7 +45,7 @@ added-of texts declared lines types read of =
 
 -- a line with the place that stands at its place
 abbrev pub IsPlacedAt : List ℕ → ObjectLine → ObjectLine → Type 0
-IsPlacedAt places line at = (at.kind ≡ line.kind) × (slice_get places line.file ≡ Some at.file)
+IsPlacedAt places line at = (at.kind ≡ line.kind) × (at.name ≡ line.name) × (slice_get places line.file ≡ Some at.file)
 
 -- a text at its place among others
 abbrev pub IsAmongAt : List (List ℕ) → List ℕ → ℕ → Type 0
@@ -61,11 +60,11 @@ pub placed-of : (texts all : List (List ℕ)) (places : List ℕ) (lines placed 
 placed-of texts all places lines placed have of = record {
   as_many = of.as_many;
   each = λ x line at there there-too.
-      let (kind, place) = of.each x line at there there-too in
+      let (kind, name, place) = of.each x line at there there-too in
       let low : line.file < length texts = omega (arith, slice_get_within places line.file at.file place, have.as_many) in
       let text = get_or texts line.file [] in
       let is : slice_get texts line.file ≡ Some text = slice_get-get_or texts line.file [] low in
-      (kind, have.each line.file at.file text is place ∙ sym is);
+      (kind, name, have.each line.file at.file text is place ∙ sym is);
 }
 
 -- a type by its text's place among all texts
@@ -93,7 +92,7 @@ added-placed texts all lines placed types at are = record {
       let low : x < length lines = omega (arith, slice_get_within placed x o line, at.as_many) in
       let was = get_or lines x o in
       let line-was : slice_get lines x ≡ Some was = slice_get-get_or lines x o low in
-      let (kind, text) = at.each x was o line-was line in
+      let (kind, name, text) = at.each x was o line-was line in
       type-placed texts all was o first type kind text (are.each x was first type line-was state there);
 }
 
@@ -106,16 +105,6 @@ more-texts texts fresh lines states types are = record {
       let of = are.each x o first type line state there in
       type-placed texts (texts ++ fresh) o o first type refl (found-front texts fresh o.file of.text of.there ∙ sym of.there) of;
 }
-
--- an error of the texts is no refusal of the store
-pub no-refusal : (texts : List (List ℕ)) (lines : List ObjectLine) (old : Stored) (error : OpenError) → (IsStrayError error → ⊥) → RefusesGrowth texts lines old error
-no-refusal texts lines old (Journal fault) none = tt
-no-refusal texts lines old (Text k) none = tt
-no-refusal texts lines old (Untyped x) none = tt
-no-refusal texts lines old (NoStore why) none = tt
-no-refusal texts lines old (NotExtended why) none = absurd (none tt)
-no-refusal texts lines old (NotMade place) none = tt
-no-refusal texts lines old NoMemory none = tt
 
 -- ---- one list behind another
 
@@ -157,9 +146,10 @@ has-grown c fresh placed types added has are =
     (types-behind (c.types ++ fresh) c.objects placed (firsts types) (firsts added) types added (more-texts c.types fresh c.objects (firsts types) types has) are)
 
 -- after a new epoch of the store alone
-pub ahead-by : {S : Type 0} (g : Ghosts S) (d : Durable S) (new : Stored) (fresh : List (List ℕ)) (placed : List ObjectLine) (added : List Checked) → IsDurable g d → Extends d.store added new
-    → length placed ≡ length added → (Clean g d.journal → AreAdded ((written g d.journal).types ++ fresh) placed added) → IsAheadBy g fresh placed (record { store = new; journal = d.journal })
-ahead-by g d new fresh placed added sound extends as-many are =
+pub ahead-by : {S : Type 0} (g : Ghosts S) (d : Durable S) (new : Stored) (names : ObjectNames) (fresh : List (List ℕ)) (placed : List ObjectLine) (added : List Checked) → IsDurable g d → Extends d.store added new
+    → length placed ≡ length added → (Clean g d.journal → AreAdded ((written g d.journal).types ++ fresh) placed added) → (Clean g d.journal → IndexesNames ((written g d.journal).objects ++ placed) names)
+    → IsAheadBy g fresh placed (record { store = new; journal = d.journal; names = names })
+ahead-by g d new names fresh placed added sound extends as-many are named =
     let now = types_at d.store.types extends.kept in
     let types : new.types ≡ now ++ added = ap (λ (s : Stored). s.types) extends.is in
     let long : length now ≡ length d.store.types = length-types_at d.store.types extends.kept extends.as_many in
@@ -169,6 +159,7 @@ ahead-by g d new fresh placed added sound extends as-many are =
       limit = ap (λ (s : Stored). s.limits) extends.is ∙ sound.limit;
       none = ap (λ (s : Stored). s.history) extends.is;
       own = subst IsOwnHistory (sym extends.is) tt;
+      named = named;
       some = omega (arith, ap length types, length-append now added, as-many);
       as_many = λ clean. omega (arith, ap length types, length-append now added, as-many, long, (sound.types clean).as_many, (sound.types clean).as_many_states);
       objects = λ clean. sym (sound.types clean).as_many_states;

@@ -8,3 +8,5 @@ pub mod Growths
 mod Followed
 mod Stepped
 pub mod New
+pub mod NameSets
+pub mod NameIndexes

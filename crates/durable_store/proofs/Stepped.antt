@@ -29,7 +29,7 @@ appends H None (Some kind) = (kind ∷ [], refl)
 
 -- a store that has more events than the journal
 behind-more : {S : Type 0} (g : Ghosts S) (d : Durable S) (s : Stored) (count : ℕ) (more : List EventKind) → IsDurable g d → count ≡ length d.store.history → d.store.forgotten ≤ count
-    → s ≡ record d.store { history = d.store.history ++ events_of_kinds more } → IsOwnHistory s → IsBehind g (record { store = s; journal = d.journal }) count
+    → s ≡ record d.store { history = d.store.history ++ events_of_kinds more } → IsOwnHistory s → IsBehind g (record { store = s; journal = d.journal; names = d.names }) count
 behind-more g d s count more sound is remembered now own =
     let events = events_of_kinds more in
     let history : s.history ≡ d.store.history ++ events = ap (λ (s : Stored). s.history) now in
@@ -41,6 +41,7 @@ behind-more g d s count more sound is remembered now own =
       settled = sound.settled;
       limit = ap (λ (s : Stored). s.limits) now ∙ sound.limit;
       own = own;
+      named = sound.named;
       remembered = subst (λ (s : Stored). s.forgotten ≤ count) (sym now) remembered;
       inside = omega (arith, long, is);
       history = λ clean. ap₂ take is history ∙ take-append_seam d.store.history events ∙ sound.history clean;
@@ -49,7 +50,7 @@ behind-more g d s count more sound is remembered now own =
 
 -- a store that did a command
 pub done-behind : {S T : Type 0} (g : Ghosts S) (d : Durable S) (command : Command) (r : Result T Refusal) (s : Stored) (count : ℕ) → StepsAreOwn → IsDurable g d → count ≡ length d.store.history
-    → d.store.forgotten ≤ count → Steps d.store 0 command r s → IsBehind g (record { store = s; journal = d.journal }) count
+    → d.store.forgotten ≤ count → Steps d.store 0 command r s → IsBehind g (record { store = s; journal = d.journal; names = d.names }) count
 done-behind g d command r s count steps sound is remembered step =
     let it = appends d.store.history (refusal_of d.store command) (event_of (objects d.store) (summary d.store.history) command) in
     behind-more g d s count it.0 sound is remembered (step.1 ∙ ap (λ H. record d.store { history = H }) it.1)
@@ -57,7 +58,7 @@ done-behind g d command r s count steps sound is remembered step =
 
 -- or may have done it, where memory wasn't refused
 pub step-behind : {S T : Type 0} (g : Ghosts S) (d : Durable S) (command : Command) (r : Result T Refusal) (s : Stored) (count : ℕ) → StepsAreOwn → IsDurable g d → count ≡ length d.store.history
-    → d.store.forgotten ≤ count → MayStep d.store 0 command r s → IsBehind g (record { store = s; journal = d.journal }) count
+    → d.store.forgotten ≤ count → MayStep d.store 0 command r s → IsBehind g (record { store = s; journal = d.journal; names = d.names }) count
 step-behind g d command r s count steps sound is remembered may = elim may [
   | inl step ↦ done-behind g d command r s count steps sound is remembered step
   | inr refused ↦

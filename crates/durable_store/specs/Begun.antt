@@ -5,6 +5,7 @@ use Rattle.table_checker.specs.Checked.{Checked}
 use Rattle.table_checker.specs.At.{checked_at, IsInside}
 use Rattle.declared_text.specs.Declared.{Declares}
 use Rattle.store_text.specs.declared.line.ObjectLine.{ObjectLine}
+use Rattle.object_types.specs.Types.{IsSharedAt}
 use Rattle.journal.specs.declared.state_row.FirstState.{FirstState}
 
 -- what texts declare, in their order
@@ -12,10 +13,10 @@ pub record AreRead (texts : List (List ℕ)) (declared : List Declaration) : Typ
   pub as_many : length declared ≡ length texts
   pub each : (k : ℕ) (text : List ℕ) (declaration : Declaration) → slice_get texts k ≡ Some text → slice_get declared k ≡ Some declaration → Declares text declaration
 
--- objects of one line have one type
+-- objects of one kind at one place have one type, whatever their names
 abbrev pub HaveOneType : List ObjectLine → List Checked → Type 0
 HaveOneType lines types =
-    (x y : ℕ) (o : ObjectLine) (c d : Checked) → slice_get lines x ≡ Some o → slice_get lines y ≡ Some o → slice_get types x ≡ Some c → slice_get types y ≡ Some d → c ≡ d
+    (x y : ℕ) (o : ObjectLine) (c d : Checked) → slice_get lines x ≡ Some o → IsSharedAt lines y o → slice_get types x ≡ Some c → slice_get types y ≡ Some d → c ≡ d
 
 -- a type at a state at which it may begin
 abbrev pub BeginsAt : Checked → FirstState → Checked → Type 0

@@ -11,9 +11,10 @@ use Rattle.durable_store.specs.Epochs.{firsts}
 
 -- the version of the tables of a new file
 abbrev pub newest_format : ℕ
-newest_format = 3
+newest_format = 4
 
--- the versions that are read: in a file of the first no type is a number, and in one of the second no operation has an amount
+-- the versions that are read: in a file of the first no type is a number, in one of the second no operation has an amount, and in one of the third
+-- no object has a name
 abbrev pub IsReadFormat : ℕ → Type 0
 IsReadFormat format = (1 ≤ format) × (format ≤ newest_format)
 

@@ -10,6 +10,7 @@ use Rattle.journal.specs.Contents.{Contents}
 use Rattle.journal.specs.Journal.{Clean, IsJournal, IsSettled, durable, may_leave, written}
 use Rattle.durable_store.specs.declared.durable.Durable.{Durable}
 use Rattle.durable_store.specs.Types.{HasTypes}
+use Rattle.durable_store.specs.Names.{IndexesNames}
 
 -- what happened, without the worker
 abbrev pub kinds : List Event → List EventKind
@@ -27,7 +28,7 @@ event_of_kind kind = record { worker = 0; kind = kind }
 abbrev pub with_all : Contents → List Event → Contents
 with_all c more = record c { events = c.events ++ kinds more }
 
--- the journal has the whole history, which the store's commands made; the types are those of its objects; and a crash at this moment leaves
+-- the journal has the whole history, which the store's commands made; the types are those of its objects, and so are the names; and a crash at this moment leaves
 -- what was settled
 pub record IsDurable {S : Type 0} (g : Ghosts S) (d : Durable S) : Type 0 where
   pub journal : IsJournal g d.journal
@@ -36,6 +37,7 @@ pub record IsDurable {S : Type 0} (g : Ghosts S) (d : Durable S) : Type 0 where
   pub settled : Clean g d.journal → IsSettled g d.journal
   pub limit : d.store.limits ≡ file_limits
   pub own : IsOwnHistory d.store
+  pub named : Clean g d.journal → IndexesNames (written g d.journal).objects d.names
 
 -- but for the events after the first ones, as many as these, which the journal hasn't yet
 pub record IsBehind {S : Type 0} (g : Ghosts S) (d : Durable S) (count : ℕ) : Type 0 where
@@ -44,6 +46,7 @@ pub record IsBehind {S : Type 0} (g : Ghosts S) (d : Durable S) (count : ℕ) : 
   pub settled : Clean g d.journal → IsSettled g d.journal
   pub limit : d.store.limits ≡ file_limits
   pub own : IsOwnHistory d.store
+  pub named : Clean g d.journal → IndexesNames (written g d.journal).objects d.names
   pub remembered : d.store.forgotten ≤ count
   pub inside : count ≤ length d.store.history
   pub history : Clean g d.journal → take count d.store.history ≡ events_of_kinds (written g d.journal).events

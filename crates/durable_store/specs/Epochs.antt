@@ -12,6 +12,7 @@ use Rattle.store.specs.Renews.{Renews}
 use Rattle.durable_store.specs.declared.durable.Durable.{Durable}
 use Rattle.durable_store.specs.FileLimits.{file_limits}
 use Rattle.durable_store.specs.Types.{HasTypes}
+use Rattle.durable_store.specs.Names.{IndexesNames}
 use Rattle.durable_store.specs.Recovered.{next_life}
 
 -- the states at which types begin
@@ -29,6 +30,7 @@ pub record IsAhead {S : Type 0} (g : Ghosts S) (d : Durable S) : Type 0 where
   pub limit : d.store.limits ≡ file_limits
   pub none : d.store.history ≡ []
   pub own : IsOwnHistory d.store
+  pub named : Clean g d.journal → IndexesNames (written g d.journal).objects d.names
   pub as_many : Clean g d.journal → length d.store.types ≡ length (written g d.journal).states
   pub types : Clean g d.journal → HasTypes (from_states (written g d.journal) (firsts d.store.types)) d.store.types
 

@@ -25,10 +25,11 @@ pub record AreUnknown (known fresh : List (List ℕ)) : Type 0 where
   pub other : (i j : ℕ) (text : List ℕ) → slice_get known i ≡ Some text → slice_get fresh j ≡ Some text → ⊥
   pub once : (i j : ℕ) (text : List ℕ) → slice_get fresh i ≡ Some text → slice_get fresh j ≡ Some text → i ≡ j
 
--- each object is of its line's kind, and at its place among all texts is the one that its line means among the given ones
+-- each object is of its line's kind and has its name, and at its place among all texts is the one that its line means among the given ones
 pub record ArePlaced (texts all : List (List ℕ)) (lines placed : List ObjectLine) : Type 0 where
   pub as_many : length placed ≡ length lines
-  pub each : (x : ℕ) (line at : ObjectLine) → slice_get lines x ≡ Some line → slice_get placed x ≡ Some at → (at.kind ≡ line.kind) × (slice_get all at.file ≡ slice_get texts line.file)
+  pub each : (x : ℕ) (line at : ObjectLine) → slice_get lines x ≡ Some line → slice_get placed x ≡ Some at → (at.kind ≡ line.kind) × (at.name ≡ line.name)
+      × (slice_get all at.file ≡ slice_get texts line.file)
 
 -- the types of objects that begin at their initial states
 abbrev pub AreAdded : List (List ℕ) → List ObjectLine → List Checked → Type 0

@@ -15,16 +15,18 @@ use Rattle.journal.specs.Journal.{Clean, IsJournal, IsSettled, may_leave, writte
 use Rattle.durable_store.specs.declared.durable.Durable.{Durable}
 use Rattle.durable_store.specs.declared.growth.Growth.{Growth}
 use Rattle.durable_store.specs.declared.open_error.OpenError.{OpenError}
-use Rattle.durable_store.specs.declared.open_error.OpenError.TheVariants.{NotExtended}
+use Rattle.durable_store.specs.declared.open_error.OpenError.TheVariants.{NameTaken, NotExtended, NotMade}
 use Rattle.durable_store.specs.Epochs.{firsts}
 use Rattle.durable_store.specs.FileLimits.{file_limits}
+use Rattle.durable_store.specs.Names.{IndexesNames, IsFirstTaken}
 use Rattle.durable_store.specs.Growth.{AreAdded, ArePlaced, AreUnknown, grown}
 use Rattle.durable_store.specs.Types.{HasTypes}
 
 -- each line with the place that stands at its place
 pub record ArePlacesOf (places : List ℕ) (lines placed : List ObjectLine) : Type 0 where
   pub as_many : length placed ≡ length lines
-  pub each : (x : ℕ) (line at : ObjectLine) → slice_get lines x ≡ Some line → slice_get placed x ≡ Some at → (at.kind ≡ line.kind) × (slice_get places line.file ≡ Some at.file)
+  pub each : (x : ℕ) (line at : ObjectLine) → slice_get lines x ≡ Some line → slice_get placed x ≡ Some at → (at.kind ≡ line.kind) × (at.name ≡ line.name)
+      × (slice_get places line.file ≡ Some at.file)
 
 -- what is added where a file has these texts: objects of these lines, which mean types among the given texts
 pub record IsGrowth (known texts : List (List ℕ)) (lines : List ObjectLine) (g : Growth) : Type 0 where
@@ -34,9 +36,17 @@ pub record IsGrowth (known texts : List (List ℕ)) (lines : List ObjectLine) (g
   pub fresh : AreFresh (map meaning_of g.objects.items)
   pub are : AreAdded texts lines (types_of (map meaning_of g.objects.items))
 
--- where the store refuses, it is for these objects
+-- why nothing can be added to these objects: a name is taken, or an error of the texts, the types or the objects
+abbrev pub IsGrowthError : List ObjectLine → List ObjectLine → OpenError → Type 0
+IsGrowthError known lines (NameTaken x) = IsFirstTaken known lines x
+IsGrowthError known lines (NotExtended why) = ⊥
+IsGrowthError known lines (NotMade place) = ⊥
+IsGrowthError known lines error = ⊤
+
+-- where the store refuses, it is for these objects, whatever their names
 abbrev pub RefusesObjects : List Meaning → Stored → OpenError → Type 0
 RefusesObjects ms old (NotExtended why) = RefusesExtend old ms why
+RefusesObjects ms old (NameTaken x) = ⊥
 RefusesObjects ms old error = ⊤
 
 -- a crash leaves what it could have left before, or the store that has grown by these texts and objects
@@ -52,6 +62,7 @@ pub record IsAheadBy {S : Type 0} (g : Ghosts S) (fresh : List (List ℕ)) (plac
   pub limit : d.store.limits ≡ file_limits
   pub none : d.store.history ≡ []
   pub own : IsOwnHistory d.store
+  pub named : Clean g d.journal → IndexesNames ((written g d.journal).objects ++ placed) d.names
   pub some : length placed ≤ length d.store.types
   pub as_many : Clean g d.journal → length d.store.types ≡ length (written g d.journal).states + length placed
   pub objects : Clean g d.journal → length (written g d.journal).objects ≡ length (written g d.journal).states

@@ -5,5 +5,6 @@ pub mod Begun
 pub mod Recovered
 pub mod Epochs
 pub mod Created
+pub mod Names
 pub mod Growth
 pub mod GrowthParts

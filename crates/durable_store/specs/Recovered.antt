@@ -6,7 +6,7 @@ use Rattle.store.specs.Ends.{closing_but}
 use Rattle.store.specs.Replays.{AreMade}
 use Rattle.table_checker.specs.Checked.{Checked}
 use Rattle.durable_store.specs.declared.open_error.OpenError.{OpenError}
-use Rattle.durable_store.specs.declared.open_error.OpenError.TheVariants.{NotExtended, NotMade}
+use Rattle.durable_store.specs.declared.open_error.OpenError.TheVariants.{NameTaken, NotExtended, NotMade}
 use Rattle.journal.specs.declared.header.Header.{Header}
 use Rattle.journal.specs.Contents.{Contents, in_life}
 use Rattle.journal.specs.Journal.{Clean, IsOpen, ShowsCommit, durable, written}
@@ -27,10 +27,11 @@ pub record IsStoreOf (c : Contents) (s : Stored) : Type 0 where
 abbrev pub begun_store : List Checked → Stored
 begun_store types = record { types = types; history = []; limits = file_limits; forgotten = 0 }
 
--- an error of the store: it doesn't make an event of the file, or doesn't begin anew with more objects
+-- an error of the store: it doesn't make an event of the file, or doesn't begin anew with more objects, or a name is taken
 abbrev pub IsStrayError : OpenError → Type 0
 IsStrayError (NotMade place) = ⊤
 IsStrayError (NotExtended why) = ⊤
+IsStrayError (NameTaken x) = ⊤
 IsStrayError error = ⊥
 
 -- there is a store of the file's types that doesn't make its events, one after another, where no memory is refused

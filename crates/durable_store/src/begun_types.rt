@@ -1,6 +1,6 @@
 //! The objects of a file, of its types at the states where its history begins.
 
-ghost use Rattle.std.specs.Prelude.{◌≡◌, ◌<◌, length, map, Some, IfOk, OnOk, IfErr, IfSome, slice_get};
+ghost use Rattle.std.specs.Prelude.{◌≡◌, ◌<◌, true, length, map, Some, IfOk, OnOk, IfErr, IfSome, slice_get};
 ghost use Rattle.std.specs.Arc.{arc_value};
 ghost use Rattle.objects.specs.Object.{meaning_of};
 ghost use Rattle.store.specs.Ends.{AreFresh};
@@ -11,6 +11,7 @@ ghost use Rattle.durable_store.specs.Created.{IsReadFormat};
 ghost use Rattle.durable_store.specs.Types.{HasTypes};
 ghost use Rattle.durable_store.specs.Recovered.{IsStrayError};
 ghost use Rattle.declared_text.specs.Declared.{Declares};
+ghost use Rattle.object_types.specs.Types.{IsSharedAt};
 
 use crate::format::check_format;
 use crate::open_error::OpenError;
@@ -85,7 +86,8 @@ fn declared_at(alloc: Global, position: usize, text: &TypeText) -> Result<Declar
     }
 }
 
-/// The types of objects at the states where they begin. Objects of one line that begin at one state share theirs.
+/// The types of objects at the states where they begin. Objects of one kind at one place that begin at one state
+/// share theirs.
 ///
 /// # Errors
 ///
@@ -114,8 +116,8 @@ fn types_at(
     Ok(begun)
 }
 
-/// The type of object x at the state where it begins: that of an object before it with the same line that begins
-/// at the same state, else one of its own.
+/// The type of object x at the state where it begins: that of an object before it of the same kind at the same place
+/// that begins at the same state, else one of its own.
 ///
 /// # Errors
 ///
@@ -137,28 +139,36 @@ fn begun_type(
     ensures at { IfOk result (λ at. IsAtPlace (map arc_value types.now) states.now x (arc_value at)) }
     ensures strays { IfErr result (λ e. IsStrayError e → ⊥) }
 {
-    match place_of(&lines[..x], &states[..x], lines[x], states[x]) {
+    match place_of(&lines[..x], &states[..x], &lines[x], states[x]) {
         Some(other) => Ok(Arc::clone(&begun[other])?),
         None => type_at(alloc, x, &types[x], states[x]),
     }
 }
 
-/// The position of an object of this line that begins at this state.
+/// The position of an object of the kind and at the place of this line that begins at this state.
 fn place_of(
     lines: &[ObjectLine],
     states: &[FirstState],
-    line: ObjectLine,
+    line: &ObjectLine,
     first: FirstState,
 ) -> Option<usize>
     requires { length states.now ≡ length lines.now }
-    ensures { IfSome result (λ position. (slice_get lines.now position ≡ Some line) × (slice_get states.now position ≡ Some first)) }
+    ensures { IfSome result (λ position. IsSharedAt lines.now position line.now × (slice_get states.now position ≡ Some first)) }
 {
     for position in 0..lines.len() {
-        if lines[position] == line && states[position] == first {
+        if is_alike(&lines[position], line) && states[position] == first {
             return Some(position);
         }
     }
     None
+}
+
+/// Whether two lines are of one kind at one place.
+fn is_alike(one: &ObjectLine, other: &ObjectLine) -> bool
+    ensures kind { result ≡ true → one.now.kind ≡ other.now.kind }
+    ensures file { result ≡ true → one.now.file ≡ other.now.file }
+{
+    one.kind == other.kind && one.file == other.file
 }
 
 /// The type of object x at the state where it begins.

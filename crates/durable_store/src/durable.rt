@@ -14,11 +14,14 @@ ghost use Rattle.store_laws.specs.Stored.{MayStep, objects, Steps};
 ghost use Rattle.store.specs.Calls.{NotesAnswer};
 ghost use Rattle.serial_order.specs.Operations.{is_among};
 ghost use Rattle.store.specs.Ends.{closing, closing_but};
+ghost use Rattle.durable_store.specs.Names.{find_named};
 ghost use Rattle.durable_store.specs.Recovered.{Recovers, recovered_but};
 ghost use Rattle.serial_order.specs.declared.command.Command.TheVariants as command;
 
+use crate::object_names::ObjectNames;
 use journal::{FirstState, Header, Journal, JournalError, TypeText};
 use object_calls::Answer;
+use object_name::ObjectName;
 use object_trait::{Event, EventKind};
 use objects::Object;
 use serial_order::Refusal;
@@ -37,6 +40,7 @@ pub(crate) const MOST_STATES: usize = 65_536;
 pub struct Durable<S: Alter> {
     pub(crate) store: Store<Object>,
     pub(crate) journal: Journal<S>,
+    pub(crate) names: ObjectNames,
 }
 
 impl<S: Alter> Durable<S> {
@@ -59,6 +63,26 @@ impl<S: Alter> Durable<S> {
         ensures { result ≡ self.now.journal.header.life }
     {
         self.journal.life()
+    }
+
+    /// The names of its objects.
+    pub fn names(&self) -> &ObjectNames
+        ensures { result.now ≡ self.now.names }
+    {
+        &self.names
+    }
+
+    /// The number of the object that has this name.
+    pub fn find(&self, name: ObjectName) -> Option<u32>
+        requires { IsDurable S.Store self.now }
+        ensures { Clean S.Store self.now.journal → result ≡ find_named (written S.Store self.now.journal).objects name }
+    {
+        // (counted since a number is below it)
+        let _count = self.store.object_count();
+        match self.names.find(&name) {
+            Some(x) => u32::try_from(x).ok(),
+            None => None,
+        }
     }
 
     /// Begins a transaction, as the store's `begin`. Its event is written, and a crash may still take it away.
@@ -349,7 +373,11 @@ impl<S: Alter> Durable<S> {
     pub fn into_trees(self) -> S
         ensures { result ≡ self.journal.store }
     {
-        let Durable { store, journal } = self;
+        let Durable {
+            store,
+            journal,
+            names: _,
+        } = self;
         let _ = store.close();
         journal.into_store()
     }
@@ -391,16 +419,31 @@ impl<S: Alter> Durable<S> {
         ensures clean { Clean S.Store result.0.journal → Clean S.Store self.journal }
         ensures crash { LeavesEpoch S.Store self result.0 }
     {
-        let Durable { store, journal } = self;
+        let Durable {
+            store,
+            journal,
+            names,
+        } = self;
         match store.renew(alloc) {
             Ok((store, _)) => {
-                let mut ahead = Durable { store, journal };
+                let mut ahead = Durable {
+                    store,
+                    journal,
+                    names,
+                };
                 match ahead.write_epoch(alloc) {
                     Ok(()) => (ahead, Ok(Ok(()))),
                     Err(error) => (ahead, Err(error)),
                 }
             }
-            Err((store, refusal)) => (Durable { store, journal }, Ok(Err(refusal))),
+            Err((store, refusal)) => {
+                let durable = Durable {
+                    store,
+                    journal,
+                    names,
+                };
+                (durable, Ok(Err(refusal)))
+            }
         }
     }
 

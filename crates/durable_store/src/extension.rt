@@ -8,12 +8,14 @@ ghost use Rattle.journal.specs.Contents.{IsFile, contents_of};
 ghost use Rattle.journal.specs.Journal.{Clean, ShowsCommit, durable, may_leave, written};
 ghost use Rattle.store.specs.Renews.{Extends};
 ghost use Rattle.store_laws.specs.Stored.{types_of};
-ghost use Rattle.durable_store.specs.Durable.{IsDurable};
+ghost use Rattle.durable_store.specs.Durable.{IsDurable, KeepsSettled, OutcomesStay};
 ghost use Rattle.durable_store.specs.Growth.{AreAdded, Grows, IsAsBefore, IsRefusal, LeavesGrowth, RefusesGrowth, grown};
 ghost use Rattle.durable_store.specs.GrowthParts.{IsAheadBy, LeavesGrown, RefusesObjects};
+ghost use Rattle.durable_store.specs.Names.{IndexesNames, HaveNewNames, SaysTaken};
 
 use crate::durable::{Durable, MOST_STATES, first_states};
-use crate::growth::{Growth, growth_of};
+use crate::growth::{Growth, Known, growth_of};
+use crate::object_names::ObjectNames;
 use crate::open_error::OpenError;
 use journal::{JournalError, TypeText};
 use sqlite_trees::store::Alter;
@@ -28,9 +30,9 @@ impl<S: Alter> Durable<S> {
     ///
     /// # Errors
     ///
-    /// `Text` or `Untyped`, by the place among what is added; `NotExtended` by the store's own refusal; `NoMemory`: and
-    /// nothing has changed. `Journal` where the file failed, or would have more than 65,536 texts of types: the store
-    /// isn't to be used any more, and an open says what of it is there.
+    /// `NameTaken`, `Text` or `Untyped`, by the place among what is added; `NotExtended` by the store's own refusal;
+    /// `NoMemory`: and nothing has changed. `Journal` where the file failed, or would have more than 65,536 texts of
+    /// types: the store isn't to be used any more, and an open says what of it is there.
     pub fn extend(
         self,
         alloc: Global,
@@ -47,29 +49,61 @@ impl<S: Alter> Durable<S> {
         ensures last { OnOk result.1 (Clean S.Store result.0.journal → (written S.Store self.journal).headers ≡ self.journal.header ∷ []) }
         ensures refused { IfErr result.1 (λ error. IsRefusal error → IsAsBefore S.Store self result.0) }
         ensures why { IfErr result.1 (RefusesGrowth texts.now lines.now self.store) }
+        ensures named { OnOk result.1 (Clean S.Store result.0.journal → HaveNewNames (written S.Store self.journal).objects lines.now) }
+        ensures taken { IfErr result.1 (λ error. Clean S.Store result.0.journal → SaysTaken (written S.Store self.journal).objects lines.now error) }
         ensures clean { Clean S.Store result.0.journal → Clean S.Store self.journal }
         ensures crash { LeavesGrowth S.Store texts.now lines.now self result.0 }
     {
         let mut durable = self;
-        let known = match durable.types(alloc) {
+        let known = match durable.known(alloc) {
             Ok(known) => known,
             Err(error) => return (durable, Err(OpenError::Journal(error))),
         };
         match growth_of(alloc, &known, texts, lines) {
-            Ok(growth) => durable.grow(alloc, known.len() as u64, growth),
+            Ok(growth) => durable.grow_named(alloc, known, growth),
             Err(error) => (durable, Err(error)),
         }
     }
 
-    /// The same of what was made for it, where the file has as many texts of types as that.
+    /// What the file has of texts of types, and of objects.
     ///
     /// # Errors
     ///
-    /// `NotExtended`, and nothing has changed; or `Journal`.
-    fn grow(self, alloc: Global, known: u64, growth: Growth) -> (Durable<S>, Result<u32, OpenError>)
+    /// As `types`.
+    fn known(&mut self, alloc: Global) -> Result<Known, JournalError>
+        requires sound { IsDurable S.Store self.old }
+        requires shows { ShowsCommit S.Store self.old.journal }
+        ensures texts { IfOk result (λ known. Clean S.Store self.new.journal → known.texts.items ≡ (written S.Store self.old.journal).types) }
+        ensures objects { IfOk result (λ known. Clean S.Store self.new.journal → known.objects.items ≡ (written S.Store self.old.journal).objects) }
+        ensures sound { OnOk result (IsDurable S.Store self.new) }
+        ensures store { self.new.store ≡ self.old.store }
+        ensures life { self.new.journal.header ≡ self.old.journal.header }
+        ensures written { OnOk result (Clean S.Store self.new.journal → written S.Store self.new.journal ≡ written S.Store self.old.journal) }
+        ensures settled { OnOk result (KeepsSettled S.Store self.old self.new) }
+        ensures shows { OnOk result (ShowsCommit S.Store self.new.journal) }
+        ensures clean { Clean S.Store self.new.journal → Clean S.Store self.old.journal }
+        ensures crash { OutcomesStay S.Store self.old self.new }
+    {
+        let texts = self.types(alloc)?;
+        let objects = self.objects(alloc)?;
+        Ok(Known { texts, objects })
+    }
+
+    /// The same of what was made for it, where the file has these texts of types and objects.
+    ///
+    /// # Errors
+    ///
+    /// `NotExtended` or `NoMemory`, and nothing has changed; or `Journal`.
+    fn grow_named(
+        self,
+        alloc: Global,
+        known: Known,
+        growth: Growth,
+    ) -> (Durable<S>, Result<u32, OpenError>)
         requires sound { IsDurable S.Store self }
-        requires few { known + length growth.texts.items ≤ 65536 }
-        requires known { Clean S.Store self.journal → known ≡ length (written S.Store self.journal).types }
+        requires few { length known.texts.items + length growth.texts.items ≤ 65536 }
+        requires known { Clean S.Store self.journal → known.texts.items ≡ (written S.Store self.journal).types }
+        requires objects { Clean S.Store self.journal → known.objects.items ≡ (written S.Store self.journal).objects }
         requires as_many { length growth.lines.items ≡ length growth.objects.items }
         requires types { Clean S.Store self.journal → AreAdded ((written S.Store self.journal).types ++ growth.texts.items) growth.lines.items (types_of (map meaning_of growth.objects.items)) }
         ensures sound { OnOk result.1 (IsDurable S.Store result.0) }
@@ -83,7 +117,47 @@ impl<S: Alter> Durable<S> {
         ensures clean { Clean S.Store result.0.journal → Clean S.Store self.journal }
         ensures crash { LeavesGrown S.Store growth.texts.items growth.lines.items (types_of (map meaning_of growth.objects.items)) self result.0 }
     {
-        let Durable { store, journal } = self;
+        let Known { texts, objects } = known;
+        match ObjectNames::of_more(alloc, objects, &growth.lines) {
+            Ok(names) => self.grow(alloc, texts.len() as u64, names, growth),
+            Err(_) => (self, Err(OpenError::NoMemory)),
+        }
+    }
+
+    /// The same with the names of all objects, where the file has as many texts of types as that.
+    ///
+    /// # Errors
+    ///
+    /// `NotExtended`, and nothing has changed; or `Journal`.
+    fn grow(
+        self,
+        alloc: Global,
+        known: u64,
+        names: ObjectNames,
+        growth: Growth,
+    ) -> (Durable<S>, Result<u32, OpenError>)
+        requires sound { IsDurable S.Store self }
+        requires few { known + length growth.texts.items ≤ 65536 }
+        requires known { Clean S.Store self.journal → known ≡ length (written S.Store self.journal).types }
+        requires named { Clean S.Store self.journal → IndexesNames ((written S.Store self.journal).objects ++ growth.lines.items) names }
+        requires as_many { length growth.lines.items ≡ length growth.objects.items }
+        requires types { Clean S.Store self.journal → AreAdded ((written S.Store self.journal).types ++ growth.texts.items) growth.lines.items (types_of (map meaning_of growth.objects.items)) }
+        ensures sound { OnOk result.1 (IsDurable S.Store result.0) }
+        ensures first { IfOk result.1 (λ first. first ≡ length self.store.types) }
+        ensures store { OnOk result.1 (Extends self.store (types_of (map meaning_of growth.objects.items)) result.0.store) }
+        ensures durable { OnOk result.1 (Clean S.Store result.0.journal → durable S.Store result.0.journal ≡ grown (written S.Store self.journal) growth.texts.items growth.lines.items result.0.store.types) }
+        ensures shows { OnOk result.1 (ShowsCommit S.Store result.0.journal) }
+        ensures last { OnOk result.1 (Clean S.Store result.0.journal → (written S.Store self.journal).headers ≡ self.journal.header ∷ []) }
+        ensures refused { IfErr result.1 (λ error. IsRefusal error → result.0 ≡ self) }
+        ensures why { IfErr result.1 (RefusesObjects (map meaning_of growth.objects.items) self.store) }
+        ensures clean { Clean S.Store result.0.journal → Clean S.Store self.journal }
+        ensures crash { LeavesGrown S.Store growth.texts.items growth.lines.items (types_of (map meaning_of growth.objects.items)) self result.0 }
+    {
+        let Durable {
+            store,
+            journal,
+            names: former,
+        } = self;
         let Growth {
             texts,
             lines,
@@ -92,16 +166,24 @@ impl<S: Alter> Durable<S> {
         let first = store.object_count();
         match store.renew_with(alloc, objects) {
             Ok((store, _)) => {
-                let mut ahead = Durable { store, journal };
+                let mut ahead = Durable {
+                    store,
+                    journal,
+                    names,
+                };
                 match ahead.write_growth(alloc, known, &texts, &lines) {
                     Ok(()) => (ahead, Ok(first)),
                     Err(error) => (ahead, Err(OpenError::Journal(error))),
                 }
             }
-            Err((store, refusal)) => (
-                Durable { store, journal },
-                Err(OpenError::NotExtended(refusal)),
-            ),
+            Err((store, refusal)) => {
+                let durable = Durable {
+                    store,
+                    journal,
+                    names: former,
+                };
+                (durable, Err(OpenError::NotExtended(refusal)))
+            }
         }
     }
 

@@ -8,10 +8,10 @@ use crate::open_error::OpenError;
 use journal::{FileContents, JournalError};
 
 /// The version of the tables that a store writes.
-pub(crate) const FORMAT: u32 = 3;
+pub(crate) const FORMAT: u32 = 4;
 
-/// The first version. It and the second are read as the newest: in the first no type is a number, and in the second
-/// no operation has an amount.
+/// The first version. It and the two after it are read as the newest: in the first no type is a number, in the second
+/// no operation has an amount, and in the third no object has a name.
 const FIRST_FORMAT: u32 = 1;
 
 /// That a file is of one of these versions.

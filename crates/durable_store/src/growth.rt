@@ -2,11 +2,13 @@
 
 ghost use Rattle.std.specs.Prelude.{◌≡◌, ◌+◌, ◌≤◌, ◌++◌, ℕ, List, length, Some, IfErr, IfOk, IfNone, IfSome, OnOk, slice_get};
 ghost use Rattle.durable_store.specs.Growth.{AreUnknown, HavePlaces};
-ghost use Rattle.durable_store.specs.GrowthParts.{ArePlacesOf, IsGrowth};
+ghost use Rattle.durable_store.specs.GrowthParts.{ArePlacesOf, IsGrowth, IsGrowthError};
+ghost use Rattle.durable_store.specs.Names.{HaveNewNames};
 ghost use Rattle.durable_store.specs.Recovered.{IsStrayError};
 
 use crate::begun_types::declared_in;
 use crate::open_error::OpenError;
+use crate::taken_names::taken_name;
 use journal::{JournalError, TypeText};
 use object_types::accept_types;
 use objects::{Object, new_objects};
@@ -16,8 +18,16 @@ use store_text::ObjectLine;
 // the most texts of types that a file has, since a place among them has 16 bits
 const MOST_TEXTS: usize = 65_536;
 
+/// What a file has: texts of types, and objects.
+#[derive(Drop)]
+pub(crate) struct Known {
+    pub(crate) texts: Vec<TypeText>,
+    pub(crate) objects: Vec<ObjectLine>,
+}
+
 /// What is added: the texts that the file doesn't have, objects with the places of their types among all texts, and
 /// those objects as they are made.
+#[derive(Drop)]
 pub(crate) struct Growth {
     pub(crate) texts: Vec<TypeText>,
     pub(crate) lines: Vec<ObjectLine>,
@@ -31,13 +41,35 @@ struct PlacedTexts {
     places: Vec<u16>,
 }
 
-/// What is added where a file has the known texts: objects of these lines, whose places are those of the given texts.
+/// What is added where a file has the known texts and objects: objects of these lines, whose places are those of the
+/// given texts.
 ///
 /// # Errors
 ///
-/// `Text` or `Untyped` by the first of the given texts or lines, `NoMemory`, or `Journal` where the file would have
-/// too many texts.
+/// `NameTaken` by the first line whose name an object has already; `Text` or `Untyped` by the first of the given texts
+/// or lines, `NoMemory`, or `Journal` where the file would have too many texts.
 pub(crate) fn growth_of(
+    alloc: Global,
+    known: &Known,
+    texts: &[TypeText],
+    lines: &[ObjectLine],
+) -> Result<Growth, OpenError>
+    ensures grown { IfOk result (IsGrowth known.now.texts.items texts.now lines.now) }
+    ensures named { OnOk result (HaveNewNames known.now.objects.items lines.now) }
+    ensures refused { IfErr result (IsGrowthError known.now.objects.items lines.now) }
+{
+    if let Some(x) = taken_name(alloc, &known.objects, lines)? {
+        return Err(OpenError::NameTaken(x));
+    }
+    placed_growth(alloc, &known.texts, texts, lines)
+}
+
+/// The same of lines whose names aren't looked at.
+///
+/// # Errors
+///
+/// As of `growth_of`, but for `NameTaken`.
+fn placed_growth(
     alloc: Global,
     known: &[TypeText],
     texts: &[TypeText],
@@ -173,6 +205,7 @@ fn placed_lines(
         placed.push(ObjectLine {
             kind: line.kind,
             file: *file,
+            name: line.name,
         })?;
     }
     Ok(placed)

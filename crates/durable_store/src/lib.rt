@@ -8,14 +8,17 @@ mod format;
 mod growth;
 mod limits;
 mod new_file;
+mod object_names;
 mod open_error;
 mod outage;
 mod recovered_store;
+mod taken_names;
 
 pub use begun_types::file_types;
 pub use durable::Durable;
 pub use limits::file_limits;
 pub use new_file::create;
+pub use object_names::ObjectNames;
 pub use open_error::OpenError;
 pub use outage::{restart, settle_and_restart};
 pub use recovered_store::{open, open_counted, resume};

@@ -20,6 +20,9 @@ pub enum OpenError {
     /// escrow, the checker says no, or its state isn't one of the type's set.
     #[error("object {0} has no type")]
     Untyped(usize),
+    /// An object that is added has a name that one of the file has, or one that is added before it.
+    #[error("the name of object {0} is taken")]
+    NameTaken(usize),
     /// No store is made of the objects.
     #[error("{0}")]
     NoStore(NewRefusal),

@@ -22,7 +22,11 @@ pub fn restart<S: Alter + Reopen + Drop>(alloc: Global, running: Durable<S>) -> 
     ensures found { IfSome result (λ d. Clean S.Store d.journal
         → (db : Trees) × may_leave S.Store running.journal db × IsRecovered S.Store (contents_of db) d) }
 {
-    let Durable { store, journal } = running;
+    let Durable {
+        store,
+        journal,
+        names: _,
+    } = running;
     let _ = store.close();
     let (journal, said) = journal::restart(alloc, journal)?;
     match resume(alloc, journal, &said, &[]) {

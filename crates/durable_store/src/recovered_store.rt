@@ -15,6 +15,7 @@ ghost use Rattle.journal.specs.Journal.{Clean, IsJournal, IsOpen, IsSettled, Sho
 use crate::begun_types::objects_of;
 use crate::durable::Durable;
 use crate::limits::file_limits;
+use crate::object_names::ObjectNames;
 use crate::open_error::OpenError;
 use journal::{FileContents, Journal};
 use object_trait::{Event, EventKind};
@@ -113,8 +114,19 @@ pub fn resume<S: Alter>(
     ensures followed { IfErr result (λ e. IsStrayError e.0 → (e.1 ≡ journal.store) × IsNotFollowed (contents said.now)) }
 {
     journal.is_settled();
+    let names = match ObjectNames::of(alloc, &said.objects) {
+        Ok(names) => names,
+        Err(_) => return Err((OpenError::NoMemory, journal.into_store())),
+    };
     match store_of(alloc, said) {
-        Ok(store) => recovered_or_back(Durable { store, journal }, prepared),
+        Ok(store) => {
+            let made = Durable {
+                store,
+                journal,
+                names,
+            };
+            recovered_or_back(made, prepared)
+        }
         Err(error) => Err((error, journal.into_store())),
     }
 }

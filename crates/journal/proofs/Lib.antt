@@ -11,3 +11,4 @@ pub mod MoreRows
 pub mod Extended
 pub mod Outages
 pub mod Same
+pub mod ObjectCells

@@ -1,11 +1,13 @@
 //! The objects of a store, and the texts of their types, as rows.
 
-ghost use Rattle.std.specs.Prelude.{◌≡◌, IfSome};
-ghost use Rattle.journal.specs.ObjectRows.{ToldObject, object_keyed, object_read_back, object_row, object_told};
+ghost use Rattle.std.specs.Prelude.{◌≡◌, ◌∷◌, [], drop, IfSome};
+ghost use Rattle.sqlite_value.specs.declared.value.Value.TheVariants.{Text};
+ghost use Rattle.journal.specs.ObjectRows.{ToldObject, name_column, object_keyed, object_read_back, object_row, object_told};
 ghost use Rattle.journal.specs.TypeRow.{type_keyed, type_read_back, type_row, type_told};
 
 use crate::cells::{Cell, begin_row, is_at, text_in, two_bytes};
 use crate::entry::Entry;
+use object_name::ObjectName;
 use sqlite_value::row::Row;
 use sqlite_value::value::ValueRef;
 use std::alloc::{AllocError, Global};
@@ -17,6 +19,8 @@ use type_table::Kind;
 const KIND: usize = 2;
 
 const FILE: usize = 3;
+
+const NAME: usize = 4;
 // and of a type
 const TEXT: usize = 2;
 
@@ -50,7 +54,7 @@ impl TypeText {
     }
 }
 
-/// A row of its kind's word and the number of its type.
+/// A row of its kind's word, the number of its type, and its name, if it has one.
 impl Entry for ObjectLine {
     ghost row_at = { object_row };
 
@@ -63,7 +67,11 @@ impl Entry for ObjectLine {
     fn fill(&self, position: u64, row: &mut Row) -> Result<(), AllocError> {
         begin_row(row, position)?;
         row.push(ValueRef::Text(self.kind.word().as_bytes()))?;
-        row.push(ValueRef::Int(self.file as i64))
+        row.push(ValueRef::Int(self.file as i64))?;
+        match &self.name {
+            Some(name) => row.push(ValueRef::Text(name.as_bytes())),
+            None => Ok(()),
+        }
     }
 
     fn is_same(&self, other: &Self) -> bool {
@@ -71,7 +79,7 @@ impl Entry for ObjectLine {
     }
 
     fn read(_alloc: Global, position: u64, row: &Row) -> Result<Option<ObjectLine>, AllocError> {
-        if row.len() != 4 || !is_at(row, position) {
+        if !is_at(row, position) {
             return Ok(None);
         }
         Ok(object_in(row))
@@ -83,13 +91,26 @@ fn object_in(row: &Row) -> Option<ObjectLine>
     ensures { IfSome result (λ object. ToldObject row.now object) }
 {
     let kind = Kind::of_word(text_in(row, KIND)?)?;
-    match Cell::in_column(row, FILE)? {
-        Cell::Number(file) => Some(ObjectLine {
-            kind,
-            file: two_bytes(file)?,
-        }),
-        Cell::Null => None,
+    let Cell::Number(file) = Cell::in_column(row, FILE)? else {
+        return None;
+    };
+    let file = two_bytes(file)?;
+    if row.len() == NAME {
+        let name = None;
+        return Some(ObjectLine { kind, file, name });
     }
+    let name = Some(name_in(row)?);
+    Some(ObjectLine { kind, file, name })
+}
+
+/// The name in the last column of an object's row, where it is one.
+fn name_in(row: &Row) -> Option<ObjectName>
+    ensures { IfSome result (λ name. drop name_column row.now ≡ Text name ∷ []) }
+{
+    if row.len() != NAME + 1 {
+        return None;
+    }
+    ObjectName::from_bytes(text_in(row, NAME)?)
 }
 
 /// A row of the text.

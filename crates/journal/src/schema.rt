@@ -21,7 +21,7 @@ pub const TABLES: [(&str, &str); 7] = [
     ),
     (
         "object",
-        "CREATE TABLE object (x INTEGER PRIMARY KEY, kind TEXT NOT NULL, type INTEGER NOT NULL)",
+        "CREATE TABLE object (x INTEGER PRIMARY KEY, kind TEXT NOT NULL, type INTEGER NOT NULL, name TEXT)",
     ),
     (
         "snapshot",

@@ -34,7 +34,7 @@ pub fn contents(
         .expect(rt, "no states");
     FileContents {
         header: Header {
-            format: 3,
+            format: 4,
             id: [7; 16],
             life: 0,
         },
@@ -50,10 +50,12 @@ pub const TWO: [ObjectLine; 2] = [
     ObjectLine {
         kind: Kind::Undo,
         file: 0,
+        name: None,
     },
     ObjectLine {
         kind: Kind::Intentions,
         file: 0,
+        name: None,
     },
 ];
 

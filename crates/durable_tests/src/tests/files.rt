@@ -24,36 +24,39 @@ const UNPLACED: [ObjectLine; 2] = [
     ObjectLine {
         kind: Kind::Undo,
         file: 0,
+        name: None,
     },
     ObjectLine {
         kind: Kind::Undo,
         file: 1,
+        name: None,
     },
 ];
 
-/// A file: the number of its format, the text of its one type, the lines of its objects, at which state they begin;
-/// and why it isn't opened, if it isn't.
-type File = (u32, &'static str, [ObjectLine; 2], u32, Option<OpenError>);
+/// A file: the number of its format, the text of its one type, whether its objects name texts that are there, at which
+/// state they begin; and why it isn't opened, if it isn't.
+type File = (u32, &'static str, bool, u32, Option<OpenError>);
 
 /// A text with a fault; an object that names none, or begins at a state that isn't its type's. A file of a format
 /// before is opened, and one of another format isn't.
-static FILES: [File; 7] = [
-    (3, FAULTY, TWO, 0, Some(OpenError::Text(0))),
-    (3, COUNTER, UNPLACED, 0, Some(OpenError::Untyped(1))),
-    (3, COUNTER, TWO, 3, Some(OpenError::Untyped(0))),
+static FILES: [File; 8] = [
+    (4, FAULTY, true, 0, Some(OpenError::Text(0))),
+    (4, COUNTER, false, 0, Some(OpenError::Untyped(1))),
+    (4, COUNTER, true, 3, Some(OpenError::Untyped(0))),
     (
         0,
         COUNTER,
-        TWO,
+        true,
         0,
         Some(OpenError::Journal(JournalError::Foreign)),
     ),
-    (1, COUNTER, TWO, 0, None),
-    (2, COUNTER, TWO, 0, None),
+    (1, COUNTER, true, 0, None),
+    (2, COUNTER, true, 0, None),
+    (3, COUNTER, true, 0, None),
     (
-        4,
+        5,
         COUNTER,
-        TWO,
+        true,
         0,
         Some(OpenError::Journal(JournalError::Foreign)),
     ),
@@ -74,8 +77,9 @@ fn error_of<S: Alter + Drop>(rt: &(impl Abort + AllocGlobal), trees: S) -> Optio
 
 /// That each file is opened, or why it isn't.
 fn are_opened<S: NewTrees + Drop, R: Abort + AllocGlobal>(rt: &R) {
-    for (format, text, lines, state, error) in &FILES {
-        let mut said = contents(rt, text, lines, *state);
+    for (format, text, are_placed, state, error) in &FILES {
+        let lines = if *are_placed { TWO } else { UNPLACED };
+        let mut said = contents(rt, text, &lines, *state);
         said.header.format = *format;
         let trees = created(rt, S::no_trees(rt), &said);
         assert!(rt; error_of(rt, trees) == *error);

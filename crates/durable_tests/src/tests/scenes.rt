@@ -262,6 +262,7 @@ fn many_counters<S: NewTrees + Drop, R: Abort + AllocGlobal>(rt: &R) -> Durable<
     let line = ObjectLine {
         kind: Kind::Undo,
         file: 0,
+        name: None,
     };
     let mut lines = Vec::new(rt.alloc());
     lines.resize(300, line).expect(rt, "no lines");

@@ -8,7 +8,7 @@ ghost use Rattle.outputs.specs.Out.{sink_fault};
 use super::counters::{NewTrees, has, new_store, restarted};
 use durable_store::Durable;
 use outputs::{Gathered, OutFault, Sink};
-use serving::{Archive, Client, NoArchive, ServeFault, Server};
+use serving::{Archive, Client, NoAdditions, NoArchive, ServeFault, Server};
 use sqlite_trees::memory::MemStore;
 use sqlite_trees::store::Alter;
 use std::process::Abort;
@@ -123,13 +123,15 @@ pub fn told<S: Alter + Drop, A: Archive>(
         rt,
         alloc,
         Duration::from_secs(how.drain),
+        &mut NoAdditions,
         archive,
         &mut input,
         &mut buffer[..piece],
         &mut client,
     );
     let said = client.into_out().into_inner().into_inner().held;
-    (said, served, server.into_store())
+    let (store, _) = server.into_parts();
+    (said, served, store)
 }
 
 /// No transaction begins in a full epoch, and where the last one has ended the next epoch begins in another life.

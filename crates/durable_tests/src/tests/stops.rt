@@ -226,11 +226,13 @@ fn played<S: Alter + Drop>(rt: &(impl Abort + AllocGlobal), trees: S) -> Option<
 {
     let journal = new_journal(rt, trees)?;
     let mut store = open(rt.alloc(), journal.into_store(), &[]).ok()?;
-    if counted_once(&mut store).is_err() {
-        let _ = store.into_trees();
-        return None;
+    match counted_once(&mut store) {
+        Ok(()) => Some(renewed(rt.alloc(), store)),
+        Err(_) => {
+            let _ = store.into_trees();
+            None
+        }
     }
-    Some(renewed(rt.alloc(), store))
 }
 
 /// How many events are found, where both objects have counted up.

@@ -20,10 +20,12 @@ const MORE: [ObjectLine; 2] = [
     ObjectLine {
         kind: Kind::Intentions,
         file: 1,
+        name: None,
     },
     ObjectLine {
         kind: Kind::Undo,
         file: 0,
+        name: None,
     },
 ];
 

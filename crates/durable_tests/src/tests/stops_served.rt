@@ -7,7 +7,7 @@ ghost use Rattle.durable_store.specs.Durable.{IsDurable};
 use super::serving_lines::output;
 use super::stops::{FoundAgain, Stops, Trial, new_journal, tried_after};
 use durable_store::{Durable, open};
-use serving::{Client, EpochLimits, NoArchive, serve};
+use serving::{Client, EpochLimits, NoAdditions, NoArchive, serve};
 use sqlite_trees::store::Alter;
 use std::process::Abort;
 use std::rt::Clock;
@@ -49,6 +49,7 @@ fn commits_told<S: Alter + Drop>(
         rt.alloc(),
         limits,
         store,
+        &mut NoAdditions,
         &mut NoArchive,
         &mut input,
         &mut byte,

@@ -1,6 +1,6 @@
-use Rattle.std.proofs.Common.{◌∙◌, map, arith}
+use Rattle.std.proofs.Common.{◌∙◌, length, map, refl, arith}
 use Rattle.std.proofs.lemmas.List.{length-map}
-use Rattle.std.proofs.lemmas.Option.{slice_get-get_or}
+use Rattle.std.proofs.lemmas.Option.{slice_get-get_or, slice_get_read}
 use Rattle.std.proofs.lemmas.Result.{IfOk-weaker}
 use Rattle.object_types.specs.Types.{value_of}
 use Rattle.durable_store.proofs.Begun.{fresh-at, shared-at}
@@ -8,9 +8,11 @@ use Rattle.durable_store.proofs.begun_types.begun_type.Goals as goal
 
 pub returns-in_ok-clone-in-Some-clause-at : goal.returns-in_ok-clone-in-Some-clause-at
 returns-in_ok-clone-in-Some-clause-at c =
-    shared-at (map value_of c.args.types.now) c.args.lines.now c.args.states.now c.args.begun.now.items c.args.x c.in-Some.other _ _ c.index.result.now c.in_ok-clone-in-Some.field-0
+    let lines = c.args.lines.now in
+    let o = c.index-lines-x.result in
+    shared-at (map value_of c.args.types.now) lines c.args.states.now c.args.begun.now.items c.args.x c.in-Some.other o _ c.index.result.now c.in_ok-clone-in-Some.field-0
     (length-map c.args.types.now value_of ∙ c.requires.types) c.requires.before c.requires.inside c.requires.alike c.requires.known
-    (slice_get-get_or c.args.lines.now c.args.x _ c.requires.inside) (slice_get-get_or c.args.states.now c.args.x _ (omega (arith, c.requires.inside, c.requires.states)))
+    (slice_get_read lines (length lines) c.args.x o refl c.requires.inside c.index-lines-x.is) (slice_get-get_or c.args.states.now c.args.x _ (omega (arith, c.requires.inside, c.requires.states)))
     c.in-Some.ensures.0 c.in-Some.ensures.1 c.index.ensures c.in_ok-clone-in-Some.ensures.cases
 
 pub returns-in-None-clause-at : goal.returns-in-None-clause-at

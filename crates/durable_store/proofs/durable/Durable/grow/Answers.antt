@@ -12,9 +12,9 @@ pub write_growth-requires-clause-ahead : goal.write_growth-requires-clause-ahead
 write_growth-requires-clause-ahead g c =
     let growth = c.args.growth in
     let ms = map meaning_of growth.objects.items in
-    let ahead : Durable g.row.S.Denot = record { store = c.in-Ok.store; journal = c.args.self.journal } in
+    let ahead : Durable g.row.S.Denot = record { store = c.in-Ok.store; journal = c.args.self.journal; names = c.args.names } in
     let as-many : length growth.lines.items ≡ length (types_of ms) =
     c.requires.as_many ∙ sym (length-map growth.objects.items meaning_of) ∙ sym (length-map ms (λ (m : Meaning). m.checked)) in
     subst (λ ts. IsAheadBy g.S.Store ts c.deref-in-Ok.result.now ahead) (sym c.deref.ensures.value)
     (subst (λ ls. IsAheadBy g.S.Store growth.texts.items ls ahead) (sym c.deref-in-Ok.ensures.value)
-    (ahead-by g.S.Store c.args.self c.in-Ok.store growth.texts.items growth.lines.items (types_of ms) c.requires.sound c.in-Ok.ensures.extended as-many c.requires.types))
+    (ahead-by g.S.Store c.args.self c.in-Ok.store c.args.names growth.texts.items growth.lines.items (types_of ms) c.requires.sound c.in-Ok.ensures.extended as-many c.requires.types c.requires.named))

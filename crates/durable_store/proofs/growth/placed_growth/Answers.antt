@@ -4,7 +4,7 @@ use Rattle.objects.specs.Object.{checked_types}
 use Rattle.durable_store.specs.Growth.{AreAdded}
 use Rattle.durable_store.specs.GrowthParts.{ArePlacesOf}
 use Rattle.durable_store.proofs.Growths.{added-of, placed-of}
-use Rattle.durable_store.proofs.growth.growth_of.Goals as goal
+use Rattle.durable_store.proofs.growth.placed_growth.Goals as goal
 
 pub returns-clause-growth : goal.returns-clause-growth
 returns-clause-growth c =
