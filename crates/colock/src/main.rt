@@ -5,7 +5,7 @@ use command_files::{Fault, FileSource, say_fault};
 use commands::{Console, Given, do_words, given_words};
 use database_files::FileDatabases;
 use outputs::{Gathered, Sink};
-use serve_command::FolderArchives;
+use serve_command::{FolderArchives, SourceAdditions};
 use std::process::ExitCode;
 
 fn main(rt: HostRuntime) -> ExitCode {
@@ -16,6 +16,9 @@ fn main(rt: HostRuntime) -> ExitCode {
                 source: FileSource { runtime: &rt },
                 databases: FileDatabases { runtime: &rt },
                 archives: FolderArchives { runtime: &rt },
+                additions: SourceAdditions {
+                    source: FileSource { runtime: &rt },
+                },
                 input: rt.stdin(),
             };
             let (status, _) = do_words(&rt, given_words(&rt), &mut given, Console { out, err });

@@ -1,13 +1,13 @@
 -- What a line asks.
-use Rattle.std.specs.Prelude.{ℕ, Bool, ◌&&◌, nat_le, List, [], ◌∷◌, length, ◌==◌, if◌then◌else◌, Option, Some, None, Result, Ok, Err, codes}
+use Rattle.std.specs.Prelude.{ℕ, Bool, ◌&&◌, nat_le, List, [], ◌∷◌, drop, length, ◌==◌, if◌then◌else◌, Option, Some, None, Result, Ok, Err, codes}
 use Rattle.std.specs.List.{list_all, slice_split}
 use Rattle.type_table.specs.Name.{is_name}
-use Rattle.request_text.specs.Shapes.{◌>>=◌, has_words, request_name_at, number_at, transaction_at, is_verb}
+use Rattle.request_text.specs.Shapes.{◌>>=◌, has_words, has_words_from, request_name_at, number_at, object_at, asked_name_at, transaction_at, is_verb}
 use Rattle.request_text.specs.declared.fault.RequestFault.{RequestFault}
 use Rattle.request_text.specs.declared.fault.RequestFault.TheVariants.{TooLong, NotAscii, BadTag, UnknownVerb}
 use Rattle.request_text.specs.declared.request.Asked.{Asked}
 use Rattle.request_text.specs.declared.request.Request.{Request}
-use Rattle.request_text.specs.declared.request.Request.TheVariants.{Begin, Call, Would, Commit, Abort, Rollback, Kept, Objects, Types, Events, Stats, End}
+use Rattle.request_text.specs.declared.request.Request.TheVariants.{Begin, Call, Would, Commit, Abort, Rollback, Kept, Find, Objects, Types, Events, Stats, Extend, End}
 
 -- ---- a request
 
@@ -22,7 +22,7 @@ call_request_of words = do
   done ← has_words words 4
   call ← request_name_at words 3
   t ← transaction_at words 1
-  x ← number_at words 2
+  x ← object_at words 2
   Ok (Call t x call)
 
 unfoldable pub would_of : List (List ℕ) → Result Request RequestFault
@@ -30,7 +30,7 @@ would_of words = do
   done ← has_words words 4
   call ← request_name_at words 3
   t ← transaction_at words 1
-  x ← number_at words 2
+  x ← object_at words 2
   Ok (Would t x call)
 
 unfoldable pub commit_request_of : List (List ℕ) → Result Request RequestFault
@@ -55,8 +55,14 @@ rollback_request_of words = do
 unfoldable pub kept_of : List (List ℕ) → Result Request RequestFault
 kept_of words = do
   done ← has_words words 2
-  x ← number_at words 1
+  x ← object_at words 1
   Ok (Kept x)
+
+unfoldable pub find_of : List (List ℕ) → Result Request RequestFault
+find_of words = do
+  done ← has_words words 2
+  name ← asked_name_at words 1
+  Ok (Find name)
 
 unfoldable pub events_request_of : List (List ℕ) → Result Request RequestFault
 events_request_of words = do
@@ -65,16 +71,23 @@ events_request_of words = do
   count ← number_at words 2
   Ok (Events from count)
 
+-- a path of object lines, and one or more of types
+unfoldable pub extend_request_of : List (List ℕ) → Result Request RequestFault
+extend_request_of words = do
+  done ← has_words_from words 3
+  Ok Extend
+
 -- by the verb, of those that change nothing
 unfoldable pub question_of : List (List ℕ) → Result Request RequestFault
 question_of words =
     if is_verb words (codes "kept") then kept_of words
+    else (if is_verb words (codes "find") then find_of words
     else (if is_verb words (codes "objects") then alone words Objects
     else (if is_verb words (codes "types") then alone words Types
     else (if is_verb words (codes "events") then events_request_of words
     else (if is_verb words (codes "stats") then alone words Stats
     else (if is_verb words (codes "end") then alone words End
-    else Err UnknownVerb)))))
+    else Err UnknownVerb))))))
 
 -- by the verb
 unfoldable pub request_of : List (List ℕ) → Result Request RequestFault
@@ -85,7 +98,8 @@ request_of words =
     else (if is_verb words (codes "commit") then commit_request_of words
     else (if is_verb words (codes "abort") then abort_request_of words
     else (if is_verb words (codes "rollback") then rollback_request_of words
-    else question_of words)))))
+    else (if is_verb words (codes "extend") then extend_request_of words
+    else question_of words))))))
 
 -- ---- a line
 
@@ -96,6 +110,10 @@ untagged fault = record { tag = None; request = Err fault }
 -- the words of a line, with one space between two
 abbrev pub words_between : List ℕ → List (List ℕ)
 words_between line = slice_split (λ b. b == 32) line
+
+-- those behind the tag and the verb
+abbrev pub file_words : List ℕ → List (List ℕ)
+file_words line = drop 2 (words_between line)
 
 -- 32 to 126
 abbrev pub is_ascii : ℕ → Bool

@@ -14,7 +14,7 @@ pub enum RequestFault {
     UnknownVerb,
     /// A wrong number of words, or a word that isn't the name that is asked for.
     BadWords,
-    /// A word that isn't the number or the transaction that is asked for.
+    /// A word that isn't the number, the object or the transaction that is asked for.
     BadNumber,
 }
 

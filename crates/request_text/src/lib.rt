@@ -9,7 +9,7 @@ mod request;
 mod shapes;
 
 pub use fault::RequestFault;
-pub use reading::{LONGEST_LINE, read_line};
-pub use request::{Asked, Request, TransactionName};
+pub use reading::{LONGEST_LINE, file_words, read_line};
+pub use request::{Asked, ObjectWord, Request, TransactionName};
 
 pub mod worked;

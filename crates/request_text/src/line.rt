@@ -1,11 +1,13 @@
 //! The requests, by their verbs.
 
 ghost use Rattle.std.specs.Prelude.{◌≡◌, map};
-ghost use Rattle.request_text.specs.Requests.{request_of, question_of, alone, call_request_of, would_of, commit_request_of, abort_request_of, rollback_request_of, kept_of, events_request_of};
+ghost use Rattle.request_text.specs.Requests.{request_of, question_of, alone, call_request_of, would_of, commit_request_of, abort_request_of, rollback_request_of, extend_request_of, kept_of, find_of, events_request_of};
 
 use crate::fault::RequestFault;
 use crate::request::Request;
-use crate::shapes::{exactly, is_verb, name_at, number_at, transaction_at};
+use crate::shapes::{
+    asked_name_at, at_least, exactly, is_verb, name_at, number_at, object_at, transaction_at,
+};
 
 /// The request of these words.
 #[tactic(auto, unfolding(crate::specs::Requests::request_of))]
@@ -24,6 +26,8 @@ pub fn request_of(words: &[&[u8]]) -> Result<Request, RequestFault>
         abort_of(words)
     } else if is_verb(words, "rollback") {
         rollback_of(words)
+    } else if is_verb(words, "extend") {
+        extend_of(words)
     } else {
         question_of(words)
     }
@@ -36,6 +40,8 @@ fn question_of(words: &[&[u8]]) -> Result<Request, RequestFault>
 {
     if is_verb(words, "kept") {
         kept_of(words)
+    } else if is_verb(words, "find") {
+        find_of(words)
     } else if is_verb(words, "objects") {
         alone(words, Request::Objects)
     } else if is_verb(words, "types") {
@@ -66,7 +72,7 @@ fn call_of(words: &[&[u8]]) -> Result<Request, RequestFault>
     exactly(words, 4)?;
     let call = name_at(words, 3)?;
     let t = transaction_at(words, 1)?;
-    let x = number_at(words, 2)?;
+    let x = object_at(words, 2)?;
     Ok(Request::Call { t, x, call })
 }
 
@@ -77,7 +83,7 @@ fn would_of(words: &[&[u8]]) -> Result<Request, RequestFault>
     exactly(words, 4)?;
     let call = name_at(words, 3)?;
     let t = transaction_at(words, 1)?;
-    let x = number_at(words, 2)?;
+    let x = object_at(words, 2)?;
     Ok(Request::Would { t, x, call })
 }
 
@@ -109,13 +115,30 @@ fn rollback_of(words: &[&[u8]]) -> Result<Request, RequestFault>
     Ok(Request::Rollback { t, count })
 }
 
+#[tactic(auto, unfolding(crate::specs::Requests::extend_request_of))]
+fn extend_of(words: &[&[u8]]) -> Result<Request, RequestFault>
+    ensures { result ≡ extend_request_of (map (λ w. w.now) words.now) }
+{
+    at_least(words, 3)?;
+    Ok(Request::Extend)
+}
+
 #[tactic(auto, unfolding(crate::specs::Requests::kept_of))]
 fn kept_of(words: &[&[u8]]) -> Result<Request, RequestFault>
     ensures { result ≡ kept_of (map (λ w. w.now) words.now) }
 {
     exactly(words, 2)?;
-    let x = number_at(words, 1)?;
+    let x = object_at(words, 1)?;
     Ok(Request::Kept { x })
+}
+
+#[tactic(auto, unfolding(crate::specs::Requests::find_of))]
+fn find_of(words: &[&[u8]]) -> Result<Request, RequestFault>
+    ensures { result ≡ find_of (map (λ w. w.now) words.now) }
+{
+    exactly(words, 2)?;
+    let name = asked_name_at(words, 1)?;
+    Ok(Request::Find { name })
 }
 
 #[tactic(auto, unfolding(crate::specs::Requests::events_request_of))]

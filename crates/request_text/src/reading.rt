@@ -2,7 +2,7 @@
 
 ghost use Rattle.std.specs.Prelude.{◌≡◌, map, IfOk, OnOk};
 ghost use Rattle.std.specs.List.{list_all};
-ghost use Rattle.request_text.specs.Requests.{asked_by, is_ascii, tagged_of, untagged, words_between};
+ghost use Rattle.request_text.specs.Requests.{asked_by, file_words, is_ascii, tagged_of, untagged, words_between};
 
 use crate::fault::RequestFault;
 use crate::line::request_of;
@@ -29,6 +29,21 @@ pub fn read_line(alloc: Global, line: &[u8]) -> Result<Asked, AllocError>
     }
     let words = words_between(alloc, line)?;
     Ok(tagged_of(&words))
+}
+
+/// The words of a line behind its tag and its verb: of `extend`, the paths of its files.
+///
+/// # Errors
+///
+/// Memory was refused.
+pub fn file_words(alloc: Global, line: &[u8]) -> Result<Vec<&[u8]>, AllocError>
+    ensures { IfOk result (λ words. map (λ w. w.now) words.items ≡ file_words line.now) }
+{
+    let words = words_between(alloc, line)?;
+    match words.as_slice() {
+        [_tag, _verb, files @ ..] => Vec::from_slice(alloc, files),
+        _ => Ok(Vec::new(alloc)),
+    }
 }
 
 /// What the words of a line ask.

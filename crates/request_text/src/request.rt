@@ -1,4 +1,5 @@
 use crate::fault::RequestFault;
+use object_name::ObjectName;
 use type_table::Name;
 
 /// What a transaction is called outside of its store: the life of the store that began it, and its number
@@ -9,18 +10,25 @@ pub struct TransactionName {
     pub number: u32,
 }
 
+/// Which object is meant: by its number, or by its name.
+#[derive(Clone, Copy)]
+pub enum ObjectWord {
+    Number { x: u32 },
+    Name { name: ObjectName },
+}
+
 /// What a client asks of a store.
 #[derive(Clone, Copy)]
 pub enum Request {
     Begin,
     Call {
         t: TransactionName,
-        x: u32,
+        x: ObjectWord,
         call: Name,
     },
     Would {
         t: TransactionName,
-        x: u32,
+        x: ObjectWord,
         call: Name,
     },
     Commit {
@@ -34,7 +42,11 @@ pub enum Request {
         count: u32,
     },
     Kept {
-        x: u32,
+        x: ObjectWord,
+    },
+    /// The number is asked of the object that has this name.
+    Find {
+        name: ObjectName,
     },
     Objects,
     Types,
@@ -43,6 +55,8 @@ pub enum Request {
         count: u32,
     },
     Stats,
+    /// More objects are asked for: `file_words` are the words behind the verb.
+    Extend,
     End,
 }
 

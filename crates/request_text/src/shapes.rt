@@ -1,11 +1,12 @@
 //! What the words of a request are to be.
 
 ghost use Rattle.std.specs.Prelude.{◌≡◌, map};
-ghost use Rattle.request_text.specs.Shapes.{word_at, has_words, number_at, transaction_at, request_name_at, is_verb};
+ghost use Rattle.request_text.specs.Shapes.{word_at, has_words, has_words_from, number_at, transaction_at, request_name_at, asked_name_at, object_word, object_at, is_verb};
 
 use crate::fault::RequestFault;
 use crate::number::{number_of, transaction_of};
-use crate::request::TransactionName;
+use crate::request::{ObjectWord, TransactionName};
+use object_name::ObjectName;
 use type_table::Name;
 
 /// Whether the first word is this verb.
@@ -28,6 +29,18 @@ pub fn exactly(words: &[&[u8]], count: usize) -> Result<(), RequestFault>
     }
 }
 
+/// That there are at least this many words, the verb among them; else `BadWords`.
+#[tactic(auto, unfolding(crate::specs::Shapes::has_words_from))]
+pub fn at_least(words: &[&[u8]], count: usize) -> Result<(), RequestFault>
+    ensures { result ≡ has_words_from (map (λ w. w.now) words.now) count }
+{
+    if words.len() >= count {
+        Ok(())
+    } else {
+        Err(RequestFault::BadWords)
+    }
+}
+
 /// The name at a position, where the verb is at position 0; else `BadWords`.
 #[tactic(auto, unfolding(crate::specs::Shapes::request_name_at))]
 pub fn name_at(words: &[&[u8]], position: usize) -> Result<Name, RequestFault>
@@ -36,6 +49,41 @@ pub fn name_at(words: &[&[u8]], position: usize) -> Result<Name, RequestFault>
     match Name::from_bytes(word(words, position)) {
         Some(name) => Ok(name),
         None => Err(RequestFault::BadWords),
+    }
+}
+
+/// The name of an object at a position; else `BadWords`.
+#[tactic(auto, unfolding(crate::specs::Shapes::asked_name_at))]
+pub fn asked_name_at(words: &[&[u8]], position: usize) -> Result<ObjectName, RequestFault>
+    ensures { result ≡ asked_name_at (map (λ w. w.now) words.now) position }
+{
+    match ObjectName::from_bytes(word(words, position)) {
+        Some(name) => Ok(name),
+        None => Err(RequestFault::BadWords),
+    }
+}
+
+/// The object at a position, a number or `@` and a name; else `BadNumber`.
+#[tactic(auto, unfolding(crate::specs::Shapes::object_at))]
+pub fn object_at(words: &[&[u8]], position: usize) -> Result<ObjectWord, RequestFault>
+    ensures { result ≡ object_at (map (λ w. w.now) words.now) position }
+{
+    object_word(word(words, position))
+}
+
+/// The object that a word says.
+fn object_word(word: &[u8]) -> Result<ObjectWord, RequestFault>
+    ensures { result ≡ object_word word.now }
+{
+    match word {
+        [b'@', name @ ..] => match ObjectName::from_bytes(name) {
+            Some(name) => Ok(ObjectWord::Name { name }),
+            None => Err(RequestFault::BadNumber),
+        },
+        digits => match number_of(digits) {
+            Some(x) => Ok(ObjectWord::Number { x }),
+            None => Err(RequestFault::BadNumber),
+        },
     }
 }
 

@@ -2,9 +2,10 @@
 
 ghost use Rattle.std.specs.Prelude.{◌≡◌, ◌∷◌, [], codes, Some, None, Ok, Err};
 ghost use Rattle.request_text.specs.Numbers.{request_number, transaction_of};
-ghost use Rattle.request_text.specs.Requests.{asked_by, untagged, words_between};
+ghost use Rattle.request_text.specs.Requests.{asked_by, file_words, untagged, words_between};
 ghost use Rattle.request_text.specs.declared.fault.RequestFault.TheVariants.{NotAscii, BadTag, UnknownVerb, BadWords, BadNumber};
-ghost use Rattle.request_text.specs.declared.request.Request.TheVariants.{Begin, Call};
+ghost use Rattle.request_text.specs.declared.request.Request.TheVariants.{Begin, Call, Kept, Find, Extend};
+ghost use Rattle.request_text.specs.declared.request.ObjectWord.TheVariants.{Number, Name};
 
 pub fn numbers_are_read()
     ensures zero { request_number (codes "0") ≡ Some 0 }
@@ -26,6 +27,28 @@ pub fn lines_are_cut_at_each_space()
     ensures no_byte { words_between [] ≡ [] ∷ [] }
 {}
 
+pub fn words_behind_the_verb()
+    ensures files { file_words (codes "a1 extend more.history ctr2.type") ≡ codes "more.history" ∷ codes "ctr2.type" ∷ [] }
+    ensures none { file_words (codes "a1 end") ≡ [] }
+    ensures no_verb { file_words (codes "a1") ≡ [] }
+{}
+
+pub fn lines_that_ask_for_more_objects()
+    ensures extend { asked_by (codes "e1 extend more.history ctr2.type") ≡ record { tag = Some (codes "e1"); request = Ok Extend } }
+    ensures no_type { asked_by (codes "e1 extend more.history") ≡ record { tag = Some (codes "e1"); request = Err BadWords } }
+{}
+
+/// An object is said by its number, or by `@` and its name.
+pub fn lines_say_objects_by_names()
+    ensures call { asked_by (codes "7 call 3.17 @LH-455.A12 hold") ≡ record { tag = Some (codes "7"); request = Ok (Call (record { life = 3; number = 17 }) (Name (codes "LH-455.A12")) (codes "hold")) } }
+    ensures kept { asked_by (codes "7 kept @7") ≡ record { tag = Some (codes "7"); request = Ok (Kept (Name (codes "7"))) } }
+    ensures find { asked_by (codes "7 find A12") ≡ record { tag = Some (codes "7"); request = Ok (Find (codes "A12")) } }
+    ensures no_name { asked_by (codes "7 kept @") ≡ record { tag = Some (codes "7"); request = Err BadNumber } }
+    ensures comma { asked_by (codes "7 kept @A,12") ≡ record { tag = Some (codes "7"); request = Err BadNumber } }
+    ensures without_the_sign { asked_by (codes "7 kept A12") ≡ record { tag = Some (codes "7"); request = Err BadNumber } }
+    ensures with_the_sign { asked_by (codes "7 find @A12") ≡ record { tag = Some (codes "7"); request = Err BadWords } }
+{}
+
 pub fn lines_without_a_tag()
     ensures empty { asked_by [] ≡ untagged BadTag }
     ensures upper_case { asked_by (codes "A1 begin") ≡ untagged BadTag }
@@ -34,7 +57,7 @@ pub fn lines_without_a_tag()
 
 pub fn lines_say_their_requests()
     ensures begin { asked_by (codes "a1 begin") ≡ record { tag = Some (codes "a1"); request = Ok Begin } }
-    ensures call { asked_by (codes "7 call 3.17 0 hold:2") ≡ record { tag = Some (codes "7"); request = Ok (Call (record { life = 3; number = 17 }) 0 (codes "hold:2")) } }
+    ensures call { asked_by (codes "7 call 3.17 0 hold:2") ≡ record { tag = Some (codes "7"); request = Ok (Call (record { life = 3; number = 17 }) (Number 0) (codes "hold:2")) } }
     ensures unknown_verb { asked_by (codes "a1 open") ≡ record { tag = Some (codes "a1"); request = Err UnknownVerb } }
     ensures space_behind { asked_by (codes "a1 begin ") ≡ record { tag = Some (codes "a1"); request = Err BadWords } }
     ensures words_before_numbers { asked_by (codes "a1 call x 0 HOLD") ≡ record { tag = Some (codes "a1"); request = Err BadWords } }

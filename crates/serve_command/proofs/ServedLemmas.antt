@@ -19,7 +19,9 @@ use Rattle.durable_store.specs.Recovered.{IsRecovered}
 use Rattle.request_text.specs.declared.request.Asked.{Asked}
 use Rattle.table_checker.specs.Checked.{Checked}
 use Rattle.serving.specs.declared.answer_line.Answered.{Answered}
-use Rattle.serving.specs.EpochEnd.{end_answers}
+use Rattle.serving.specs.declared.extension.Extension.{Extension}
+use Rattle.serving.specs.EpochEnd.{last_answers}
+use Rattle.serving.specs.NextEpoch.{late_answer}
 use Rattle.serving.specs.Served.{Serves}
 use Rattle.serving.specs.Told.{AppendsPart, answers_text, greeting}
 use Rattle.serving.specs.Server.{life_of}
@@ -27,7 +29,7 @@ use Rattle.serving.proofs.Premises.{serves-weaker}
 use Rattle.command_files.specs.Answers.{IsEarlyFault}
 use Rattle.command_files.specs.Status.{is_input}
 use Rattle.command_files.specs.declared.fault.Fault.{Fault}
-use Rattle.command_files.specs.declared.fault.Fault.TheVariants.{Usage, Text, NoType, NeedsEscrow, ObjectNeedsEscrow, OtherObjects, Order, HasEvents, BadParameter, TooLarge, CannotRead, Database, NoStore, NoMemory, Output}
+use Rattle.command_files.specs.declared.fault.Fault.TheVariants.{Usage, Text, NoType, NeedsEscrow, ObjectNeedsEscrow, NameTaken, OtherObjects, Order, HasEvents, BadParameter, TooLarge, CannotRead, Database, NoStore, NoMemory, Output}
 use Rattle.command_files.specs.declared.status.Verdict.{Verdict}
 use Rattle.command_files.specs.declared.status.Verdict.TheVariants.{Yes}
 use Rattle.serve_command.specs.Found.{Finds, SaysFound, found_text}
@@ -44,8 +46,10 @@ work-under sure w = record {
   lines = w.lines;
   told = w.told;
   last = w.last;
+  said = w.said;
   reached = w.reached;
   ended = w.ended;
+  waits = w.waits;
   lives = λ c. w.lives (sure c);
   opened = λ c. w.opened (sure c);
   serves = serves-weaker sure w.serves;
@@ -69,7 +73,7 @@ served-under {clean} {clean'} {held} {db} {given} {given_now} {text} left sure s
   told = s.told;
   now = s.now;
   renews = s.renews;
-  left_is = λ c. at-path db (λ x. BeginsEpoch s.work.file s.work.last x s.now) left (same c) (s.left_is (sure c));
+  left_is = λ c. at-path db (λ x. BeginsEpoch s.work.file s.work.said s.work.waits s.work.last x s.now) left (same c) (s.left_is (sure c));
 }
 
 -- where what is held at a path may be left, and is this
@@ -124,18 +128,20 @@ of-fault P (Err x) e is p = p
 -- ---- from a store to its trees
 
 -- the work of lines that were served
-abbrev work-of : {S : Type 0} (g : Ghosts S) (clean : Type 0) (lines : List (List ℕ)) (told : List Answered) (last : ℕ) (reached : Stored) (ended : Option Asked) (held : Option Trees) (db : Trees) (began : Durable S)
+abbrev work-of : {S : Type 0} (g : Ghosts S) (clean : Type 0) (lines : List (List ℕ)) (told : List Answered) (last : ℕ) (said : Contents) (reached : Stored) (ended : Option Asked) (waits : Option Extension) (held : Option Trees) (db : Trees) (began : Durable S)
     → IsDurable g began → ShowsCommit g began.journal → (clean → Clean g began.journal) → (Clean g began.journal → IfSome held (λ x. db ≡ x)) → (Clean g began.journal → IsRecovered g (contents_of db) began)
-    → Serves clean epoch_events (written g began.journal) (life_of began) lines began.store told last reached ended → ClientWork clean held
-work-of g clean lines told last reached ended held db began sound shows sure same found serves = record {
+    → Serves clean epoch_events (written g began.journal) (life_of began) lines began.store told last said reached ended waits → ClientWork clean held
+work-of g clean lines told last said reached ended waits held db began sound shows sure same found serves = record {
   life = life_of began;
   file = written g began.journal;
   began = began.store;
   lines = lines;
   told = told;
   last = last;
+  said = said;
   reached = reached;
   ended = ended;
+  waits = waits;
   lives = λ c. let now = sure c in (began.journal.header, (sound.journal now).header_is (shows now).sound, refl);
   opened = λ c.
       let is = found (sure c) in
@@ -151,11 +157,11 @@ served-at {S} {g} {given} {taken} {given_now} {taken_now} {trees} db began held 
     subst (λ (x : S). (text : List ℕ) × IsServed (IsClean (g.view x)) held (Some (g.view x).committed) given given_now text × Appends taken taken_now text) (sym s.are)
     (let sc = s.serves in
     let has = sc.tells in (
-      (greeting (life_of began) ++ answers_text has.told) ++ answers_text (end_answers sc.served.end),
+      (greeting (life_of began) ++ answers_text has.told) ++ answers_text (last_answers (late_answer sc.served.session.waiting sc.served.session.store.store) sc.served.end),
       record {
-        work = work-of g (Clean g s.now.journal) has.served.lines has.told sc.served.session.life sc.served.session.store.store sc.served.end held db began sound shows s.clean same found
+        work = work-of g (Clean g s.now.journal) has.served.lines has.told sc.served.session.life has.served.said sc.served.session.store.store sc.served.end sc.served.session.waiting held db began sound shows s.clean same found
             (serves-weaker sc.clean
-            (subst (λ all. Serves (Clean g sc.served.session.store.journal) epoch_events (written g began.journal) (life_of began) has.served.lines began.store all sc.served.session.life sc.served.session.store.store sc.served.end)
+            (subst (λ all. Serves (Clean g sc.served.session.store.journal) epoch_events (written g began.journal) (life_of began) has.served.lines began.store all sc.served.session.life has.served.said sc.served.session.store.store sc.served.end sc.served.session.waiting)
             (ap (λ more. has.told ++ more) has.waits ∙ append-nil has.told) has.served.serves));
         seen = has.seen;
         half = has.served.half;
@@ -169,9 +175,9 @@ served-at {S} {g} {given} {taken} {given_now} {taken_now} {trees} db began held 
         left_is = λ c.
             let (ended, reached, _) = has.served.lasts.reaches (sc.clean c) in
             let lives = ap suc (sym has.served.lasts.named) in
-            begins-epoch g (written g began.journal) ended sc.served.session.store s.now sc.served.session.life reached s.sound s.shows c (sc.renews.durable c) (sc.renews.life c ∙ lives);
+            begins-epoch g (written g began.journal) has.served.said sc.served.session.waiting ended sc.served.session.store s.now sc.served.session.life reached (has.served.says (sc.clean c)) s.sound s.shows c (sc.renews.durable c) (sc.renews.life c ∙ lives);
       },
-      Appends-trans taken sc.answered taken_now (greeting (life_of began) ++ answers_text has.told) (answers_text (end_answers sc.served.end))
+      Appends-trans taken sc.answered taken_now (greeting (life_of began) ++ answers_text has.told) (answers_text (last_answers (late_answer sc.served.session.waiting sc.served.session.store.store) sc.served.end))
           (Appends-trans taken sc.greeted sc.answered (greeting (life_of began)) (answers_text has.told) sc.greets has.appended) sc.ends,
     ))
 
@@ -185,11 +191,11 @@ cut-at : {S : Type 0} {g : Ghosts S} {given taken given_now taken_now : Option (
 cut-at {S} {g} {given} {taken} {given_now} {taken_now} {trees} db began held sound shows same found s =
     subst (λ (x : S). (text : List ℕ) × BeginsBefore (IsClean (g.view x)) held (g.recovers x) given given_now text × AppendsPart taken taken_now text) (sym s.are)
     (let stops = s.stops in
-    let work : ClientWork (Clean g s.now.journal) held = work-of g (Clean g s.now.journal) stops.lines stops.answers stops.life stops.reached stops.ended held db began sound shows s.clean same found stops.serves in (
+    let work : ClientWork (Clean g s.now.journal) held = work-of g (Clean g s.now.journal) stops.lines stops.answers stops.life stops.said stops.reached stops.ended stops.waits held db began sound shows s.clean same found stops.serves in (
       told_text work,
       record { work = work; told = refl; read = stops.read; leaves = λ clean. record { left = s.left clean; found = s.found clean } },
       elim stops.told [
-        | inl part ↦ part-more taken taken_now (greeting (life_of began) ++ answers_text stops.answers) (answers_text (end_answers stops.ended)) part
+        | inl part ↦ part-more taken taken_now (greeting (life_of began) ++ answers_text stops.answers) (answers_text (last_answers (late_answer stops.waits stops.reached) stops.ended)) part
         | inr part ↦ part.1
       ],
     ))
@@ -209,6 +215,7 @@ is-no-input (Text path f) refused = absurd refused
 is-no-input (NoType path x place) refused = absurd refused
 is-no-input (NeedsEscrow path) refused = absurd refused
 is-no-input (ObjectNeedsEscrow path x) refused = absurd refused
+is-no-input (NameTaken path x) refused = absurd refused
 is-no-input (OtherObjects path first) refused = absurd refused
 is-no-input (Order path fault) refused = absurd refused
 is-no-input (HasEvents path) refused = absurd refused

@@ -11,7 +11,6 @@ use Rattle.sqlite_trees.specs.Tree.{Trees}
 use Rattle.sqlite_trees.specs.View.{IsClean, View}
 use Rattle.store_laws.specs.Stored.{Stored}
 use Rattle.store.specs.Ends.{closing}
-use Rattle.store.specs.Renews.{Renews}
 use Rattle.journal.specs.Contents.{Contents, IsFile, contents_of}
 use Rattle.journal.specs.Journal.{Clean, ShowsCommit}
 use Rattle.journal.specs.declared.header.Header.{Header}
@@ -25,11 +24,13 @@ use Rattle.request_text.specs.declared.request.TransactionName.{TransactionName}
 use Rattle.serving.specs.declared.answer_line.Answered.{Answered}
 use Rattle.serving.specs.Acknowledged.{AreLast}
 use Rattle.serving.specs.CommitsFound.{CommitsAreFound, HasCommit, TellsCommit}
-use Rattle.serving.specs.EpochEnd.{end_answers}
+use Rattle.serving.specs.declared.extension.Extension.{Extension}
+use Rattle.serving.specs.EpochEnd.{last_answers}
 use Rattle.serving.specs.Epochs.{aborted}
 use Rattle.serving.specs.Group.{AreFirstLines}
 use Rattle.serving.specs.Left.{Began, IsInLife, IsLeftAfter, Survives, began_at}
 use Rattle.serving.specs.Lines.{AreLines}
+use Rattle.serving.specs.NextEpoch.{IsNextStore, SaysNext, late_answer}
 use Rattle.serving.specs.Served.{Serves}
 use Rattle.serving.specs.Told.{AppendsPart, answers_text, greeting}
 use Rattle.serving.specs.Whole.{ServesClient, StopsServing, session_of}
@@ -53,27 +54,28 @@ pub record ClientWork (clean : Type 0) (held : Option Trees) : Type 0 where
   pub lines : List (List ℕ)
   pub told : List Answered
   pub last : ℕ
+  pub said : Contents
   pub reached : Stored
   pub ended : Option Asked
+  pub waits : Option Extension
   pub lives : clean → IsInLife file life
   pub opened : clean → IfSome held (λ db. IsOpened (contents_of db) file began)
-  pub serves : Serves clean epoch_events file life lines began told last reached ended
+  pub serves : Serves clean epoch_events file life lines began told last said reached ended waits
 
 -- the lines that a client gets of it
 abbrev pub told_text : {clean : Type 0} {held : Option Trees} → ClientWork clean held → List ℕ
-told_text w = (greeting w.life ++ answers_text w.told) ++ answers_text (end_answers w.ended)
+told_text w = (greeting w.life ++ answers_text w.told) ++ answers_text (last_answers (late_answer w.waits w.reached) w.ended)
 
 -- the ids of stores in the headers of a file
 abbrev pub ids_in : Contents → List (List ℕ)
 ids_in c = map (λ (h : Header). h.id) c.headers
 
--- a file that came from this one begins a new epoch at the states of this store, after this life: with the same texts and objects, of the store
--- with the same id, in the next life
-pub record BeginsEpoch (file : Contents) (last : ℕ) (db : Trees) (s : Stored) : Type 0 where
+-- a file that came from this one begins a new epoch at the states of this store, after this life: with the texts and objects that it said last, and
+-- those of an extension that waited, of the store with the same id, in the next life
+pub record BeginsEpoch (file said : Contents) (waits : Option Extension) (last : ℕ) (db : Trees) (s : Stored) : Type 0 where
   pub events : (contents_of db).events ≡ []
   pub states : (contents_of db).states ≡ firsts s.types
-  pub types : (contents_of db).types ≡ file.types
-  pub objects : (contents_of db).objects ≡ file.objects
+  pub says : SaysNext waits said (contents_of db)
   pub id : ids_in (contents_of db) ≡ ids_in file
   pub life : IsInLife (contents_of db) (suc last)
 
@@ -89,8 +91,8 @@ pub record IsServed (clean : Type 0) (held left : Option Trees) (given given_now
   pub all : work.ended ≡ None → (rest ≡ []) × IsAtEnd given_now
   pub told : text ≡ told_text work
   pub now : Stored
-  pub renews : Renews (aborted work.reached) now
-  pub left_is : clean → IfSome left (λ db. BeginsEpoch work.file work.last db now)
+  pub renews : IsNextStore work.waits (aborted work.reached) now
+  pub left_is : clean → IfSome left (λ db. BeginsEpoch work.file work.said work.waits work.last db now)
 
 -- what serving answers: never no
 abbrev pub ServesDatabase : Type 0 → Option Trees → Option Trees → Option (List ℕ) → Option (List ℕ) → Answers

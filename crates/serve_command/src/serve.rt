@@ -15,12 +15,13 @@ ghost use Rattle.command_files.specs.Status.{is_input};
 
 use crate::found::{Found, milliseconds_since, say_found};
 use command_files::{DatabaseFault, Fault, Verdict};
-use database_commands::{fault_of_file, fault_of_open, fault_of_unopened};
+use database_commands::{fault_of_file, fault_of_making, fault_of_open, fault_of_unopened};
 use database_files::{Databases, TornWrites};
 use durable_store::{Durable, open_counted};
 use outputs::{Gathered, Out};
 use serving::{
-    Archive, ArchiveFault, Client, EpochLimits, ServeFault, serve, told_commits_are_found,
+    Additions, Archive, ArchiveFault, Client, EpochLimits, ServeFault, serve,
+    told_commits_are_found,
 };
 use sqlite_trees::store::Alter;
 use std::alloc::Global;
@@ -47,8 +48,8 @@ pub struct Serving<'a> {
 /// `serve DATABASE`: the store is opened, what was open in it is aborted, and what was found is said in a line. Then the
 /// lines of the input are done one after another, and the output takes their answers, until the end is asked for
 /// or the input has ended. What is open then is aborted, and the file begins a new epoch. After 980,000 events
-/// another epoch begins too: no further transaction begins before, and what is open is aborted where it goes on as long
-/// as it may. Before an epoch begins, the archive keeps the history of the one before; where the answer is yes, it has kept
+/// another epoch begins too, and where more objects are to be added, with these: no further transaction begins before, and
+/// what is open is aborted where it goes on as long as it may. Before an epoch begins, the archive keeps the history of the one before; where the answer is yes, it has kept
 /// that of each epoch that ended, and nothing else.
 ///
 /// # Errors
@@ -56,11 +57,21 @@ pub struct Serving<'a> {
 /// The database isn't opened or isn't one of a store, it failed, the archive, the input or the output failed, or memory was
 /// refused. Then no further call of the file is made, and what is at the path is the file after some of the lines that were
 /// read, among them each commit that was answered.
-pub fn serve_database<'a, C: Clock, D: Databases, A: Archive, I: Read, W: Out, E: Out>(
+pub fn serve_database<
+    'a,
+    C: Clock,
+    D: Databases,
+    N: Additions,
+    A: Archive,
+    I: Read,
+    W: Out,
+    E: Out,
+>(
     clock: &C,
     alloc: Global,
     asked: Serving<'a>,
     databases: &mut D,
+    additions: &mut N,
     archive: &mut A,
     input: &mut I,
     out: Gathered<W>,
@@ -82,6 +93,7 @@ pub fn serve_database<'a, C: Clock, D: Databases, A: Archive, I: Read, W: Out, E
                 alloc,
                 asked,
                 trees,
+                additions,
                 archive,
                 input,
                 &mut client,
@@ -113,11 +125,12 @@ fn let_go<'a, D: Databases>(
 }
 
 /// Serves the store in these trees, which come back.
-fn serve_in<'a, C: Clock, S: Alter, A: Archive, I: Read, W: Out, E: Out>(
+fn serve_in<'a, C: Clock, S: Alter, N: Additions, A: Archive, I: Read, W: Out, E: Out>(
     clock: &C,
     alloc: Global,
     asked: Serving<'a>,
     trees: S,
+    additions: &mut N,
     archive: &mut A,
     input: &mut I,
     client: &mut Client<W>,
@@ -144,18 +157,21 @@ fn serve_in<'a, C: Clock, S: Alter, A: Archive, I: Read, W: Out, E: Out>(
                 time: milliseconds_since(clock, began),
             };
             say_found(asked.path, found, err);
-            serve_store(clock, alloc, asked, store, archive, input, client)
+            serve_store(
+                clock, alloc, asked, store, additions, archive, input, client,
+            )
         }
         Err((error, trees)) => (Err(fault_of_open(asked.path, error)), trees),
     }
 }
 
 /// Serves a store that was opened. Its trees come back.
-fn serve_store<'a, C: Clock, S: Alter, A: Archive, I: Read, W: Out>(
+fn serve_store<'a, C: Clock, S: Alter, N: Additions, A: Archive, I: Read, W: Out>(
     clock: &C,
     alloc: Global,
     asked: Serving<'a>,
     store: Durable<S>,
+    additions: &mut N,
     archive: &mut A,
     input: &mut I,
     client: &mut Client<W>,
@@ -183,6 +199,7 @@ fn serve_store<'a, C: Clock, S: Alter, A: Archive, I: Read, W: Out>(
         alloc,
         limits,
         store,
+        additions,
         archive,
         input,
         &mut buffer,
@@ -202,6 +219,7 @@ fn fault_of_serving<'a>(asked: Serving<'a>, fault: ServeFault) -> Fault<'a>
     match fault {
         ServeFault::Journal(error) => fault_of_file(asked.path, error),
         ServeFault::Archive(fault) => fault_of_archive(asked.archive.unwrap_or(asked.path), fault),
+        ServeFault::Extension(error) => fault_of_making(asked.path, error),
         ServeFault::Input => Fault::CannotRead {
             path: "standard input",
         },

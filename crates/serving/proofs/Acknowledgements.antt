@@ -16,19 +16,22 @@ use Rattle.serving.specs.declared.server.Server.{Server}
 use Rattle.serving.specs.Acknowledged.{NoneLast, ServesSafely, StopsSafely, StopsServingSafely, TellsSafely}
 use Rattle.serving.specs.Archives.{KeptHistory}
 use Rattle.serving.specs.Does.{is_epoch_full}
-use Rattle.serving.specs.EpochEnd.{EndsEpoch, LeavesEnd, end_answers}
+use Rattle.serving.specs.declared.extension.Extension.{Extension}
+use Rattle.serving.specs.EpochEnd.{EndsEpoch, LeavesEnd, last_answers}
+use Rattle.serving.specs.NextEpoch.{answers_in, late_answer, limit_while}
 use Rattle.serving.specs.Epochs.{LeavesEpochs, WritesEpochs}
 use Rattle.serving.specs.Follows.{LeavesWritten}
 use Rattle.serving.specs.Group.{HasTold, IsUnasked}
 use Rattle.serving.specs.Left.{LeavesLines, Survives, began_at}
 use Rattle.serving.specs.Requests.{LetsGo}
 use Rattle.serving.specs.Server.{StaysInEpoch, HasServed, ServesBytes, life_of}
-use Rattle.serving.specs.Told.{AppendsPart, answers_text, greeting, has_commit}
+use Rattle.serving.specs.Told.{AppendsPart, answers_text, greeting, has_lasting}
 use Rattle.serving.specs.Whole.{session_of}
-use Rattle.serving.proofs.EndLemmas.{stops-answering, stops-ending, stops-greeting}
-use Rattle.serving.proofs.Groups.{group-told, stops-before, stops-telling, told-none}
-use Rattle.serving.proofs.LaterEpochs.{told-as, told-epoch}
-use Rattle.serving.proofs.LeftLines.{lines-ended, lines-group, lines-last, lines-none, lines-on, lines-survive, rest-read, survives-last}
+use Rattle.serving.proofs.EndLemmas.{EndsPart, ends-as, last-as, left-as, part-as, stops-answering, stops-ending, stops-greeting}
+use Rattle.serving.proofs.Groups.{group-told, stops-answered, stops-before, stops-telling, told-none}
+use Rattle.serving.proofs.LaterEpochs.{served-epoch, told-as, told-epoch}
+use Rattle.serving.proofs.TextParts.{late-alone, part-then, told-more}
+use Rattle.serving.proofs.LeftLines.{lines-begun, lines-ended, lines-group, lines-last, lines-none, lines-on, lines-survive, rest-read, survives-last}
 
 -- while the trees of a store are open, a crash leaves their last commit
 abbrev pub LeavesLast : {S : Type 0} (g : Ghosts S) → Durable S → Type 0
@@ -70,7 +73,7 @@ lines-settled {S} {g} {began} mid new bytes serves left crash told seen served s
 group-lines : {S : Type 0} {g : Ghosts S} {began : Session S} {given taken given_now taken_now : Option (List ℕ)} {old : Server S} (mid : Server S) (new : Session S) (bytes : List ℕ) → old.end ≡ None
     → (so_far : TellsSafely g began given taken old given_now taken_now)
     → (serves : (told : List Answered) (seen : List ℕ) → HasServed g began told seen old → ServesBytes g began told seen bytes mid) → LeavesGroup g began old bytes mid
-    → StaysInEpoch g old.session mid.session → StaysInEpoch g mid.session new → (has_commit mid.answers.items ≡ true → ShowsCommit g new.store.journal)
+    → StaysInEpoch g old.session mid.session → StaysInEpoch g mid.session new → (has_lasting mid.answers.items ≡ true → ShowsCommit g new.store.journal)
     → (Clean g new.store.journal → written g new.store.journal ≡ written g mid.session.store.journal) → LeavesWritten g mid.session.store new.store
     → ShowsCommit g began.store.journal → Clean g new.store.journal
     → let has = so_far.tells in let more = serves has.told has.seen has.served in
@@ -80,7 +83,7 @@ group-lines {S} {g} {began} mid new bytes none so_far serves left first second s
     let more = serves has.told has.seen has.served in
     let before = at-start none has (so_far.safe shows (first.clean (second.clean clean))) in
     let done = more.served in
-    lines-group (began_at g began) mid.session new (drop more.count bytes) mid.answers.items mid.end done.asked done.lasts.sound done.lasts.named second settled same done.serves
+    lines-group (began_at g began) mid.session new (drop more.count bytes) mid.answers.items done.said mid.end done.asked done.lasts.sound done.lasts.named second settled same done.serves
     (lines-settled mid new.store bytes serves left crash has.told has.seen has.served before more.count done) clean
 
 -- a group was answered
@@ -88,12 +91,12 @@ pub tells-group : {S : Type 0} {g : Ghosts S} {began : Session S} {given taken g
     (bytes : List ℕ) → old.end ≡ None → TellsSafely g began given taken old given_now taken_now
     → ((told : List Answered) (seen : List ℕ) → HasServed g began told seen old → ServesBytes g began told seen bytes mid) → LeavesGroup g began old bytes mid
     → Consumes given_now given_new bytes → Appends taken_now taken_new (answers_text mid.answers.items)
-    → StaysInEpoch g old.session mid.session → StaysInEpoch g mid.session new.session → LetsGo mid.session.store.store new.session.store.store
-    → (has_commit mid.answers.items ≡ true → ShowsCommit g new.session.store.journal)
+    → StaysInEpoch g old.session mid.session → StaysInEpoch g mid.session new.session → new.session.waiting ≡ mid.session.waiting → LetsGo mid.session.store.store new.session.store.store
+    → (has_lasting mid.answers.items ≡ true → ShowsCommit g new.session.store.journal)
     → (Clean g new.session.store.journal → written g new.session.store.journal ≡ written g mid.session.store.journal) → LeavesWritten g mid.session.store new.session.store
     → new.line ≡ mid.line → new.end ≡ mid.end → new.answers.items ≡ [] → TellsSafely g began given taken new given_new taken_new
-tells-group mid new given_new taken_new bytes none so_far serves left consumed appended first second lets settled same crash line ended clear = record {
-  tells = group-told mid new given_new taken_new bytes none so_far.tells serves consumed appended second lets line ended clear;
+tells-group mid new given_new taken_new bytes none so_far serves left consumed appended first second waits lets settled same crash line ended clear = record {
+  tells = group-told mid new given_new taken_new bytes none so_far.tells serves consumed appended second waits lets line ended clear;
   safe = λ shows clean. group-lines mid new.session bytes none so_far serves left first second settled same crash shows clean;
 }
 
@@ -109,7 +112,7 @@ tells-as {S} {g} {began} new session line answers ended so_far = record {
 
 -- an epoch is over, as its file may show
 ended-lines : {S : Type 0} {g : Ghosts S} {began : Session S} {given taken given_now taken_now : Option (List ℕ)} {old : Server S} {last : List (List ℕ) → Type 0} (new : Durable S)
-    → (has : HasTold g began given taken old given_now taken_now) → ((is_epoch_full began.most_events old.session.store.store ≡ true) ⊎ last has.served.lines) → LeavesEnd g old.session.store new
+    → (has : HasTold g began given taken old given_now taken_now) → ((is_epoch_full (limit_while old.session.waiting began.most_events) old.session.store.store ≡ true) ⊎ last has.served.lines) → LeavesEnd g old.session.waiting old.session.store new
     → LeavesLines g (began_at g began) NoneLast (has.seen ++ has.rest) has.told [] old.session.store → LeavesLines g (began_at g began) last (has.seen ++ has.rest) has.told [] new
 ended-lines {S} {g} {began} {old = old} {last} new has so crash so_far =
     subst (λ xs. LeavesLines g (began_at g began) last (has.seen ++ has.rest) has.told xs new) has.waits
@@ -118,19 +121,31 @@ ended-lines {S} {g} {began} {old = old} {last} new has so crash so_far =
 
 -- one that is full, by how many events make it so
 full-since : {S : Type 0} {g : Ghosts S} {began : Session S} {given taken given_now taken_now : Option (List ℕ)} {old : Server S} → HasTold g began given taken old given_now taken_now
-    → is_epoch_full old.session.most_events old.session.store.store ≡ true → is_epoch_full began.most_events old.session.store.store ≡ true
-full-since {old = old} has full = subst (λ n. is_epoch_full n old.session.store.store ≡ true) has.served.lasts.most full
+    → is_epoch_full (limit_while old.session.waiting old.session.most_events) old.session.store.store ≡ true → is_epoch_full (limit_while old.session.waiting began.most_events) old.session.store.store ≡ true
+full-since {old = old} has full = subst (λ n. is_epoch_full (limit_while old.session.waiting n) old.session.store.store ≡ true) has.served.lasts.most full
+
+-- another one has begun, and its client was told
+begun-lines : {S : Type 0} {g : Ghosts S} {began : Session S} {last : List (List ℕ) → Type 0} {told : List Answered} {seen bytes : List ℕ} {others waiting : List Answered} (rest : List ℕ) (old : Durable S) (waits : Option Extension) (new : Server S)
+    → HasServed g began told seen new → new.answers.items ≡ [] → ShowsCommit g new.session.store.journal → Clean g new.session.store.journal → LeavesEnd g waits old new.session.store
+    → LeavesLines g (began_at g began) NoneLast bytes others waiting old → LeavesLines g (began_at g began) last (seen ++ rest) told [] new.session.store
+begun-lines {S} {g} {began} {last} {told} {seen} rest old waits new served empty shows clean left so_far =
+    subst (λ xs. LeavesLines g (began_at g began) last (seen ++ rest) told xs new.session.store) empty
+    (lines-begun new rest served shows clean (λ db leaves. elim (left db leaves) [ inl it ↦ it.1 | inr before ↦ (so_far db before).0 ]))
 
 -- another epoch began
-pub tells-epoch : {S : Type 0} {g : Ghosts S} {began : Session S} {given taken given_now taken_now : Option (List ℕ)} {old : Server S} (new : Server S) (kept kept_now : Option (List KeptHistory)) → old.end ≡ None
-    → is_epoch_full old.session.most_events old.session.store.store ≡ true → EndsEpoch g old.session.store new.session.store → IsDurable g new.session.store → new.session.life ≡ life_of new.session.store
-    → new.session.most_events ≡ old.session.most_events → WritesEpochs g old.session.store new.session.store kept kept_now → (Clean g new.session.store.journal → Clean g old.session.store.journal)
-    → LeavesEpochs g old.session.store new.session.store kept kept_now → LeavesEnd g old.session.store new.session.store → new.line ≡ old.line → new.answers ≡ old.answers → new.end ≡ old.end
-    → TellsSafely g began given taken old given_now taken_now → TellsSafely g began given taken new given_now taken_now
-tells-epoch new kept kept_now none full ends sound named most writes clean crash left line answers ended so_far = record {
-  tells = told-epoch new kept kept_now none full ends sound named most writes clean crash line answers ended so_far.tells;
-  safe = λ shows now. ended-lines new.session.store so_far.tells (inl (full-since so_far.tells full)) left (so_far.safe shows (clean now));
-}
+pub tells-epoch : {S : Type 0} {g : Ghosts S} {began : Session S} {given taken given_now taken_now : Option (List ℕ)} {old : Server S} (new : Server S) (taken_new : Option (List ℕ)) (kept kept_now : Option (List KeptHistory)) → old.end ≡ None
+    → is_epoch_full (limit_while old.session.waiting old.session.most_events) old.session.store.store ≡ true → EndsEpoch g old.session.waiting old.session.store new.session.store → IsDurable g new.session.store → new.session.life ≡ life_of new.session.store
+    → new.session.most_events ≡ old.session.most_events → new.session.waiting ≡ None → ShowsCommit g new.session.store.journal
+    → WritesEpochs g old.session.store new.session.store kept kept_now → (Clean g new.session.store.journal → Clean g old.session.store.journal)
+    → LeavesEpochs g old.session.store new.session.store kept kept_now → LeavesEnd g old.session.waiting old.session.store new.session.store → new.line ≡ old.line → new.answers ≡ old.answers → new.end ≡ old.end
+    → Appends taken_now taken_new (answers_text (last_answers (late_answer old.session.waiting old.session.store.store) None))
+    → TellsSafely g began given taken old given_now taken_now → TellsSafely g began given taken new given_now taken_new
+tells-epoch {old = old} new taken_new kept kept_now none full ends sound named most no_more shows writes clean crash left line answers ended appended so_far =
+    let tells = told-epoch new taken_new kept kept_now none full ends sound named most no_more shows writes clean crash line answers ended appended so_far.tells in
+    record {
+      tells = tells;
+      safe = λ showed now. begun-lines tells.rest old.session.store old.session.waiting new tells.served tells.waits shows now left (so_far.safe showed (clean now));
+    }
 
 -- ---- a server stops
 
@@ -144,12 +159,32 @@ stops-here {S} {g} {began} {given_now = given_now} {old = old} so_far = record {
 
 -- while another epoch begins
 pub stops-epoch : {S : Type 0} {g : Ghosts S} {began : Session S} {given taken given_now taken_now : Option (List ℕ)} {old : Server S} (new : Durable S)
-    → is_epoch_full old.session.most_events old.session.store.store ≡ true → (Clean g new.journal → Clean g old.session.store.journal) → LeavesEnd g old.session.store new
+    → is_epoch_full (limit_while old.session.waiting old.session.most_events) old.session.store.store ≡ true → (Clean g new.journal → Clean g old.session.store.journal) → LeavesEnd g old.session.waiting old.session.store new
     → TellsSafely g began given taken old given_now taken_now → StopsSafely g began given taken new taken_now
 stops-epoch {S} {g} {began} {given_now = given_now} new full clean left so_far = record {
   stops = stops-before new so_far.tells.rest given_now clean so_far.tells so_far.tells.consumed;
   safe = λ shows now. lines-survive g (began_at g began) new (ended-lines new so_far.tells (inl (full-since so_far.tells full)) left (so_far.safe shows (clean now)));
 }
+
+-- as it tells that another one has begun
+pub stops-begun : {S : Type 0} {g : Ghosts S} {began : Session S} {given taken given_now taken_now : Option (List ℕ)} {old : Server S} (new : Server S) (taken_new : Option (List ℕ)) (kept kept_now : Option (List KeptHistory)) → old.end ≡ None
+    → is_epoch_full (limit_while old.session.waiting old.session.most_events) old.session.store.store ≡ true → EndsEpoch g old.session.waiting old.session.store new.session.store → IsDurable g new.session.store → new.session.life ≡ life_of new.session.store
+    → new.session.most_events ≡ old.session.most_events → new.session.waiting ≡ None → ShowsCommit g new.session.store.journal
+    → WritesEpochs g old.session.store new.session.store kept kept_now → (Clean g new.session.store.journal → Clean g old.session.store.journal)
+    → LeavesEpochs g old.session.store new.session.store kept kept_now → LeavesEnd g old.session.waiting old.session.store new.session.store → new.line ≡ old.line → new.answers ≡ old.answers → new.end ≡ old.end
+    → AppendsPart taken_now taken_new (answers_text (last_answers (late_answer old.session.waiting old.session.store.store) None))
+    → TellsSafely g began given taken old given_now taken_now → StopsSafely g began given taken new.session.store taken_new
+stops-begun {S} {g} {began} {given} {taken} {given_now} {taken_now} {old} new taken_new kept kept_now none full ends sound named most no_more shows writes clean crash left line answers ended part so_far =
+    let has = so_far.tells in
+    let late = late_answer old.session.waiting old.session.store.store in
+    let empty = ap (λ v. v.items) answers ∙ has.waits in
+    let served = served-epoch new kept kept_now none has.waits full ends sound named most no_more shows writes clean crash line answers ended has.served in
+    record {
+      stops = stops-answered new has.rest given_now taken_new served empty has.consumed
+          (subst (AppendsPart taken taken_new) (sym (told-more has.told (answers_in late)))
+          (part-then taken taken_now taken_new (answers_text has.told) (answers_text (answers_in late)) has.appended (subst (λ xs. AppendsPart taken_now taken_new (answers_text xs)) (late-alone late) part)));
+      safe = λ showed now. lines-survive g (began_at g began) new.session.store (begun-lines has.rest old.session.store old.session.waiting new served empty shows now left (so_far.safe showed (clean now)));
+    }
 
 -- while it does the lines of a group
 pub stops-doing : {S : Type 0} {g : Ghosts S} {began : Session S} {given taken given_now taken_now : Option (List ℕ)} {old : Server S} (new : Durable S) (given_new : Option (List ℕ)) (bytes : List ℕ)
@@ -182,7 +217,7 @@ stops-settling {S} {g} {began} mid new given_new bytes none clean consumed serve
 pub stops-safely-telling : {S : Type 0} {g : Ghosts S} {began : Session S} {given taken given_now taken_now : Option (List ℕ)} {old : Server S} (mid : Server S) (new : Session S) (given_new taken_new : Option (List ℕ))
     (bytes : List ℕ) → old.end ≡ None → TellsSafely g began given taken old given_now taken_now → ((told : List Answered) (seen : List ℕ) → HasServed g began told seen old → ServesBytes g began told seen bytes mid)
     → LeavesGroup g began old bytes mid → Consumes given_now given_new bytes → AppendsPart taken_now taken_new (answers_text mid.answers.items) → StaysInEpoch g old.session mid.session → StaysInEpoch g mid.session new
-    → (has_commit mid.answers.items ≡ true → ShowsCommit g new.store.journal) → (Clean g new.store.journal → written g new.store.journal ≡ written g mid.session.store.journal)
+    → (has_lasting mid.answers.items ≡ true → ShowsCommit g new.store.journal) → (Clean g new.store.journal → written g new.store.journal ≡ written g mid.session.store.journal)
     → LeavesWritten g mid.session.store new.store → StopsSafely g began given taken new.store taken_new
 stops-safely-telling {S} {g} {began} mid new given_new taken_new bytes none so_far serves left consumed part first second settled same crash =
     let has = so_far.tells in
@@ -212,8 +247,8 @@ stops-safely-served {S} {g} {most} {given} {taken} {greeted} {taken_now} {sessio
 -- after all answers
 stops-safely-ending : {S : Type 0} {g : Ghosts S} {most : ℕ} {given given_now taken greeted answered taken_now : Option (List ℕ)} {served : Server S} (began now : Durable S)
     → Appends taken greeted (greeting (life_of began)) → TellsSafely g (session_of most began) given greeted served given_now answered → (served.end ≡ None → IsAtEnd given_now)
-    → (Clean g now.journal → Clean g served.session.store.journal) → LeavesEnd g served.session.store now
-    → ((taken_now ≡ answered) ⊎ (EndsEpoch g served.session.store now × AppendsPart answered taken_now (answers_text (end_answers served.end)))) → StopsServingSafely g most began given taken now given_now taken_now
+    → (Clean g now.journal → Clean g served.session.store.journal) → LeavesEnd g served.session.waiting served.session.store now
+    → EndsPart g served.session.waiting served.session.store served.end now answered taken_now → StopsServingSafely g most began given taken now given_now taken_now
 stops-safely-ending {S} {g} {most} {served = served} began now greets so_far asked clean left part = record {
   stops = stops-ending began now greets so_far.tells clean part;
   safe = λ shows at_end. lines-survive g (began_at g (session_of most began)) now (ended-lines now so_far.tells (inr (refl, asked)) left (so_far.safe shows (clean at_end)));
@@ -222,26 +257,23 @@ stops-safely-ending {S} {g} {most} {served = served} began now greets so_far ask
 -- to the end
 serves-safely : {S : Type 0} {g : Ghosts S} {most : ℕ} {given given_now taken greeted answered taken_now : Option (List ℕ)} {served : Server S} (began now : Durable S)
     → Appends taken greeted (greeting (life_of began)) → TellsSafely g (session_of most began) given greeted served given_now answered → (served.end ≡ None → IsAtEnd given_now)
-    → (Clean g now.journal → Clean g served.session.store.journal) → LeavesEnd g served.session.store now → EndsEpoch g served.session.store now
-    → Appends answered taken_now (answers_text (end_answers served.end)) → ServesSafely g most began given taken now given_now taken_now
+    → (Clean g now.journal → Clean g served.session.store.journal) → LeavesEnd g served.session.waiting served.session.store now → EndsEpoch g served.session.waiting served.session.store now
+    → Appends answered taken_now (answers_text (last_answers (late_answer served.session.waiting served.session.store.store) served.end)) → ServesSafely g most began given taken now given_now taken_now
 serves-safely {S} {g} {most} {greeted = greeted} {answered} {served = served} began now greets so_far asked clean left renews ends = record {
   serves = record { served = served; greeted = greeted; answered = answered; greets = greets; tells = so_far.tells; asked = asked; renews = renews; clean = clean; ends = ends };
   safe = λ shows at_end. lines-survive g (began_at g (session_of most began)) now (ended-lines now so_far.tells (inr (refl, asked)) left (so_far.safe shows (clean at_end)));
 }
 
 -- however it ended, as a server and its end say it
-pub whole-safely : {S E : Type 0} {g : Ghosts S} {most : ℕ} {given given_now greeted answered : Option (List ℕ)} {served : Server S} {session : Session S} {began d : Durable S} {e : Option Asked}
+pub whole-safely : {S E : Type 0} {g : Ghosts S} {most : ℕ} {given given_now greeted answered : Option (List ℕ)} {served : Server S} {session : Session S} {began d : Durable S} {w : Option Extension} {e : Option Asked}
     (taken taken_now : Option (List ℕ)) (now : Durable S) (r : Result (Unit {0}) E) → session ≡ session_of most began → Appends taken greeted (greeting (life_of began))
-    → TellsSafely g session given greeted served given_now answered → (served.end ≡ None → IsAtEnd given_now) → d ≡ served.session.store → e ≡ served.end → (Clean g now.journal → Clean g d.journal)
-    → LeavesEnd g d now → OnOk r (EndsEpoch g d now) → OnOk r (Appends answered taken_now (answers_text (end_answers e)))
-    → OnErr r ((taken_now ≡ answered) ⊎ (EndsEpoch g d now × AppendsPart answered taken_now (answers_text (end_answers e))))
+    → TellsSafely g session given greeted served given_now answered → (served.end ≡ None → IsAtEnd given_now) → w ≡ served.session.waiting → d ≡ served.session.store → e ≡ served.end → (Clean g now.journal → Clean g d.journal)
+    → LeavesEnd g w d now → OnOk r (EndsEpoch g w d now) → OnOk r (Appends answered taken_now (answers_text (last_answers (late_answer w d.store) e)))
+    → OnErr r (EndsPart g w d e now answered taken_now)
     → MatchResult r (λ u. ServesSafely g most began given taken now given_now taken_now) (λ x. StopsServingSafely g most began given taken now given_now taken_now)
-whole-safely {S} {E} {g} {most} {given} {given_now} {greeted} {answered} {served} {session} {began} {d} {e} taken taken_now now (Ok u) same greets tells asked at_end is_end clean left renews ends part =
+whole-safely {S} {E} {g} {most} {given} {given_now} {greeted} {answered} {served} {session} {began} {d} {w} {e} taken taken_now now (Ok u) same greets tells asked waits at_end is_end clean left renews ends part =
     serves-safely began now greets (subst (λ (s : Session S). TellsSafely g s given greeted served given_now answered) same tells) asked
-    (subst (λ (x : Durable S). Clean g now.journal → Clean g x.journal) at_end clean) (subst (λ (x : Durable S). LeavesEnd g x now) at_end left)
-    (subst (λ (x : Durable S). EndsEpoch g x now) at_end renews) (subst (λ x. Appends answered taken_now (answers_text (end_answers x))) is_end ends)
-whole-safely {S} {E} {g} {most} {given} {given_now} {greeted} {answered} {served} {session} {began} {d} {e} taken taken_now now (Err x) same greets tells asked at_end is_end clean left renews ends part =
+    (subst (λ (x : Durable S). Clean g now.journal → Clean g x.journal) at_end clean) (left-as g now waits at_end left) (ends-as g now waits at_end renews) (last-as answered taken_now waits at_end is_end ends)
+whole-safely {S} {E} {g} {most} {given} {given_now} {greeted} {answered} {served} {session} {began} {d} {w} {e} taken taken_now now (Err x) same greets tells asked waits at_end is_end clean left renews ends part =
     stops-safely-ending began now greets (subst (λ (s : Session S). TellsSafely g s given greeted served given_now answered) same tells) asked
-    (subst (λ (x : Durable S). Clean g now.journal → Clean g x.journal) at_end clean) (subst (λ (x : Durable S). LeavesEnd g x now) at_end left)
-    (subst (λ x. (taken_now ≡ answered) ⊎ (EndsEpoch g served.session.store now × AppendsPart answered taken_now (answers_text (end_answers x)))) is_end
-    (subst (λ (x : Durable S). (taken_now ≡ answered) ⊎ (EndsEpoch g x now × AppendsPart answered taken_now (answers_text (end_answers e)))) at_end part))
+    (subst (λ (x : Durable S). Clean g now.journal → Clean g x.journal) at_end clean) (left-as g now waits at_end left) (part-as g now answered taken_now waits at_end is_end part)

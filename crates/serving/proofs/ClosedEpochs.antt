@@ -1,5 +1,5 @@
 -- An epoch is closed: what is open is aborted, and its history is kept.
-use Rattle.std.proofs.Common.{◌≡◌, ◌∙◌, ◌⊎◌, inl, inr, ℕ, ◌≤◌, Option, List, [], ◌∷◌, length, take, drop, sym, ap, ap₂, subst, arith}
+use Rattle.std.proofs.Common.{◌≡◌, ◌∙◌, ◌⊎◌, inl, inr, ℕ, ◌≤◌, Option, Some, List, [], ◌∷◌, length, take, drop, sym, ap, ap₂, subst, arith}
 use Rattle.std.proofs.Math.Seq.{drop-append_seam}
 use Rattle.std.proofs.lemmas.List.{length-map, take_all}
 use Rattle.sqlite_trees.specs.declared.store.Store.{Ghosts}
@@ -14,15 +14,17 @@ use Rattle.journal.specs.Contents.{Contents, contents_of}
 use Rattle.journal.specs.Journal.{Clean, IsJournal, ShowsCommit, written}
 use Rattle.durable_store.specs.declared.durable.Durable.{Durable}
 use Rattle.durable_store.specs.Durable.{IsDurable, OutcomesStay, WritesSince, events_of_kinds, with_all}
-use Rattle.durable_store.specs.Epochs.{LeavesEpoch}
+use Rattle.durable_store.specs.Growth.{LeavesGrowth}
 use Rattle.durable_store.specs.Recovered.{IsStoreOf}
 use Rattle.serving.specs.Archives.{KeepsAtLeast, KeepsEpochs, KeepsText, KeptHistory, text_of_epoch, with_kept}
-use Rattle.serving.specs.EpochEnd.{LeavesClosed, LeavesEnd}
+use Rattle.serving.specs.declared.extension.Extension.{Extension}
+use Rattle.serving.specs.EpochEnd.{LeavesClosed, LeavesEnd, LeavesNext}
 use Rattle.serving.specs.Epochs.{LeavesEpochs, Reaches, aborted}
 use Rattle.serving.specs.Follows.{LeavesWritten}
 use Rattle.serving.specs.Requests.{LetsGo}
 use Rattle.serving.proofs.MoreEvents.{outcomes-more, writes-more}
-use Rattle.serving.proofs.LaterEpochs.{is-store-of, left-more, left-then, renews-as, writes-one}
+use Rattle.serving.proofs.NextEpochs.{next-file-as}
+use Rattle.serving.proofs.LaterEpochs.{is-store-of, left-more, left-then, writes-one}
 
 -- ---- the text of an epoch
 
@@ -85,8 +87,8 @@ closed-left g old mid new aborts header sound clean stay crash db left = elim (c
   | inr before ↦ inr (stay db before)
 ]
 
-pub closed-end : {S : Type 0} (g : Ghosts S) (old new : Durable S) → LeavesClosed g old new → LeavesEnd g old new
-closed-end g old new crash db left = elim (crash db left) [ inl it ↦ inl (it.0, it.1, inl it.2) | inr before ↦ inr before ]
+pub closed-end : {S : Type 0} (g : Ghosts S) (waits : Option Extension) (old new : Durable S) → LeavesClosed g old new → LeavesEnd g waits old new
+closed-end g waits old new crash db left = elim (crash db left) [ inl it ↦ inl (it.0, it.1, inl it.2) | inr before ↦ inr before ]
 
 -- the file of a store that has forgotten fewer events
 store-as : (s t : Stored) (c : Contents) → LetsGo s t → IsStoreOf c t → IsStoreOf c s
@@ -95,11 +97,11 @@ store-as s t c lets is =
     record { types = it.types; history = it.history; limit = it.limit }
 
 -- and then the file may begin anew
-pub end-left : {S : Type 0} (g : Ghosts S) (old mid new : Durable S) → LetsGo (aborted old.store) mid.store → mid.journal.header ≡ old.journal.header → IsDurable g mid → (Clean g mid.journal → Clean g old.journal)
-    → LeavesClosed g old mid → LeavesEpoch g mid new → LeavesEnd g old new
-end-left g old mid new lets header sound clean crash anew db left = elim (anew db left) [
+pub end-left : {S : Type 0} (g : Ghosts S) (waits : Option Extension) (old mid new : Durable S) → LetsGo (aborted old.store) mid.store → mid.journal.header ≡ old.journal.header → IsDurable g mid → (Clean g mid.journal → Clean g old.journal)
+    → LeavesClosed g old mid → LeavesNext g waits mid new → LeavesEnd g waits old new
+end-left g waits old mid new lets header sound clean crash anew db left = elim (anew db left) [
   | inl it ↦
-      let (s, renews, is) = it.2 in
+      let (s, next) = it.2 in
       inl (
         clean it.0,
         it.1,
@@ -107,11 +109,10 @@ end-left g old mid new lets header sound clean crash anew db left = elim (anew d
           before = written g mid.journal;
           next = s;
           over = (store-as (aborted old.store) mid.store (written g mid.journal) lets (is-store-of g mid sound it.0), it.3 ∙ ap (λ (h : Header). h ∷ []) header);
-          renews = renews-as (aborted old.store) mid.store s lets renews;
-          is = is;
+          is = next-file-as waits (aborted old.store) mid.store s (written g mid.journal) (contents_of db) lets next;
         }),
       )
-  | inr before ↦ closed-end g old mid crash db before
+  | inr before ↦ closed-end g waits old mid crash db before
 ]
 
 -- ---- what was written
@@ -122,3 +123,10 @@ pub closed-written : {S : Type 0} (g : Ghosts S) (old mid : Durable S) → mid.s
 closed-written g old mid aborts since now =
     since now ∙ ap (λ es. with_all (written g old.journal) es)
     (ap (λ (s : Stored). drop (length old.store.history) s.history) aborts ∙ drop-append_seam old.store.history (closing old.store.history))
+
+-- ---- a store that gets more objects
+
+pub leaves-grown : {S : Type 0} (g : Ghosts S) (e : Extension) (texts : List (List ℕ)) (lines : List ObjectLine) (old new : Durable S) → texts ≡ e.added.texts.items → lines ≡ e.added.lines.items
+    → LeavesGrowth g texts lines old new → LeavesNext g (Some e) old new
+leaves-grown g e texts lines old new same_texts same_lines crash =
+    subst (λ ts. LeavesGrowth g ts e.added.lines.items old new) same_texts (subst (λ ls. LeavesGrowth g texts ls old new) same_lines crash)

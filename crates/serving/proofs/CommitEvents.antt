@@ -1,10 +1,14 @@
 -- Commits that were answered are events of the file.
-use Rattle.std.proofs.Common.{◌≡◌, ◌∙◌, ◌⊎◌, inl, inr, ℕ, suc, ◌<◌, ◌≤◌, Bool, true, false, ◌||◌, Option, None, Some, Result, Ok, Err, List, [], ◌∷◌, ◌++◌, length, take, drop, get_or, refl, sym, ap, subst, arith}
+use Rattle.std.proofs.Common.{◌≡◌, ◌∙◌, ◌⊎◌, inl, inr, ℕ, suc, ◌+◌, ◌<◌, ◌≤◌, Bool, true, false, ◌||◌, Option, None, Some, Result, Ok, Err, List, [], ◌∷◌, ◌++◌, length, take, drop, get_or, refl, sym, ap, subst, arith}
 use Rattle.std.proofs.lemmas.Bool.{eqb-true}
 use Rattle.std.proofs.lemmas.List.{append-nil, length-append, map-append, take-append-drop}
 use Rattle.std.proofs.lemmas.List.Elements.{Contains-append_left, Contains-push}
-use Rattle.std.specs.Prelude.{◌==◌, Contains, MatchBool, MatchResult, if◌then◌else◌, is_some}
+use Rattle.std.specs.Prelude.{◌==◌, Contains, MatchBool, MatchOption, MatchResult, slice_get, if◌then◌else◌, is_some}
 use Rattle.sqlite_trees.specs.declared.store.Store.{Ghosts}
+use Rattle.type_table.specs.declared.op.Op.{Op}
+use Rattle.object_trait.specs.Object.{Object}
+use Rattle.object_calls.specs.declared.answer.Answer as calls
+use Rattle.object_calls.specs.declared.answer.Answer.TheVariants as call
 use Rattle.object_trait.specs.declared.event.Event.{Event}
 use Rattle.object_trait.specs.declared.event.EventKind.{EventKind}
 use Rattle.object_trait.specs.declared.event.EventKind.TheVariants as kind
@@ -13,13 +17,14 @@ use Rattle.serial_order.specs.Replay.{appended, event_of}
 use Rattle.serial_order.specs.declared.command.Command.{Command}
 use Rattle.serial_order.specs.declared.command.Command.TheVariants as command
 use Rattle.serial_order.specs.declared.refusal.Refusal.{Refusal}
-use Rattle.serial_order.specs.declared.refusal.Refusal.TheVariants.{NotOpen}
+use Rattle.serial_order.specs.declared.refusal.Refusal.TheVariants.{NoObject, NotOpen}
 use Rattle.store_laws.specs.Stored.{MayStep, Steps, Stored, stored_after, objects, refusal_of}
 use Rattle.store.specs.Ends.{closing}
+use Rattle.store.specs.KeptState.{IsKeptState}
+use Rattle.store_text.specs.declared.line.ObjectLine.{ObjectLine}
 use Rattle.journal.specs.Contents.{Contents}
 use Rattle.durable_store.specs.declared.durable.Durable.{Durable}
 use Rattle.durable_store.specs.Durable.{events_of_kinds, kinds}
-use Rattle.durable_store.specs.Epochs.{renewed}
 use Rattle.durable_store.specs.Recovered.{IsStoreOf}
 use Rattle.request_text.specs.Requests.{asked_by}
 use Rattle.request_text.specs.declared.fault.RequestFault.{RequestFault}
@@ -28,61 +33,215 @@ use Rattle.request_text.specs.declared.request.Request.{Request}
 use Rattle.request_text.specs.declared.request.Request.TheVariants as request
 use Rattle.request_text.specs.declared.request.TransactionName.{TransactionName}
 use Rattle.serving.specs.declared.answer_line.AnswerLine.{AnswerLine}
-use Rattle.serving.specs.declared.answer_line.AnswerLine.TheVariants.{Committed, Fault, Refused}
+use Rattle.serving.specs.declared.answer_line.AnswerLine.TheVariants.{Committed, Done, Events, Extended, Fault, NotAdded, Objects, Refused, State, Types}
 use Rattle.serving.specs.declared.answer_line.Answered.{Answered}
+use Rattle.serving.specs.declared.extension.Extension.{Extension}
 use Rattle.serving.specs.Archives.{life_in}
-use Rattle.serving.specs.CommitsFound.{AnswersCommit, CommitsAreFound, KeepsCommit, TellsCommit}
-use Rattle.serving.specs.Does.{DoesCommit, done_or, is_epoch_full}
+use Rattle.serving.specs.CommitsFound.{AnswersCommit, CommitsAreFound, KeepsCommit, TellsCommit, comes_late}
+use Rattle.serving.specs.Does.{DoesCommit, begin_answer, call_answer, done_or, is_epoch_full, op_of_object, reply_of}
 use Rattle.serving.specs.Epochs.{aborted}
 use Rattle.serving.specs.Left.{Began, IsStoreFile, IsInLife, IsLeftAfter, Survives}
-use Rattle.serving.specs.Lines.{AreLines}
-use Rattle.serving.specs.Requests.{DoesRequest, LetsGo}
+use Rattle.serving.specs.Lines.{AreLines, is_taken, may_wait}
+use Rattle.serving.specs.NextEpoch.{MayWait, answers_in, is_not_added, late_answer, limit_while}
+use Rattle.serving.specs.Requests.{DoesRequest, LetsGo, found_answer, TellsEvents, TellsObjects, TellsTypes, events_from}
 use Rattle.serving.specs.Served.{IsAnswered, Serves}
-use Rattle.serving.specs.Told.{has_commit, is_commit}
+use Rattle.serving.specs.Told.{has_lasting, is_lasting}
 use Rattle.serving.proofs.FirstLines.{either-lines}
-use Rattle.serving.proofs.LaterEpochs.{raised}
+use Rattle.serving.proofs.NextEpochs.{next-headers, raised}
 
 -- ---- answers at their places
 
-told-has : (lines : List (List ℕ)) (answers : List Answered) (t : TransactionName) → TellsCommit lines answers t → has_commit answers ≡ true
+-- one of two is so
+or-right : (p q : Bool) → q ≡ true → (p || q) ≡ true
+or-right true q it = refl
+or-right false q it = it
+
+-- what it says where an answer comes before others
+abbrev TellsFrom : Bool → List ℕ → List (List ℕ) → Answered → List Answered → TransactionName → Type 0
+TellsFrom late line lines a answers t = MatchBool late (TellsCommit (line ∷ lines) answers t) (AnswersCommit line a t ⊎ TellsCommit lines answers t)
+
+told-has : (lines : List (List ℕ)) (answers : List Answered) (t : TransactionName) → TellsCommit lines answers t → has_lasting answers ≡ true
 told-has [] answers t told = absurd told
 told-has (line ∷ lines) [] t told = absurd told
-told-has (line ∷ lines) (a ∷ answers) t told = elim told [
-  | inl here ↦ ap (λ (x : AnswerLine). is_commit x || has_commit answers) here.1
-  | inr later ↦ elim (is_commit a.answer) as (λ v. (v || has_commit answers) ≡ true) [ true ↦ refl | false ↦ told-has lines answers t later ]
+told-has (line ∷ lines) (a ∷ answers) t told = elim (comes_late a.answer) as (λ v. TellsFrom v line lines a answers t → (is_lasting a.answer || has_lasting answers) ≡ true) [
+  | true ↦ λ later. or-right (is_lasting a.answer) (has_lasting answers) (told-has (line ∷ lines) answers t later)
+  | false ↦ λ now. elim now [
+    | inl here ↦ ap (λ (x : AnswerLine). is_lasting x || has_lasting answers) here.1
+    | inr later ↦ or-right (is_lasting a.answer) (has_lasting answers) (told-has lines answers t later)
+  ]
+] told
+
+-- how many answers come in the order of their lines
+abbrev in_turn : List Answered → ℕ
+in_turn [] = 0
+in_turn (a ∷ answers) = if comes_late a.answer then in_turn answers else suc (in_turn answers)
+
+turn-append : (xs ys : List Answered) → in_turn (xs ++ ys) ≡ in_turn xs + in_turn ys
+turn-append [] ys = omega arith
+turn-append (a ∷ xs) ys = elim (comes_late a.answer) as (λ v. (if v then in_turn (xs ++ ys) else suc (in_turn (xs ++ ys))) ≡ (if v then in_turn xs else suc (in_turn xs)) + in_turn ys) [
+  | true ↦ turn-append xs ys
+  | false ↦ let more = turn-append xs ys in omega (arith, more)
 ]
 
+turn-one : (a : Answered) → comes_late a.answer ≡ false → in_turn (a ∷ []) ≡ 1
+turn-one a late = ap (λ (v : Bool). if v then 0 else 1) late
+
 -- it is among the first answers, where no answer after them is to a commit
-told-first : (asked later : List (List ℕ)) (first others : List Answered) (t : TransactionName) → length first ≤ length asked → has_commit others ≡ false
+told-first : (asked later : List (List ℕ)) (first others : List Answered) (t : TransactionName) → in_turn first ≤ length asked → has_lasting others ≡ false
     → TellsCommit (asked ++ later) (first ++ others) t → TellsCommit asked first t
 told-first [] later [] others t within none told = absurd (let it : true ≡ false = sym (told-has later others t told) ∙ none in cc)
 told-first (line ∷ asked) later [] others t within none told = absurd (let it : true ≡ false = sym (told-has ((line ∷ asked) ++ later) others t told) ∙ none in cc)
-told-first [] later (a ∷ first) others t within none told = absurd (omega (arith, within))
-told-first (line ∷ asked) later (a ∷ first) others t within none told = elim told [ inl here ↦ inl here | inr more ↦ inr (told-first asked later first others t (omega (arith, within)) none more) ]
+told-first [] [] (a ∷ first) others t within none told = absurd told
+told-first [] (l ∷ later) (a ∷ first) others t within none told =
+    elim (comes_late a.answer) as (λ v. (if v then in_turn first else suc (in_turn first)) ≤ 0 → TellsFrom v l later a (first ++ others) t → TellsCommit [] (a ∷ first) t) [
+      | true ↦ λ few it. told-first [] (l ∷ later) first others t few none it
+      | false ↦ λ few it. absurd (omega (arith, few))
+    ] within told
+told-first (line ∷ asked) later (a ∷ first) others t within none told =
+    elim (comes_late a.answer) as (λ v. (if v then in_turn first else suc (in_turn first)) ≤ suc (length asked) → TellsFrom v line (asked ++ later) a (first ++ others) t → TellsFrom v line asked a first t) [
+      | true ↦ λ few it. told-first (line ∷ asked) later first others t few none it
+      | false ↦ λ few it. elim it [ inl here ↦ inl here | inr more ↦ inr (told-first asked later first others t (omega (arith, few)) none more) ]
+    ] within told
 
 -- one line more, with its answer
-told-last : (lines : List (List ℕ)) (answers : List Answered) (line : List ℕ) (a : Answered) (t : TransactionName) → length lines ≡ length answers
+told-last : (lines : List (List ℕ)) (answers : List Answered) (line : List ℕ) (a : Answered) (t : TransactionName) → length lines ≡ in_turn answers → comes_late a.answer ≡ false
     → TellsCommit (lines ++ line ∷ []) (answers ++ a ∷ []) t → TellsCommit lines answers t ⊎ AnswersCommit line a t
-told-last [] [] line a t same told = elim told [ inl here ↦ inr here | inr none ↦ absurd none ]
-told-last [] (b ∷ answers) line a t same told = absurd (omega (arith, same))
-told-last (l ∷ lines) [] line a t same told = absurd (omega (arith, same))
-told-last (l ∷ lines) (b ∷ answers) line a t same told = elim told [
-  | inl here ↦ inl (inl here)
-  | inr later ↦ elim (told-last lines answers line a t (omega (arith, same)) later) [ inl before ↦ inl (inr before) | inr now ↦ inr now ]
-]
+told-last [] [] line a t same turn told =
+    elim (subst (λ v. TellsFrom v line [] a [] t) turn told) [ inl here ↦ inr here | inr none ↦ absurd none ]
+told-last (l ∷ lines) [] line a t same turn told = absurd (omega (arith, same))
+told-last [] (b ∷ answers) line a t same turn told =
+    elim (comes_late b.answer) as (λ v. 0 ≡ (if v then in_turn answers else suc (in_turn answers)) → TellsFrom v line [] b (answers ++ a ∷ []) t → TellsCommit [] (b ∷ answers) t ⊎ AnswersCommit line a t) [
+      | true ↦ λ few it. elim (told-last [] answers line a t few turn it) [ inl none ↦ absurd none | inr here ↦ inr here ]
+      | false ↦ λ few it. absurd (omega (arith, few))
+    ] same told
+told-last (l ∷ lines) (b ∷ answers) line a t same turn told =
+    elim (comes_late b.answer) as (λ v. suc (length lines) ≡ (if v then in_turn answers else suc (in_turn answers)) → TellsFrom v l (lines ++ line ∷ []) b (answers ++ a ∷ []) t → TellsFrom v l lines b answers t ⊎ AnswersCommit line a t) [
+      | true ↦ λ few it. told-last (l ∷ lines) answers line a t few turn it
+      | false ↦ λ few it. elim it [
+        | inl here ↦ inl (inl here)
+        | inr later ↦ elim (told-last lines answers line a t (omega (arith, few)) turn later) [ inl before ↦ inl (inr before) | inr now ↦ inr now ]
+      ]
+    ] same told
+
+-- a late one is to no line
+told-late : (lines : List (List ℕ)) (answers : List Answered) (a : Answered) (t : TransactionName) → comes_late a.answer ≡ true → TellsCommit lines (answers ++ a ∷ []) t → TellsCommit lines answers t
+told-late [] answers a t late told = absurd told
+told-late (line ∷ lines) [] a t late told = subst (λ v. TellsFrom v line lines a [] t) late told
+told-late (line ∷ lines) (b ∷ answers) a t late told =
+    elim (comes_late b.answer) as (λ v. TellsFrom v line lines b (answers ++ a ∷ []) t → TellsFrom v line lines b answers t) [
+      | true ↦ λ it. told-late (line ∷ lines) answers a t late it
+      | false ↦ λ it. elim it [ inl here ↦ inl here | inr later ↦ inr (told-late lines answers a t late later) ]
+    ] told
+
+told-epoch : (waits : Option Extension) (s : Stored) (lines : List (List ℕ)) (answers : List Answered) (t : TransactionName) → TellsCommit lines (answers ++ answers_in (late_answer waits s)) t → TellsCommit lines answers t
+told-epoch None s lines answers t told = subst (λ xs. TellsCommit lines xs t) (append-nil answers) told
+told-epoch (Some e) s lines answers t told = told-late lines answers (record { tag = e.tag; answer = Extended (length s.types) }) t refl told
+
+turn-epoch : (waits : Option Extension) (s : Stored) (answers : List Answered) → in_turn (answers ++ answers_in (late_answer waits s)) ≡ in_turn answers
+turn-epoch None s answers = ap in_turn (append-nil answers)
+turn-epoch (Some e) s answers =
+    let none : in_turn (answers_in (late_answer (Some e) s)) ≡ 0 = refl in
+    let all = turn-append answers (answers_in (late_answer (Some e) s)) in
+    omega (arith, all, none)
+
+-- ---- an answer comes in its turn, but for that of an extension
+
+either : {P Q G : Type 0} (b : Bool) → MatchBool b P Q → (P → G) → (Q → G) → G
+either true p first second = first p
+either false p first second = second p
+
+turn-begin : (life : ℕ) (r : Result ℕ Refusal) → comes_late (begin_answer life r) ≡ false
+turn-begin life (Ok n) = refl
+turn-begin life (Err e) = refl
+
+turn-reply : (op : Option Op) → comes_late (reply_of op) ≡ false
+turn-reply None = refl
+turn-reply (Some op) = refl
+
+turn-call : (s : Stored) (life x : ℕ) (r : Result calls.Answer Refusal) → comes_late (call_answer s life x r) ≡ false
+turn-call s life x (Ok (call.Reply k)) = turn-reply (op_of_object s x k)
+turn-call s life x (Ok (call.Busy u)) = refl
+turn-call s life x (Ok call.None) = refl
+turn-call s life x (Err e) = refl
+
+turn-done : (r : Result (Unit {0}) Refusal) → comes_late (done_or Done r) ≡ false
+turn-done (Ok u) = refl
+turn-done (Err e) = refl
+
+turn-committed : (r : Result (Unit {0}) Refusal) → comes_late (done_or Committed r) ≡ false
+turn-committed (Ok u) = refl
+turn-committed (Err e) = refl
+
+turn-kept : (o : Option Object) (old : Stored) (x : ℕ) (answer : AnswerLine) → MatchOption o (answer ≡ Refused NoObject) (λ o. (state : ℕ) × IsKeptState old x state × (answer ≡ State state)) → comes_late answer ≡ false
+turn-kept None old x answer it = ap comes_late it
+turn-kept (Some o) old x answer it = ap comes_late it.2
+
+turn-objects : (clean : Type 0) (answer : AnswerLine) (objects : List ObjectLine) → TellsObjects clean answer objects → comes_late answer ≡ false
+turn-objects clean (Objects told) objects tells = refl
+turn-objects clean answer objects tells = absurd tells
+
+turn-types : (clean : Type 0) (answer : AnswerLine) (texts : List (List ℕ)) → TellsTypes clean answer texts → comes_late answer ≡ false
+turn-types clean (Types told) texts tells = refl
+turn-types clean answer texts tells = absurd tells
+
+turn-events : (clean : Type 0) (answer : AnswerLine) (events : List EventKind) → TellsEvents clean answer events → comes_late answer ≡ false
+turn-events clean (Events told) events tells = refl
+turn-events clean answer events tells = absurd tells
+
+turn-found : (found : Option ℕ) → comes_late (found_answer found) ≡ false
+turn-found None = refl
+turn-found (Some x) = refl
+
+does-turn : (clean : Type 0) (most life : ℕ) (c : Contents) (old : Stored) (r : Request) (answer : AnswerLine) (new : Stored) → DoesRequest clean most life c old r answer new → comes_late answer ≡ false
+does-turn clean most life c old request.Begin answer new does = either (is_epoch_full most old) does (λ p. ap comes_late p.0) (λ p. ap comes_late p.2 ∙ turn-begin life p.0)
+does-turn clean most life c old (request.Call t x name) answer new does = either (t.life == life) does.2 (λ p. ap comes_late p.2 ∙ turn-call new life does.0 p.0) (λ p. ap comes_late p.0)
+does-turn clean most life c old (request.Would t x name) answer new does = either (t.life == life) does.2 (λ p. ap comes_late p.2 ∙ turn-call old life does.0 p.0) (λ p. ap comes_late p.0)
+does-turn clean most life c old (request.Commit t) answer new does = either (t.life == life) does (λ p. ap comes_late p.2 ∙ turn-committed p.0) (λ p. ap comes_late p.0)
+does-turn clean most life c old (request.Abort t) answer new does = either (t.life == life) does (λ p. ap comes_late p.2 ∙ turn-done p.0) (λ p. ap comes_late p.0)
+does-turn clean most life c old (request.Rollback t count) answer new does = either (t.life == life) does (λ p. ap comes_late p.2 ∙ turn-done p.0) (λ p. ap comes_late p.0)
+does-turn clean most life c old (request.Kept x) answer new does = turn-kept (slice_get (objects old) does.0) old does.0 answer does.2.1
+does-turn clean most life c old (request.Find name) answer new does = ap comes_late does.2 ∙ turn-found does.1
+does-turn clean most life c old request.Objects answer new does = turn-objects clean answer c.objects does.0
+does-turn clean most life c old request.Types answer new does = turn-types clean answer c.types does.0
+does-turn clean most life c old (request.Events from count) answer new does = turn-events clean answer (events_from old from count) does.0
+does-turn clean most life c old request.Stats answer new does = ap comes_late does.0
+does-turn clean most life c old request.Extend answer new does = ap comes_late does.0
+does-turn clean most life c old request.End answer new does = ap comes_late does.0
+
+answered-turn : (clean : Type 0) (most life : ℕ) (c : Contents) (line : List ℕ) (old : Stored) (a : Answered) (new : Stored) → IsAnswered clean most life c line old a new → comes_late a.answer ≡ false
+answered-turn clean most life c line old a new answered =
+    elim (asked_by line).request as (λ (q : Result Request RequestFault). MatchResult q (λ r. DoesRequest clean most life c old r a.answer new) (λ fault. (a.answer ≡ Fault fault) × (new ≡ old)) → comes_late a.answer ≡ false) [
+      | Ok r ↦ λ does. does-turn clean most life c old r a.answer new does
+      | Err fault ↦ λ told. ap comes_late told.0
+    ] answered.request
+
+not-added-turn : (answer : AnswerLine) → is_not_added answer ≡ true → comes_late answer ≡ false
+not-added-turn (NotAdded why) it = refl
+not-added-turn answer it = absurd cc
+
+more-turn : (a : Answered) (waits : Option Extension) → MayWait a.tag a.answer waits → comes_late a.answer ≡ false
+more-turn a None it = not-added-turn a.answer it
+more-turn a (Some e) it = ap comes_late it.0
 
 -- each line but one that asks for the end has an answer
-serves-count : {clean : Type 0} {most : ℕ} {c : Contents} {first : ℕ} {lines : List (List ℕ)} {old : Stored} {answers : List Answered} {life : ℕ} {new : Stored} {ended : Option Asked} → Serves clean most c first lines old answers life new ended
-    → (length answers ≤ length lines) × (ended ≡ None → length lines ≡ length answers)
+serves-count : {clean : Type 0} {most : ℕ} {c : Contents} {first : ℕ} {lines : List (List ℕ)} {old : Stored} {answers : List Answered} {life : ℕ} {said : Contents} {new : Stored} {ended : Option Asked} {waits : Option Extension}
+    → Serves clean most c first lines old answers life said new ended waits → (in_turn answers ≤ length lines) × (ended ≡ None → length lines ≡ in_turn answers)
 serves-count (Serves.none s) = (omega arith, λ e. refl)
-serves-count (Serves.line lines asked old mid new answers a life before other answered) =
+serves-count {clean} {most} (Serves.line lines asked old mid new answers a life said waits before other may answered) =
     let so_far = (serves-count before).1 refl in
-    (omega (arith, length-append lines (asked ∷ []), length-append answers (a ∷ []), so_far), λ e. omega (arith, length-append lines (asked ∷ []), length-append answers (a ∷ []), so_far))
-serves-count (Serves.end lines asked old new answers life before ends) =
+    let one = turn-one a (answered-turn clean (limit_while waits most) life said asked mid a new answered) in
+    (omega (arith, length-append lines (asked ∷ []), turn-append answers (a ∷ []), one, so_far), λ e. omega (arith, length-append lines (asked ∷ []), turn-append answers (a ∷ []), one, so_far))
+serves-count (Serves.more lines asked old new answers a life said waits before may more) =
+    let so_far = (serves-count before).1 refl in
+    let one = turn-one a (more-turn a waits more.told) in
+    (omega (arith, length-append lines (asked ∷ []), turn-append answers (a ∷ []), one, so_far), λ e. omega (arith, length-append lines (asked ∷ []), turn-append answers (a ∷ []), one, so_far))
+serves-count (Serves.end lines asked old new answers life said waits before ends) =
     let so_far = (serves-count before).1 refl in
     (omega (arith, length-append lines (asked ∷ []), so_far), λ e. absurd cc)
-serves-count (Serves.forget lines old mid answers life n ended before) = serves-count before
-serves-count (Serves.epoch lines old mid new answers life next before full renews follows) = ((serves-count before).0, λ e. (serves-count before).1 refl)
+serves-count (Serves.forget lines old mid answers life n said ended waits before) = serves-count before
+serves-count (Serves.epoch lines old mid new answers life next said now waits before full renews follows says) =
+    let so_far = serves-count before in
+    (omega (arith, turn-epoch waits mid answers, so_far.0), λ e. so_far.1 refl ∙ sym (turn-epoch waits mid answers))
 
 -- ---- a history grows
 
@@ -113,22 +272,20 @@ steps-grow old w c r new steps = subst (λ (s : Stored). Grows old s) (sym steps
 may-grow : {T : Type 0} (old : Stored) (w : ℕ) (c : Command) (r : Result T Refusal) (new : Stored) → MayStep old w c r new → Grows old new
 may-grow old w c r new may = elim may [ inl steps ↦ steps-grow old w c r new steps | inr none ↦ same-grows old new none.2 ]
 
-either : {P Q G : Type 0} (b : Bool) → MatchBool b P Q → (P → G) → (Q → G) → G
-either true p first second = first p
-either false p first second = second p
-
 does-grow : (clean : Type 0) (most life : ℕ) (c : Contents) (old : Stored) (r : Request) (answer : AnswerLine) (new : Stored) → DoesRequest clean most life c old r answer new → Grows old new
 does-grow clean most life c old request.Begin answer new does = either (is_epoch_full most old) does (λ p. same-grows old new p.1) (λ p. may-grow old 0 command.Begin p.0 new p.1)
-does-grow clean most life c old (request.Call t x name) answer new does = either (t.life == life) does (λ p. may-grow old 0 (command.Call t.number x name) p.0 new p.1) (λ p. same-grows old new p.1)
-does-grow clean most life c old (request.Would t x name) answer new does = either (t.life == life) does (λ p. same-grows old new p.3) (λ p. same-grows old new p.1)
+does-grow clean most life c old (request.Call t x name) answer new does = either (t.life == life) does.2 (λ p. may-grow old 0 (command.Call t.number does.0 name) p.0 new p.1) (λ p. same-grows old new p.1)
+does-grow clean most life c old (request.Would t x name) answer new does = either (t.life == life) does.2 (λ p. same-grows old new p.3) (λ p. same-grows old new p.1)
 does-grow clean most life c old (request.Commit t) answer new does = either (t.life == life) does (λ p. steps-grow old 0 (command.Commit t.number) p.0 new p.1) (λ p. same-grows old new p.1)
 does-grow clean most life c old (request.Abort t) answer new does = either (t.life == life) does (λ p. steps-grow old 0 (command.Abort t.number) p.0 new p.1) (λ p. same-grows old new p.1)
 does-grow clean most life c old (request.Rollback t count) answer new does = either (t.life == life) does (λ p. may-grow old 0 (command.Rollback t.number count) p.0 new p.1) (λ p. same-grows old new p.1)
-does-grow clean most life c old (request.Kept x) answer new does = same-grows old new does.0
+does-grow clean most life c old (request.Kept x) answer new does = same-grows old new does.2.0
+does-grow clean most life c old (request.Find name) answer new does = same-grows old new does.0
 does-grow clean most life c old request.Objects answer new does = lets-grow old new does.1
 does-grow clean most life c old request.Types answer new does = lets-grow old new does.1
 does-grow clean most life c old (request.Events from count) answer new does = lets-grow old new does.1
 does-grow clean most life c old request.Stats answer new does = same-grows old new does.1
+does-grow clean most life c old request.Extend answer new does = same-grows old new does.1
 does-grow clean most life c old request.End answer new does = same-grows old new does.1
 
 answered-grows : (clean : Type 0) (most life : ℕ) (c : Contents) (line : List ℕ) (old : Stored) (a : Answered) (new : Stored) → IsAnswered clean most life c line old a new → Grows old new
@@ -171,25 +328,35 @@ kinds-append H more = map-append (λ (e : Event). e.kind) H more
 keeps-grows : {t : TransactionName} {life : ℕ} {old : Stored} (new : Stored) → KeepsCommit t life old → Grows old new → KeepsCommit t life new
 keeps-grows {t} new (KeepsCommit.event old there) (more, is, same) =
     KeepsCommit.event new (subst (λ ks. Contains ks (kind.Commit t.number)) (sym (ap kinds is ∙ kinds-append old.history more)) (Contains-append_left (kinds old.history) (kinds more) (kind.Commit t.number) there))
-keeps-grows new (KeepsCommit.epoch life before first old keeps renews begins) (more, is, same) = KeepsCommit.epoch life before first new keeps renews (same ∙ begins)
+keeps-grows new (KeepsCommit.epoch life waits before first old keeps renews begins) (more, is, same) = KeepsCommit.epoch life waits before first new keeps renews (same ∙ begins)
 
-serves-keeps : {clean : Type 0} {most : ℕ} {c : Contents} {begins : ℕ} {lines : List (List ℕ)} {old : Stored} {answers : List Answered} {life : ℕ} {new : Stored} {ended : Option Asked}
-    → clean → Serves clean most c begins lines old answers life new ended → (t : TransactionName) → TellsCommit lines answers t → KeepsCommit t life new
+-- a line that asks for more objects asks for no commit
+more-commits : (line : List ℕ) (a : Answered) (t : TransactionName) → may_wait None line ≡ true → AnswersCommit line a t → ⊥
+more-commits line a t may commits = let it : true ≡ false = sym may ∙ ap (λ (q : Result Request RequestFault). is_taken None q) commits.0 in cc
+
+serves-keeps : {clean : Type 0} {most : ℕ} {c : Contents} {begins : ℕ} {lines : List (List ℕ)} {old : Stored} {answers : List Answered} {life : ℕ} {said : Contents} {new : Stored} {ended : Option Asked} {waits : Option Extension}
+    → clean → Serves clean most c begins lines old answers life said new ended waits → (t : TransactionName) → TellsCommit lines answers t → KeepsCommit t life new
 serves-keeps now (Serves.none s) t told = absurd told
-serves-keeps {clean} {most} {c} now (Serves.line lines asked old mid new answers a life before other answered) t told =
-    elim (told-last lines answers asked a t ((serves-count before).1 refl) told) [
-      | inl earlier ↦ keeps-grows new (serves-keeps now before t earlier) (answered-grows clean most life c asked mid a new answered)
+serves-keeps {clean} {most} now (Serves.line lines asked old mid new answers a life said waits before other may answered) t told =
+    let limit = limit_while waits most in
+    elim (told-last lines answers asked a t ((serves-count before).1 refl) (answered-turn clean limit life said asked mid a new answered) told) [
+      | inl earlier ↦ keeps-grows new (serves-keeps now before t earlier) (answered-grows clean limit life said asked mid a new answered)
       | inr here ↦
-          let (same, is) = commit-answered clean most life c asked mid a new t here answered in
+          let (same, is) = commit-answered clean limit life said asked mid a new t here answered in
           subst (λ n. KeepsCommit t n new) same
           (KeepsCommit.event new (subst (λ ks. Contains ks (kind.Commit t.number)) (sym (ap kinds is ∙ kinds-append mid.history (commit_of t.number ∷ []))) (Contains-push (kinds mid.history) (kind.Commit t.number))))
     ]
-serves-keeps now (Serves.end lines asked old new answers life before ends) t told =
+serves-keeps now (Serves.more lines asked old new answers a life said waits before may more) t told =
+    elim (told-last lines answers asked a t ((serves-count before).1 refl) (more-turn a waits more.told) told) [
+      | inl earlier ↦ serves-keeps now before t earlier
+      | inr here ↦ absurd (more-commits asked a t may here)
+    ]
+serves-keeps now (Serves.end lines asked old new answers life said waits before ends) t told =
     serves-keeps now before t (told-first lines (asked ∷ []) answers [] t (serves-count before).0 refl (subst (λ xs. TellsCommit (lines ++ asked ∷ []) xs t) (sym (append-nil answers)) told))
-serves-keeps now (Serves.forget lines old mid answers life n ended before) t told = keeps-grows (record mid { forgotten = n }) (serves-keeps now before t told) ([], sym (append-nil mid.history), refl)
-serves-keeps now (Serves.epoch lines old mid new answers life next before full renews follows) t told =
+serves-keeps now (Serves.forget lines old mid answers life n said ended waits before) t told = keeps-grows (record mid { forgotten = n }) (serves-keeps now before t told) ([], sym (append-nil mid.history), refl)
+serves-keeps now (Serves.epoch lines old mid new answers life next said file waits before full renews follows says) t told =
     subst (λ n. KeepsCommit t n new) (sym (follows now))
-    (KeepsCommit.epoch life (aborted mid) new new (keeps-grows (aborted mid) (serves-keeps now before t told) (closing mid.history, refl, refl)) renews refl)
+    (KeepsCommit.epoch life waits (aborted mid) new new (keeps-grows (aborted mid) (serves-keeps now before t (told-epoch waits mid lines answers t told)) (closing mid.history, refl, refl)) renews refl)
 
 -- its life is over, or its commit is an event
 abbrev IsDone : ℕ → List EventKind → TransactionName → Type 0
@@ -197,7 +364,7 @@ IsDone life happened t = (t.life < life) ⊎ ((t.life ≡ life) × Contains happ
 
 keeps-done : {t : TransactionName} {life : ℕ} {now : Stored} → KeepsCommit t life now → IsDone life (kinds now.history) t
 keeps-done (KeepsCommit.event now there) = inr (refl, there)
-keeps-done (KeepsCommit.epoch life old first now before renews begins) = elim (keeps-done before) [ inl over ↦ inl (omega (arith, over)) | inr it ↦ inl (omega (arith, it.0)) ]
+keeps-done (KeepsCommit.epoch life waits old first now before renews begins) = elim (keeps-done before) [ inl over ↦ inl (omega (arith, over)) | inr it ↦ inl (omega (arith, it.0)) ]
 
 -- ---- of a file
 
@@ -219,12 +386,12 @@ done-in c life t (h, said, lives) done =
       λ same. elim done [ inl over ↦ absurd (omega (arith, over, is, same)) | inr it ↦ it.1 ],
     )
 
-file-has : {over : Type 0} {life : ℕ} {s : Stored} {c : Contents} (t : TransactionName) → IsStoreFile over life s c → KeepsCommit t life s → FileHas c t
-file-has {over} {life} {s} t (IsStoreFile.present c is lives) keeps = done-in c life t lives (store-done c s life t is keeps)
-file-has {over} {life} {s} t (IsStoreFile.closed c so is lives) keeps = done-in c life t lives (store-done c (aborted s) life t is (keeps-grows (aborted s) keeps (closing s.history, refl, refl)))
-file-has {over} {life} {s} t (IsStoreFile.anew c next so is (h, said, lives) renews) keeps =
+file-has : {over : Type 0} {waits : Option Extension} {life : ℕ} {s : Stored} {c : Contents} (t : TransactionName) → IsStoreFile over waits life s c → KeepsCommit t life s → FileHas c t
+file-has {over} {waits} {life} {s} t (IsStoreFile.present c is lives) keeps = done-in c life t lives (store-done c s life t is keeps)
+file-has {over} {waits} {life} {s} t (IsStoreFile.closed c so is lives) keeps = done-in c life t lives (store-done c (aborted s) life t is (keeps-grows (aborted s) keeps (closing s.history, refl, refl)))
+file-has {over} {waits} {life} {s} t (IsStoreFile.anew c now next so is (h, said, lives) begins) keeps =
     let done = store-done c (aborted s) life t is (keeps-grows (aborted s) keeps (closing s.history, refl, refl)) in
-    let later : life_in (renewed c next.types).headers ≡ suc life = ap (λ hs. life_in (raised hs)) said ∙ ap suc lives in (
+    let later : life_in now.headers ≡ suc life = ap life_in (next-headers waits (aborted s) next c now begins) ∙ ap (λ hs. life_in (raised hs)) said ∙ ap suc lives in (
       elim done [ inl over ↦ omega (arith, over, later) | inr it ↦ omega (arith, it.0, later) ],
       λ same. elim done [ inl over ↦ absurd (omega (arith, over, later, same)) | inr it ↦ absurd (omega (arith, it.0, later, same)) ],
     )
@@ -234,20 +401,26 @@ file-has {over} {life} {s} t (IsStoreFile.anew c next so is (h, said, lives) ren
 told-longer : (lines later : List (List ℕ)) (answers : List Answered) (t : TransactionName) → TellsCommit lines answers t → TellsCommit (lines ++ later) answers t
 told-longer [] later answers t told = absurd told
 told-longer (line ∷ lines) later [] t told = absurd told
-told-longer (line ∷ lines) later (a ∷ answers) t told = elim told [ inl here ↦ inl here | inr more ↦ inr (told-longer lines later answers t more) ]
+told-longer (line ∷ lines) later (a ∷ answers) t told =
+    elim (comes_late a.answer) as (λ v. TellsFrom v line lines a answers t → TellsFrom v line (lines ++ later) a answers t) [
+      | true ↦ λ it. told-longer (line ∷ lines) later answers t it
+      | false ↦ λ it. elim it [ inl here ↦ inl here | inr more ↦ inr (told-longer lines later answers t more) ]
+    ] told
 
 -- where no answer after these is to a commit, it is one of these
-told-done : (lines : List (List ℕ)) (answers waiting done others : List Answered) (t : TransactionName) → answers ++ waiting ≡ done ++ others → has_commit (drop (length done) answers) ≡ false
+told-done : (lines : List (List ℕ)) (answers waiting done others : List Answered) (t : TransactionName) → answers ++ waiting ≡ done ++ others → has_lasting (drop (length done) answers) ≡ false
     → TellsCommit lines answers t → TellsCommit lines done t
 told-done [] answers waiting done others t all none told = absurd told
 told-done (line ∷ lines) [] waiting done others t all none told = absurd told
 told-done (line ∷ lines) (a ∷ answers) waiting [] others t all none told = absurd (let it : true ≡ false = sym (told-has (line ∷ lines) (a ∷ answers) t told) ∙ none in cc)
 told-done (line ∷ lines) (a ∷ answers) waiting (d ∷ done) others t all none told =
     let same : a ≡ d = ap (λ xs. get_or xs 0 a) all in
-    elim told [
-      | inl here ↦ inl (subst (λ x. AnswersCommit line x t) same here)
-      | inr later ↦ inr (told-done lines answers waiting done others t (ap (drop 1) all) none later)
-    ]
+    let here : TellsCommit (line ∷ lines) (a ∷ done) t =
+    elim (comes_late a.answer) as (λ v. TellsFrom v line lines a answers t → TellsFrom v line lines a done t) [
+      | true ↦ λ it. told-done (line ∷ lines) answers waiting done others t (ap (drop 1) all) none it
+      | false ↦ λ it. elim it [ inl now ↦ inl now | inr later ↦ inr (told-done lines answers waiting done others t (ap (drop 1) all) none later) ]
+    ] told in
+    subst (λ x. TellsCommit (line ∷ lines) (x ∷ done) t) same here
 
 -- of the lines of first bytes, and of those of other first bytes, the one are the first of the other
 tells-left : {b : Began} {last : List (List ℕ) → Type 0} {answers waiting : List Answered} {c : Contents} (seen rest half : List ℕ) (lines : List (List ℕ)) (t : TransactionName)

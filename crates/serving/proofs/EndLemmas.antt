@@ -10,18 +10,19 @@ use Rattle.durable_store.specs.declared.durable.Durable.{Durable}
 use Rattle.request_text.specs.declared.request.Asked.{Asked}
 use Rattle.serving.specs.Archives.{KeptHistory}
 use Rattle.serving.specs.Epochs.{LeavesEpochs, WritesEpochs}
+use Rattle.serving.specs.declared.extension.Extension.{Extension}
 use Rattle.serving.specs.declared.session.Session.{Session}
 use Rattle.serving.specs.declared.server.Server.{Server}
-use Rattle.serving.specs.EpochEnd.{EndsEpoch, end_answers}
+use Rattle.serving.specs.EpochEnd.{EndsEpoch, LeavesEnd, last_answers}
 use Rattle.serving.specs.Group.{HasTold, StopsTelling}
+use Rattle.serving.specs.NextEpoch.{late_answer}
 use Rattle.serving.specs.Served.{Serves}
 use Rattle.serving.specs.Told.{AppendsPart, answers_text, greeting}
 use Rattle.serving.specs.Server.{life_of}
 use Rattle.serving.specs.Whole.{ServesClient, StopsServing, session_of}
 use Rattle.serving.proofs.LaterEpochs.{left-then, writes-on}
-use Rattle.serving.proofs.Groups.{part-then}
 use Rattle.serving.proofs.Premises.{serves-weaker}
-use Rattle.serving.proofs.TextParts.{part-of-whole}
+use Rattle.serving.proofs.TextParts.{part-of-whole, part-then}
 
 -- a server that served a store, and then its end
 pub writes-served : {S E : Type 0} (g : Ghosts S) {began old mid d : Durable S} (new : Durable S) (kept kept_mid kept_now : Option (List KeptHistory)) (r : Result (Unit {0}) E) → old ≡ began → d ≡ mid
@@ -48,7 +49,9 @@ stops-greeting {S} {g} {most} given {taken} {taken_now} began part = record {
   answers = [];
   life = life_of began;
   reached = began.store;
+  said = written g began.journal;
   ended = None;
+  waits = None;
   serves = Serves.none began.store;
   told = inl (subst (AppendsPart taken taken_now) (sym (append-nil (greeting (life_of began)))) part);
 }
@@ -62,7 +65,9 @@ stops-answering {S} {g} {most} {given} {taken} {greeted} {taken_now} began now g
   answers = stops.answers;
   life = stops.life;
   reached = stops.reached;
+  said = stops.said;
   ended = stops.ended;
+  waits = stops.waits;
   serves = stops.serves;
   told = inl (part-then taken greeted taken_now (greeting (life_of began)) (answers_text stops.answers) greets stops.part);
 }
@@ -75,33 +80,58 @@ stops-served {S} {g} {most} {given} {taken} {greeted} {taken_now} {session} {beg
     (subst (λ (s : Session S). StopsTelling g s given greeted d taken_now) same stops))
 
 -- the same session
-pub same-session : {S : Type 0} (s : Session S) (d : Durable S) (most : ℕ) → s.store ≡ d → s.life ≡ life_of d → s.most_events ≡ most → s ≡ session_of most d
-same-session {S} s d most store life events =
-    ap (λ (x : Durable S). let it : Session S = record { store = x; life = s.life; most_events = s.most_events } in it) store
-    ∙ ap₂ (λ (n m : ℕ). let it : Session S = record { store = d; life = n; most_events = m } in it) life events
+pub same-session : {S : Type 0} (s : Session S) (d : Durable S) (most : ℕ) → s.store ≡ d → s.life ≡ life_of d → s.most_events ≡ most → s.waiting ≡ None → s ≡ session_of most d
+same-session {S} s d most store life events none_waits =
+    ap (λ (x : Durable S). let it : Session S = record { store = x; life = s.life; most_events = s.most_events; waiting = s.waiting } in it) store
+    ∙ ap₂ (λ (n m : ℕ). let it : Session S = record { store = d; life = n; most_events = m; waiting = s.waiting } in it) life events
+    ∙ ap (λ (w : Option Extension). let it : Session S = record { store = d; life = life_of d; most_events = most; waiting = w } in it) none_waits
+
+-- of what is answered at the end nothing, or where the epoch has ended a beginning
+abbrev pub EndsPart : {S : Type 0} (g : Ghosts S) → Option Extension → Durable S → Option Asked → Durable S → Option (List ℕ) → Option (List ℕ) → Type 0
+EndsPart g waits d ended now answered taken_now =
+    (taken_now ≡ answered) ⊎ (EndsEpoch g waits d now × AppendsPart answered taken_now (answers_text (last_answers (late_answer waits d.store) ended)))
+
+-- the same of equal parts
+pub part-as : {S : Type 0} (g : Ghosts S) {w v : Option Extension} {d b : Durable S} {e f : Option Asked} (now : Durable S) (answered taken_now : Option (List ℕ)) → w ≡ v → d ≡ b → e ≡ f
+    → EndsPart g w d e now answered taken_now → EndsPart g v b f now answered taken_now
+part-as {S} g {w} {v} {d} {b} {e} {f} now answered taken_now waits at_end is_end part =
+    subst (λ x. EndsPart g v b x now answered taken_now) is_end (subst (λ (x : Durable S). EndsPart g v x e now answered taken_now) at_end (subst (λ x. EndsPart g x d e now answered taken_now) waits part))
+
+pub ends-as : {S : Type 0} (g : Ghosts S) {w v : Option Extension} {d b : Durable S} (now : Durable S) → w ≡ v → d ≡ b → EndsEpoch g w d now → EndsEpoch g v b now
+ends-as {S} g {w} {v} {d} {b} now waits at_end ends = subst (λ (x : Durable S). EndsEpoch g v x now) at_end (subst (λ x. EndsEpoch g x d now) waits ends)
+
+pub left-as : {S : Type 0} (g : Ghosts S) {w v : Option Extension} {d b : Durable S} (now : Durable S) → w ≡ v → d ≡ b → LeavesEnd g w d now → LeavesEnd g v b now
+left-as {S} g {w} {v} {d} {b} now waits at_end left = subst (λ (x : Durable S). LeavesEnd g v x now) at_end (subst (λ x. LeavesEnd g x d now) waits left)
+
+pub last-as : {S : Type 0} {w v : Option Extension} {d b : Durable S} {e f : Option Asked} (answered taken_now : Option (List ℕ)) → w ≡ v → d ≡ b → e ≡ f
+    → Appends answered taken_now (answers_text (last_answers (late_answer w d.store) e)) → Appends answered taken_now (answers_text (last_answers (late_answer v b.store) f))
+last-as {S} {w} {v} {d} {b} {e} {f} answered taken_now waits at_end is_end all =
+    subst (λ x. Appends answered taken_now (answers_text (last_answers (late_answer v b.store) x))) is_end
+    (subst (λ (x : Durable S). Appends answered taken_now (answers_text (last_answers (late_answer v x.store) e))) at_end
+    (subst (λ x. Appends answered taken_now (answers_text (last_answers (late_answer x d.store) e))) waits all))
 
 -- all of these, and the end
-pub serves-whole : {S E : Type 0} {g : Ghosts S} {most : ℕ} {given given_now greeted answered : Option (List ℕ)} {served : Server S} {session : Session S} {began d : Durable S} {e : Option Asked}
+pub serves-whole : {S E : Type 0} {g : Ghosts S} {most : ℕ} {given given_now greeted answered : Option (List ℕ)} {served : Server S} {session : Session S} {began d : Durable S} {w : Option Extension} {e : Option Asked}
     (taken taken_now : Option (List ℕ)) (now : Durable S) (r : Result (Unit {0}) E) → session ≡ session_of most began → Appends taken greeted (greeting (life_of began)) → HasTold g session given greeted served given_now answered
-    → (served.end ≡ None → IsAtEnd given_now) → d ≡ served.session.store → e ≡ served.end → (Clean g now.journal → Clean g d.journal) → OnOk r (EndsEpoch g d now) → OnOk r (Appends answered taken_now (answers_text (end_answers e)))
-    → OnOk r (ServesClient g most began given taken now given_now taken_now)
-serves-whole {S} {E} {g} {most} {given} {given_now} {greeted} {answered} {served} {session} {began} {d} {e} taken taken_now now (Ok u) same greets tells asked at_end is_end clean renews ends = record {
+    → (served.end ≡ None → IsAtEnd given_now) → w ≡ served.session.waiting → d ≡ served.session.store → e ≡ served.end → (Clean g now.journal → Clean g d.journal) → OnOk r (EndsEpoch g w d now)
+    → OnOk r (Appends answered taken_now (answers_text (last_answers (late_answer w d.store) e))) → OnOk r (ServesClient g most began given taken now given_now taken_now)
+serves-whole {S} {E} {g} {most} {given} {given_now} {greeted} {answered} {served} {session} {began} {d} {w} {e} taken taken_now now (Ok u) same greets tells asked waits at_end is_end clean renews ends = record {
   served = served;
   greeted = greeted;
   answered = answered;
   greets = greets;
   tells = subst (λ (s : Session S). HasTold g s given greeted served given_now answered) same tells;
   asked = asked;
-  renews = subst (λ (x : Durable S). EndsEpoch g x now) at_end renews;
+  renews = ends-as g now waits at_end renews;
   clean = subst (λ (x : Durable S). Clean g now.journal → Clean g x.journal) at_end clean;
-  ends = subst (λ x. Appends answered taken_now (answers_text (end_answers x))) is_end ends;
+  ends = last-as answered taken_now waits at_end is_end ends;
 }
-serves-whole taken taken_now now (Err x) same greets tells asked at_end is_end clean renews ends = tt
+serves-whole taken taken_now now (Err x) same greets tells asked waits at_end is_end clean renews ends = tt
 
 -- all of these, and then nothing, or a beginning of what is answered at the end
 abbrev pub stops-ending : {S : Type 0} {g : Ghosts S} {most : ℕ} {given given_now taken greeted answered taken_now : Option (List ℕ)} {served : Server S} (began now : Durable S) → Appends taken greeted (greeting (life_of began))
     → HasTold g (session_of most began) given greeted served given_now answered → (Clean g now.journal → Clean g served.session.store.journal)
-    → ((taken_now ≡ answered) ⊎ (EndsEpoch g served.session.store now × AppendsPart answered taken_now (answers_text (end_answers served.end)))) → StopsServing g most began given taken now taken_now
+    → EndsPart g served.session.waiting served.session.store served.end now answered taken_now → StopsServing g most began given taken now taken_now
 stops-ending {S} {g} {most} {given} {given_now} {taken} {greeted} {answered} {taken_now} {served} began now greets has clean part =
     let whole : Appends taken answered (greeting (life_of began) ++ answers_text has.told) = Appends-trans taken greeted answered (greeting (life_of began)) (answers_text has.told) greets has.appended in
     record {
@@ -110,24 +140,25 @@ stops-ending {S} {g} {most} {given} {given_now} {taken} {greeted} {answered} {ta
       answers = has.told;
       life = served.session.life;
       reached = served.session.store.store;
+      said = has.served.said;
       ended = served.end;
+      waits = served.session.waiting;
       serves = serves-weaker clean
-          (subst (λ all. Serves (Clean g served.session.store.journal) most (written g began.journal) (life_of began) has.served.lines began.store all served.session.life served.session.store.store served.end)
+          (subst (λ all. Serves (Clean g served.session.store.journal) most (written g began.journal) (life_of began) has.served.lines began.store all served.session.life has.served.said served.session.store.store served.end served.session.waiting)
           (ap (λ more. has.told ++ more) has.waits ∙ append-nil has.told) has.served.serves);
       told = elim part [
         | inl same ↦ inl (subst (λ now. AppendsPart taken now (greeting (life_of began) ++ answers_text has.told)) (sym same)
             (part-of-whole taken answered answered (greeting (life_of began) ++ answers_text has.told) whole (Keeps-refl answered)))
-        | inr ends ↦ inr (ends.0.store, part-then taken answered taken_now (greeting (life_of began) ++ answers_text has.told) (answers_text (end_answers served.end)) whole ends.1)
+        | inr ends ↦ inr (ends.0.store, part-then taken answered taken_now (greeting (life_of began) ++ answers_text has.told) (answers_text (last_answers (late_answer served.session.waiting served.session.store.store) served.end)) whole ends.1)
       ];
     }
 
 -- the same, as the end says it
-pub stops-whole : {S E : Type 0} {g : Ghosts S} {most : ℕ} {given given_now greeted answered : Option (List ℕ)} {served : Server S} {session : Session S} {began d : Durable S} {e : Option Asked}
+pub stops-whole : {S E : Type 0} {g : Ghosts S} {most : ℕ} {given given_now greeted answered : Option (List ℕ)} {served : Server S} {session : Session S} {began d : Durable S} {w : Option Extension} {e : Option Asked}
     (taken taken_now : Option (List ℕ)) (now : Durable S) (r : Result (Unit {0}) E) → session ≡ session_of most began → Appends taken greeted (greeting (life_of began)) → HasTold g session given greeted served given_now answered
-    → d ≡ served.session.store → e ≡ served.end → (Clean g now.journal → Clean g d.journal)
-    → OnErr r ((taken_now ≡ answered) ⊎ (EndsEpoch g d now × AppendsPart answered taken_now (answers_text (end_answers e)))) → OnErr r (StopsServing g most began given taken now taken_now)
-stops-whole taken taken_now now (Ok u) same greets tells at_end is_end clean part = tt
-stops-whole {S} {E} {g} {most} {given} {given_now} {greeted} {answered} {served} {session} {began} {d} {e} taken taken_now now (Err x) same greets tells at_end is_end clean part =
+    → w ≡ served.session.waiting → d ≡ served.session.store → e ≡ served.end → (Clean g now.journal → Clean g d.journal)
+    → OnErr r (EndsPart g w d e now answered taken_now) → OnErr r (StopsServing g most began given taken now taken_now)
+stops-whole taken taken_now now (Ok u) same greets tells waits at_end is_end clean part = tt
+stops-whole {S} {E} {g} {most} {given} {given_now} {greeted} {answered} {served} {session} {began} {d} {w} {e} taken taken_now now (Err x) same greets tells waits at_end is_end clean part =
     stops-ending began now greets (subst (λ (s : Session S). HasTold g s given greeted served given_now answered) same tells) (subst (λ (x : Durable S). Clean g now.journal → Clean g x.journal) at_end clean)
-    (subst (λ x. (taken_now ≡ answered) ⊎ (EndsEpoch g served.session.store now × AppendsPart answered taken_now (answers_text (end_answers x)))) is_end
-    (subst (λ (x : Durable S). (taken_now ≡ answered) ⊎ (EndsEpoch g x now × AppendsPart answered taken_now (answers_text (end_answers e)))) at_end part))
+    (part-as g now answered taken_now waits at_end is_end part)

@@ -1,8 +1,6 @@
 -- What was answered, group by group.
 use Rattle.std.proofs.Common.{◌≡◌, ◌∙◌, ℕ, ◌+◌, List, [], ◌++◌, length, take, drop, refl, sym, ap, subst, Option, None, arith}
-use Rattle.std.proofs.Math.Seq.{take-append-add}
-use Rattle.std.proofs.lemmas.List.{append_assoc, append-nil, length-append, take-append-drop, drop_all}
-use Rattle.std.proofs.lemmas.Grind.{flat_map-append}
+use Rattle.std.proofs.lemmas.List.{append_assoc, append-nil, take-append-drop, drop_all}
 use Rattle.std.proofs.KnownBytes.{Appends-nil, Appends-trans, Consumes-nil, Consumes-trans, Keeps-refl}
 use Rattle.std.specs.Io.KnownBytes.{Appends, Consumes}
 use Rattle.sqlite_trees.specs.declared.store.Store.{Ghosts}
@@ -18,17 +16,9 @@ use Rattle.durable_store.specs.Durable.{IsDurable}
 use Rattle.serving.specs.Group.{HasTold, IsUnasked, StopsTelling}
 use Rattle.serving.specs.Told.{AppendsPart, answers_text}
 use Rattle.serving.proofs.LaterEpochs.{lasts-stays, lasts-nowhere}
+use Rattle.serving.proofs.NextEpochs.{more-same, says-then}
 use Rattle.serving.proofs.Premises.{serves-weaker}
-use Rattle.serving.proofs.TextParts.{part-of-whole}
-
--- ---- known bytes
-
-pub part-then : (a b c : Option (List ℕ)) (x y : List ℕ) → Appends a b x → AppendsPart b c y → AppendsPart a c (x ++ y)
-part-then a b c x y first (n, within, second) =
-    (length x + n, omega (arith, length-append x y), subst (Appends a c) (sym (take-append-add x y n)) (Appends-trans a b c x (take n y) first second))
-
-pub told-more : (told more : List Answered) → answers_text (told ++ more) ≡ answers_text told ++ answers_text more
-told-more told more = flat_map-append _ told more
+use Rattle.serving.proofs.TextParts.{part-of-whole, part-then, told-more}
 
 -- ---- what was read
 
@@ -53,8 +43,10 @@ stops-before {S} {g} {began} {given} {taken} {given_now} {taken_now} {old} new r
   life = old.session.life;
   reached = old.session.store.store;
   ended = old.end;
+  said = has.served.said;
+  waits = old.session.waiting;
   serves = serves-weaker clean
-      (subst (λ all. Serves (Clean g old.session.store.journal) began.most_events (written g began.store.journal) began.life has.served.lines began.store.store all old.session.life old.session.store.store old.end)
+      (subst (λ all. Serves (Clean g old.session.store.journal) began.most_events (written g began.store.journal) began.life has.served.lines began.store.store all old.session.life has.served.said old.session.store.store old.end old.session.waiting)
       (ap (λ more. has.told ++ more) has.waits ∙ append-nil has.told) has.served.serves);
   part = part-of-whole taken taken_now taken_now (answers_text has.told) has.appended (Keeps-refl taken_now);
 }
@@ -76,9 +68,29 @@ stops-telling {S} {g} {began} {given} {taken} {given_now} {taken_now} {old} mid 
   answers = has.told ++ mid.answers.items;
   life = mid.session.life;
   reached = mid.session.store.store;
+  said = more.served.said;
   ended = mid.end;
+  waits = mid.session.waiting;
   serves = serves-weaker clean more.served.serves;
   part = subst (AppendsPart taken taken_new) (sym (told-more has.told mid.answers.items)) (part-then taken taken_now taken_new (answers_text has.told) (answers_text mid.answers.items) has.appended part);
+}
+
+-- once it has answered all that it did, or a beginning of it
+abbrev pub stops-answered : {S : Type 0} {g : Ghosts S} {began : Session S} {given taken : Option (List ℕ)} {told : List Answered} {seen : List ℕ} (now : Server S) (rest : List ℕ) (given_now taken_now : Option (List ℕ))
+    → HasServed g began told seen now → now.answers.items ≡ [] → Consumes given given_now (seen ++ rest) → AppendsPart taken taken_now (answers_text told) → StopsTelling g began given taken now.session.store taken_now
+stops-answered {S} {g} {began} {given} {taken} {told} {seen} now rest given_now taken_now served empty consumed part = record {
+  lines = served.lines;
+  read = record { seen = seen; half = served.half; rest = rest; left = given_now; consumed = consumed; asked = served.asked };
+  answers = told;
+  life = now.session.life;
+  reached = now.session.store.store;
+  said = served.said;
+  ended = now.end;
+  waits = now.session.waiting;
+  serves =
+      subst (λ all. Serves (Clean g now.session.store.journal) began.most_events (written g began.store.journal) began.life served.lines began.store.store all now.session.life served.said now.session.store.store now.end now.session.waiting)
+      (ap (λ more. told ++ more) empty ∙ append-nil told) served.serves;
+  part = part;
 }
 
 -- ---- a group was answered
@@ -87,10 +99,10 @@ abbrev pub group-told : {S : Type 0} {g : Ghosts S} {began : Session S} {given t
     (bytes : List ℕ) → old.end ≡ None → HasTold g began given taken old given_now taken_now
     → ((told : List Answered) (seen : List ℕ) → HasServed g began told seen old → ServesBytes g began told seen bytes mid)
     → Consumes given_now given_new bytes → Appends taken_now taken_new (answers_text mid.answers.items)
-    → StaysInEpoch g mid.session new.session → LetsGo mid.session.store.store new.session.store.store
+    → StaysInEpoch g mid.session new.session → new.session.waiting ≡ mid.session.waiting → LetsGo mid.session.store.store new.session.store.store
     → new.line ≡ mid.line → new.end ≡ mid.end → new.answers.items ≡ []
     → HasTold g began given taken new given_new taken_new
-group-told {S} {g} {began} {given} {taken} {given_now} {taken_now} {old} mid new given_new taken_new bytes none has serves consumed appended stays lets line ended clear =
+group-told {S} {g} {began} {given} {taken} {given_now} {taken_now} {old} mid new given_new taken_new bytes none has serves consumed appended stays waits lets line ended clear =
     let more = serves has.told has.seen has.served in
     let served = more.served in
     record {
@@ -106,10 +118,12 @@ group-told {S} {g} {began} {given} {taken} {given_now} {taken_now} {old} mid new
         asked = served.asked;
         kept = ap (λ v. v.items) line ∙ served.kept;
         lasts = lasts-stays served.lasts stays;
+        said = served.said;
+        says = λ now. says-then served.said (written g mid.session.store.journal) (written g new.session.store.journal) (served.says (stays.clean now)) (more-same (stays.follows now));
         serves =
             let so_far = serves-weaker stays.clean served.serves in
-            rw (lets, ended, stays.life, ap (λ xs. (has.told ++ mid.answers.items) ++ xs) clear ∙ append-nil (has.told ++ mid.answers.items))
-            (Serves.forget served.lines began.store.store mid.session.store.store (has.told ++ mid.answers.items) mid.session.life new.session.store.store.forgotten mid.end so_far);
+            rw (lets, ended, stays.life, waits, ap (λ xs. (has.told ++ mid.answers.items) ++ xs) clear ∙ append-nil (has.told ++ mid.answers.items))
+            (Serves.forget served.lines began.store.store mid.session.store.store (has.told ++ mid.answers.items) mid.session.life new.session.store.store.forgotten served.said mid.end mid.session.waiting so_far);
       };
       appended = subst (Appends taken taken_new) (sym (told-more has.told mid.answers.items)) (Appends-trans taken taken_now taken_new (answers_text has.told) (answers_text mid.answers.items) has.appended appended);
     }
@@ -130,7 +144,9 @@ told-none {S} {g} given taken s sound fresh = record {
     asked = record { text = refl; whole = tt; within = refl };
     kept = fresh.line;
     lasts = lasts-nowhere s.session sound fresh.named;
-    serves = rw (fresh.answers, fresh.end) (Serves.none s.session.store.store);
+    said = written g s.session.store.journal;
+    says = λ now. (refl, refl);
+    serves = rw (fresh.answers, fresh.end, fresh.none_waits) (Serves.none s.session.store.store);
   };
   appended = Appends-nil taken;
 }

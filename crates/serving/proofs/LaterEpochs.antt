@@ -2,6 +2,8 @@
 use Rattle.std.proofs.Common.{◌≡◌, ◌∙◌, inl, inr, ℕ, suc, true, Option, None, Result, Ok, Err, List, [], ◌∷◌, ◌++◌, map, refl, sym, ap, subst}
 use Rattle.std.proofs.lemmas.List.{append_assoc, append-nil}
 use Rattle.std.specs.Prelude.{OnOk}
+use Rattle.std.specs.Io.KnownBytes.{Appends}
+use Rattle.std.proofs.KnownBytes.{Appends-trans}
 use Rattle.sqlite_trees.specs.declared.store.Store.{Ghosts}
 use Rattle.journal.specs.declared.header.Header.{Header}
 use Rattle.journal.specs.Contents.{Contents, contents_of}
@@ -9,25 +11,27 @@ use Rattle.journal.specs.Journal.{Clean, IsJournal, ShowsCommit, durable, writte
 use Rattle.store_laws.specs.Stored.{Stored}
 use Rattle.durable_store.specs.declared.durable.Durable.{Durable}
 use Rattle.durable_store.specs.Durable.{IsDurable, with_all}
-use Rattle.durable_store.specs.Epochs.{LeavesEpoch, renewed}
-use Rattle.durable_store.specs.Recovered.{IsStoreOf, next_life}
+use Rattle.durable_store.specs.Recovered.{IsStoreOf}
 use Rattle.store.specs.Ends.{closing}
-use Rattle.store.specs.KeptState.{IsKeptState}
-use Rattle.store.specs.Renews.{Renews}
 use Rattle.serving.specs.declared.answer_line.Answered.{Answered}
+use Rattle.serving.specs.declared.extension.Extension.{Extension}
 use Rattle.serving.specs.declared.session.Session.{Session}
 use Rattle.serving.specs.declared.server.Server.{Server}
 use Rattle.serving.specs.Archives.{KeepsEpochs, KeptHistory, life_in}
 use Rattle.serving.specs.Does.{is_epoch_full}
-use Rattle.serving.specs.EpochEnd.{EndsEpoch}
+use Rattle.serving.specs.EpochEnd.{EndsEpoch, LeavesNext, last_answers}
 use Rattle.serving.specs.Epochs.{LeavesEpochs, Reaches, WritesEpochs, aborted}
 use Rattle.serving.specs.Follows.{HasMoreEvents, LeavesMore}
 use Rattle.serving.specs.Group.{HasTold}
+use Rattle.serving.specs.NextEpoch.{IsNextFile, IsNextStore, SaysNext, SaysSame, answers_in, late_answer, limit_while}
 use Rattle.serving.specs.Requests.{LetsGo}
 use Rattle.serving.specs.Served.{Serves}
 use Rattle.serving.specs.Server.{StaysInEpoch, HasServed, Lasts, life_of}
+use Rattle.serving.specs.Told.{answers_text}
 use Rattle.serving.proofs.MoreEvents.{follows-with_all}
+use Rattle.serving.proofs.NextEpochs.{next-file-as, next-headers, next-says, next-store-as, raised, says-next-then}
 use Rattle.serving.proofs.Premises.{serves-weaker}
+use Rattle.serving.proofs.TextParts.{late-alone, told-more}
 use Rattle.serving.proofs.KeptEpochs.{keeps-none, keeps-then, least-more, least-none, least-these, least-then}
 
 -- ---- files
@@ -35,19 +39,11 @@ use Rattle.serving.proofs.KeptEpochs.{keeps-none, keeps-then, least-more, least-
 pub reaches-then : {a b c : Contents} {later : List Contents} (ended : List Contents) → Reaches a ended b → Reaches b later c → Reaches a (ended ++ later) c
 reaches-then {a} {b} ended first Reaches.none = subst (λ es. Reaches a es b) (sym (append-nil ended)) first
 reaches-then ended first (Reaches.events later mid new before follows) = Reaches.events (ended ++ later) mid new (reaches-then ended first before) follows
-reaches-then {a} ended first (Reaches.epoch later mid old new before is renews) =
-    subst (λ es. Reaches a es (renewed mid new.types)) (append_assoc ended later (mid ∷ [])) (Reaches.epoch (ended ++ later) mid old new (reaches-then ended first before) is renews)
+reaches-then {a} ended first (Reaches.epoch later mid now waits old new before is next) =
+    subst (λ es. Reaches a es now) (append_assoc ended later (mid ∷ [])) (Reaches.epoch (ended ++ later) mid now waits old new (reaches-then ended first before) is next)
 
 pub reaches-more : {a b : Contents} → HasMoreEvents a b → Reaches a [] b
 reaches-more {a} {b} follows = Reaches.events [] a b Reaches.none follows
-
--- what epochs don't change
-pub reaches-same : {c d : Contents} {ended : List Contents} → Reaches c ended d → (d.objects ≡ c.objects) × (d.types ≡ c.types)
-reaches-same Reaches.none = (refl, refl)
-reaches-same (Reaches.events ended mid new before follows) =
-    let same = reaches-same before in
-    (ap (λ (x : Contents). x.objects) follows.others ∙ same.0, ap (λ (x : Contents). x.types) follows.others ∙ same.1)
-reaches-same (Reaches.epoch ended mid old new before is renews) = reaches-same before
 
 -- ---- stores
 
@@ -103,82 +99,66 @@ pub is-store-of : {S : Type 0} (g : Ghosts S) (d : Durable S) → IsDurable g d 
 is-store-of g d sound clean = record { types = sound.types clean; history = sound.history clean; limit = sound.limit }
 
 -- the new epoch of what was written with an abort of each transaction that was open
-renewed-reached : {S : Type 0} (g : Ghosts S) (old mid : Durable S) (new : Stored) → IsDurable g mid → Clean g mid.journal → written g mid.journal ≡ with_all (written g old.journal) (closing old.store.history)
-    → Renews mid.store new → Reaches (written g old.journal) (written g mid.journal ∷ []) (renewed (written g mid.journal) new.types)
-renewed-reached g old mid new sound clean wrote renews =
-    Reaches.epoch [] (written g mid.journal) mid.store new
-    (subst (λ c. Reaches (written g old.journal) [] c) (sym wrote) (reaches-more (follows-with_all (written g old.journal) (closing old.store.history)))) (is-store-of g mid sound clean) renews
+next-reached : {S : Type 0} (g : Ghosts S) (waits : Option Extension) (old mid : Durable S) (new : Stored) (now : Contents) → IsDurable g mid → Clean g mid.journal
+    → written g mid.journal ≡ with_all (written g old.journal) (closing old.store.history) → IsNextFile waits mid.store new (written g mid.journal) now → Reaches (written g old.journal) (written g mid.journal ∷ []) now
+next-reached g waits old mid new now sound clean wrote next =
+    Reaches.epoch [] (written g mid.journal) now waits mid.store new
+    (subst (λ c. Reaches (written g old.journal) [] c) (sym wrote) (reaches-more (follows-with_all (written g old.journal) (closing old.store.history)))) (is-store-of g mid sound clean) next
 
 -- the epoch was closed and its history kept, and then the file began anew
-pub left-renewed : {S : Type 0} (g : Ghosts S) (old mid new : Durable S) (kept kept_now : Option (List KeptHistory)) → IsDurable g mid → (Clean g mid.journal → Clean g old.journal)
+pub left-renewed : {S : Type 0} (g : Ghosts S) (waits : Option Extension) (old mid new : Durable S) (kept kept_now : Option (List KeptHistory)) → IsDurable g mid → (Clean g mid.journal → Clean g old.journal)
     → (Clean g mid.journal → written g mid.journal ≡ with_all (written g old.journal) (closing old.store.history)) → (Clean g mid.journal → KeepsEpochs kept kept_now (written g mid.journal ∷ []))
-    → LeavesEpochs g old mid kept kept_now → LeavesEpoch g mid new → LeavesEpochs g old new kept kept_now
-left-renewed g old mid new kept kept_now sound clean wrote keeps first crash db left = elim (crash db left) [
+    → LeavesEpochs g old mid kept kept_now → LeavesNext g waits mid new → LeavesEpochs g old new kept kept_now
+left-renewed g waits old mid new kept kept_now sound clean wrote keeps first crash db left = elim (crash db left) [
   | inl now ↦ (
-      let (s, renews, is) = now.2 in
+      let (s, next) = now.2 in
       let ended = written g mid.journal ∷ [] in
-      inl (clean now.0, now.1, (ended, subst (λ c. Reaches (written g old.journal) ended c) (sym is) (renewed-reached g old mid s sound now.0 (wrote now.0) renews), least-these kept kept_now ended (keeps now.0))))
+      inl (clean now.0, now.1, (ended, next-reached g waits old mid s (contents_of db) sound now.0 (wrote now.0) next, least-these kept kept_now ended (keeps now.0))))
   | inr before ↦ first db before
 ]
 
--- the same headers, in the next life
-abbrev pub raised : List Header → List Header
-raised hs = map (λ (h : Header). let it : Header = record h { life = next_life hs } in it) hs
+-- what was written is durable
+pub shown-durable : {S : Type 0} (g : Ghosts S) (d : Durable S) → ShowsCommit g d.journal → Clean g d.journal → durable g d.journal ≡ written g d.journal
+shown-durable g d shows now = sym (ap contents_of (shows now).clean)
 
 -- the file of a new epoch, and its life
-module _ {S : Type 0} {g : Ghosts S} (old mid new : Durable S) (sound : IsDurable g mid) (clean : Clean g new.journal → Clean g mid.journal)
+module _ {S : Type 0} {g : Ghosts S} (waits : Option Extension) (old mid new : Durable S) (sound : IsDurable g mid) (clean : Clean g new.journal → Clean g mid.journal)
     (wrote : Clean g mid.journal → written g mid.journal ≡ with_all (written g old.journal) (closing old.store.history)) (now : Clean g new.journal) (shows : ShowsCommit g new.journal)
-    (is : Clean g new.journal → durable g new.journal ≡ renewed (written g mid.journal) new.store.types) where
-  written-now : written g new.journal ≡ renewed (written g mid.journal) new.store.types
-  written-now = ap contents_of (shows now).clean ∙ is now
+    (is : Clean g new.journal → IsNextFile waits mid.store new.store (written g mid.journal) (durable g new.journal)) where
+  written-now : IsNextFile waits mid.store new.store (written g mid.journal) (written g new.journal)
+  written-now = subst (λ c. IsNextFile waits mid.store new.store (written g mid.journal) c) (shown-durable g new shows now) (is now)
 
-  reached : Renews mid.store new.store → Reaches (written g old.journal) (written g mid.journal ∷ []) (written g new.journal)
-  reached renews = subst (λ c. Reaches (written g old.journal) (written g mid.journal ∷ []) c) (sym written-now) (renewed-reached g old mid new.store sound (clean now) (wrote (clean now)) renews)
+  reached : Reaches (written g old.journal) (written g mid.journal ∷ []) (written g new.journal)
+  reached = next-reached g waits old mid new.store (written g new.journal) sound (clean now) (wrote (clean now)) written-now
 
-  next : IsJournal g new.journal → (written g mid.journal).headers ≡ mid.journal.header ∷ [] → life_of new ≡ suc (life_of mid)
-  next journal last =
+  next-life : IsJournal g new.journal → (written g mid.journal).headers ≡ mid.journal.header ∷ [] → life_of new ≡ suc (life_of mid)
+  next-life journal last =
       let all : new.journal.header ∷ [] ≡ raised (mid.journal.header ∷ []) =
-      sym ((journal now).header_is (shows now).sound) ∙ ap (λ (c : Contents). c.headers) written-now ∙ ap raised last in
+      sym ((journal now).header_is (shows now).sound) ∙ next-headers waits mid.store new.store (written g mid.journal) (written g new.journal) written-now ∙ ap raised last in
       ap life_in all
 
 -- ---- the end of an epoch
 
--- a store that has forgotten more begins anew at the same states
-kept-as : (s t : Stored) (x state : ℕ) → LetsGo s t → IsKeptState t x state → IsKeptState s x state
-kept-as s t x state lets kept =
-    let it : IsKeptState (record s { forgotten = t.forgotten }) x state = subst (λ (u : Stored). IsKeptState u x state) lets kept in
-    record { o = it.o; there = it.there; in_place = it.in_place; agrees = it.agrees; fits = it.fits }
-
-pub renews-as : (s t new : Stored) → LetsGo s t → Renews t new → Renews s new
-renews-as s t new lets renews =
-    let it : Renews (record s { forgotten = t.forgotten }) new = subst (λ (u : Stored). Renews u new) lets renews in
-    record {
-      kept = it.kept;
-      as_many = it.as_many;
-      states = λ x state there. kept-as s (record s { forgotten = t.forgotten }) x state refl (it.states x state there);
-      epoch = it.epoch;
-      is = it.is;
-    }
-
 -- what ends an epoch, of how it ended
-pub ends-epoch : {S E : Type 0} {g : Ghosts S} (old mid new : Durable S) (r : Result (Unit {0}) E) → IsDurable g mid → LetsGo (aborted old.store) mid.store → mid.journal.header ≡ old.journal.header
+pub ends-epoch : {S E T : Type 0} {g : Ghosts S} (waits : Option Extension) (old mid new : Durable S) (r : Result T E) → IsDurable g mid → LetsGo (aborted old.store) mid.store → mid.journal.header ≡ old.journal.header
     → (Clean g new.journal → Clean g mid.journal) → (Clean g mid.journal → written g mid.journal ≡ with_all (written g old.journal) (closing old.store.history))
-    → OnOk r (Renews mid.store new.store) → OnOk r (IsDurable g new) → OnOk r (ShowsCommit g new.journal) → OnOk r (Clean g new.journal → (written g mid.journal).headers ≡ mid.journal.header ∷ [])
-    → OnOk r (Clean g new.journal → durable g new.journal ≡ renewed (written g mid.journal) new.store.types) → OnOk r (EndsEpoch g old new)
-ends-epoch {S} {E} {g} old mid new (Ok u) sound aborts header clean wrote renews is_durable shows last is = record {
-  store = renews-as (aborted old.store) mid.store new.store aborts renews;
-  durable = λ now. is now ∙ ap (λ c. renewed c new.store.types) (wrote (clean now));
-  life = λ now. next old mid new sound clean wrote now shows is is_durable.journal (last now) ∙ ap (λ (h : Header). suc h.life) header;
+    → OnOk r (IsNextStore waits mid.store new.store) → OnOk r (IsDurable g new) → OnOk r (ShowsCommit g new.journal) → OnOk r (Clean g new.journal → (written g mid.journal).headers ≡ mid.journal.header ∷ [])
+    → OnOk r (Clean g new.journal → IsNextFile waits mid.store new.store (written g mid.journal) (durable g new.journal)) → OnOk r (EndsEpoch g waits old new)
+ends-epoch {S} {E} {T} {g} waits old mid new (Ok u) sound aborts header clean wrote begins is_durable shows last is = record {
+  store = next-store-as waits (aborted old.store) mid.store new.store aborts begins;
+  durable = λ now. next-file-as waits (aborted old.store) mid.store new.store (with_all (written g old.journal) (closing old.store.history)) (durable g new.journal) aborts
+      (subst (λ c. IsNextFile waits mid.store new.store c (durable g new.journal)) (wrote (clean now)) (is now));
+  life = λ now. next-life waits old mid new sound clean wrote now shows is is_durable.journal (last now) ∙ ap (λ (h : Header). suc h.life) header;
 }
-ends-epoch old mid new (Err e) sound aborts header clean wrote renews is_durable shows last is = tt
+ends-epoch waits old mid new (Err e) sound aborts header clean wrote next is_durable shows last is = tt
 
-pub writes-epoch : {S E : Type 0} {g : Ghosts S} (old mid new : Durable S) (kept kept_now : Option (List KeptHistory)) (r : Result (Unit {0}) E) → IsDurable g mid → (Clean g new.journal → Clean g mid.journal)
+pub writes-epoch : {S E T : Type 0} {g : Ghosts S} (waits : Option Extension) (old mid new : Durable S) (kept kept_now : Option (List KeptHistory)) (r : Result T E) → IsDurable g mid → (Clean g new.journal → Clean g mid.journal)
     → (Clean g mid.journal → written g mid.journal ≡ with_all (written g old.journal) (closing old.store.history)) → (Clean g mid.journal → KeepsEpochs kept kept_now (written g mid.journal ∷ []))
-    → OnOk r (Renews mid.store new.store) → OnOk r (ShowsCommit g new.journal) → OnOk r (Clean g new.journal → durable g new.journal ≡ renewed (written g mid.journal) new.store.types)
+    → OnOk r (ShowsCommit g new.journal) → OnOk r (Clean g new.journal → IsNextFile waits mid.store new.store (written g mid.journal) (durable g new.journal))
     → OnOk r (WritesEpochs g old new kept kept_now)
-writes-epoch {S} {E} {g} old mid new kept kept_now (Ok u) sound clean wrote keeps renews shows is =
-    λ now. (written g mid.journal ∷ [], reached old mid new sound clean wrote now shows is renews, keeps (clean now))
-writes-epoch old mid new kept kept_now (Err e) sound clean wrote keeps renews shows is = tt
+writes-epoch {S} {E} {T} {g} waits old mid new kept kept_now (Ok u) sound clean wrote keeps shows is =
+    λ now. (written g mid.journal ∷ [], reached waits old mid new sound clean wrote now shows is, keeps (clean now))
+writes-epoch waits old mid new kept kept_now (Err e) sound clean wrote keeps shows is = tt
 
 -- ---- sessions
 
@@ -227,45 +207,67 @@ lasts-epoch {S} {g} {began} {mid} new kept kept_now first sound named most write
   crash = left-then g began.store mid.store new.store None None None first.clean first.reaches first.crash (left-untold g mid.store new.store kept kept_now crash);
 }
 
--- what a server has served, after another epoch too
-abbrev pub served-epoch : {S : Type 0} {g : Ghosts S} {began : Session S} {told : List Answered} {bytes : List ℕ} {old : Server S} (new : Server S) (kept kept_now : Option (List KeptHistory)) → old.end ≡ None
-    → is_epoch_full old.session.most_events old.session.store.store ≡ true → EndsEpoch g old.session.store new.session.store → IsDurable g new.session.store → new.session.life ≡ life_of new.session.store
-    → new.session.most_events ≡ old.session.most_events → WritesEpochs g old.session.store new.session.store kept kept_now → (Clean g new.session.store.journal → Clean g old.session.store.journal)
+-- ---- another epoch of a server
+
+-- the answers that were told, with what is answered as the epoch begins, and those that wait: none
+pub epoch-told : (told waiting now late : List Answered) → waiting ≡ [] → now ≡ waiting → (told ++ late) ++ now ≡ (told ++ waiting) ++ late
+epoch-told told waiting now late none same =
+    ap (λ xs. (told ++ late) ++ xs) (same ∙ none) ∙ append-nil (told ++ late) ∙ sym (ap (λ xs. (told ++ xs) ++ late) none ∙ ap (λ xs. xs ++ late) (append-nil told))
+
+-- what it has served
+abbrev pub served-epoch : {S : Type 0} {g : Ghosts S} {began : Session S} {told : List Answered} {bytes : List ℕ} {old : Server S} (new : Server S) (kept kept_now : Option (List KeptHistory)) → old.end ≡ None → old.answers.items ≡ []
+    → is_epoch_full (limit_while old.session.waiting old.session.most_events) old.session.store.store ≡ true → EndsEpoch g old.session.waiting old.session.store new.session.store → IsDurable g new.session.store → new.session.life ≡ life_of new.session.store
+    → new.session.most_events ≡ old.session.most_events → new.session.waiting ≡ None → ShowsCommit g new.session.store.journal
+    → WritesEpochs g old.session.store new.session.store kept kept_now → (Clean g new.session.store.journal → Clean g old.session.store.journal)
     → LeavesEpochs g old.session.store new.session.store kept kept_now → new.line ≡ old.line → new.answers ≡ old.answers → new.end ≡ old.end
-    → HasServed g began told bytes old → HasServed g began told bytes new
-served-epoch {S} {g} {began} {told} {bytes} {old} new kept kept_now none full ends sound named most writes clean crash line answers ended served = record {
+    → HasServed g began told bytes old → HasServed g began (told ++ answers_in (late_answer old.session.waiting old.session.store.store)) bytes new
+served-epoch {S} {g} {began} {told} {bytes} {old} new kept kept_now none empty full ends sound named most no_more shows writes clean crash line answers ended served = record {
   lines = served.lines;
   half = served.half;
   asked = served.asked;
   kept = ap (λ v. v.items) line ∙ served.kept;
   lasts = lasts-epoch new.session kept kept_now served.lasts sound named most writes clean crash;
+  said = written g new.session.store.journal;
+  says = λ now. (refl, refl);
   serves =
       let file = written g began.store.journal in
-      let so_far : Serves (Clean g new.session.store.journal) began.most_events file began.life served.lines began.store.store (told ++ old.answers.items) old.session.life old.session.store.store None =
+      let waits = old.session.waiting in
+      let late = answers_in (late_answer waits old.session.store.store) in
+      let closed = with_all (written g old.session.store.journal) (closing old.session.store.store.history) in
+      let so_far : Serves (Clean g new.session.store.journal) began.most_events file began.life served.lines began.store.store (told ++ old.answers.items) old.session.life served.said old.session.store.store None waits =
       serves-weaker clean
-      (subst (λ e. Serves (Clean g old.session.store.journal) began.most_events file began.life served.lines began.store.store (told ++ old.answers.items) old.session.life old.session.store.store e) none served.serves) in
+      (subst (λ e. Serves (Clean g old.session.store.journal) began.most_events file began.life served.lines began.store.store (told ++ old.answers.items) old.session.life served.said old.session.store.store e waits) none served.serves) in
       let life : Clean g new.session.store.journal → new.session.life ≡ suc old.session.life = λ now. named ∙ ends.life now ∙ ap suc (sym served.lasts.named) in
-      rw (ended ∙ none, ap (λ v. told ++ v.items) answers)
-      (Serves.epoch served.lines began.store.store old.session.store.store new.session.store.store (told ++ old.answers.items) old.session.life new.session.life so_far
-      (subst (λ n. is_epoch_full n old.session.store.store ≡ true) served.lasts.most full) ends.store life);
+      let says : Clean g new.session.store.journal → SaysNext waits served.said (written g new.session.store.journal) =
+      λ now. says-next-then waits served.said closed (written g new.session.store.journal) ((served.says (clean now)).0, (served.says (clean now)).1)
+      (next-says waits (aborted old.session.store.store) new.session.store.store closed (written g new.session.store.journal)
+      (subst (λ c. IsNextFile waits (aborted old.session.store.store) new.session.store.store closed c) (shown-durable g new.session.store shows now) (ends.durable now))) in
+      rw (ended ∙ none, no_more, epoch-told told old.answers.items new.answers.items late empty (ap (λ v. v.items) answers))
+      (Serves.epoch served.lines began.store.store old.session.store.store new.session.store.store (told ++ old.answers.items) old.session.life new.session.life served.said (written g new.session.store.journal) waits so_far
+      (subst (λ n. is_epoch_full (limit_while waits n) old.session.store.store ≡ true) served.lasts.most full) ends.store life says);
 }
 
--- the same of what it has answered
-abbrev pub told-epoch : {S : Type 0} {g : Ghosts S} {began : Session S} {given taken given_now taken_now : Option (List ℕ)} {old : Server S} (new : Server S) (kept kept_now : Option (List KeptHistory)) → old.end ≡ None
-    → is_epoch_full old.session.most_events old.session.store.store ≡ true → EndsEpoch g old.session.store new.session.store → IsDurable g new.session.store → new.session.life ≡ life_of new.session.store
-    → new.session.most_events ≡ old.session.most_events → WritesEpochs g old.session.store new.session.store kept kept_now → (Clean g new.session.store.journal → Clean g old.session.store.journal)
+-- what it has answered
+abbrev pub told-epoch : {S : Type 0} {g : Ghosts S} {began : Session S} {given taken given_now taken_now : Option (List ℕ)} {old : Server S} (new : Server S) (taken_new : Option (List ℕ)) (kept kept_now : Option (List KeptHistory)) → old.end ≡ None
+    → is_epoch_full (limit_while old.session.waiting old.session.most_events) old.session.store.store ≡ true → EndsEpoch g old.session.waiting old.session.store new.session.store → IsDurable g new.session.store → new.session.life ≡ life_of new.session.store
+    → new.session.most_events ≡ old.session.most_events → new.session.waiting ≡ None → ShowsCommit g new.session.store.journal
+    → WritesEpochs g old.session.store new.session.store kept kept_now → (Clean g new.session.store.journal → Clean g old.session.store.journal)
     → LeavesEpochs g old.session.store new.session.store kept kept_now → new.line ≡ old.line → new.answers ≡ old.answers → new.end ≡ old.end
-    → HasTold g began given taken old given_now taken_now → HasTold g began given taken new given_now taken_now
-told-epoch new kept kept_now none full ends sound named most writes clean crash line answers ended has = record {
-  told = has.told;
-  seen = has.seen;
-  rest = has.rest;
-  consumed = has.consumed;
-  all = λ e. has.all none;
-  waits = ap (λ v. v.items) answers ∙ has.waits;
-  served = served-epoch new kept kept_now none full ends sound named most writes clean crash line answers ended has.served;
-  appended = has.appended;
-}
+    → Appends taken_now taken_new (answers_text (last_answers (late_answer old.session.waiting old.session.store.store) None))
+    → HasTold g began given taken old given_now taken_now → HasTold g began given taken new given_now taken_new
+told-epoch {S} {g} {began} {given} {taken} {given_now} {taken_now} {old} new taken_new kept kept_now none full ends sound named most no_more shows writes clean crash line answers ended appended has =
+    let late = late_answer old.session.waiting old.session.store.store in
+    record {
+      told = has.told ++ answers_in late;
+      seen = has.seen;
+      rest = has.rest;
+      consumed = has.consumed;
+      all = λ e. has.all none;
+      waits = ap (λ v. v.items) answers ∙ has.waits;
+      served = served-epoch new kept kept_now none has.waits full ends sound named most no_more shows writes clean crash line answers ended has.served;
+      appended = subst (Appends taken taken_new) (sym (told-more has.told (answers_in late)))
+          (Appends-trans taken taken_now taken_new (answers_text has.told) (answers_text (answers_in late)) has.appended (subst (λ xs. Appends taken_now taken_new (answers_text xs)) (late-alone late) appended));
+    }
 
 -- and where nothing of this has changed
 abbrev pub told-as : {S : Type 0} {g : Ghosts S} {began : Session S} {given taken given_now taken_now : Option (List ℕ)} {old : Server S} (new : Server S) → new.session ≡ old.session → new.line ≡ old.line
@@ -283,6 +285,8 @@ told-as {S} {g} {began} {given} {taken} {given_now} {taken_now} {old} new sessio
     asked = has.served.asked;
     kept = ap (λ v. v.items) line ∙ has.served.kept;
     lasts = subst (λ (s : Session S). Lasts g began s) (sym session) has.served.lasts;
+    said = has.served.said;
+    says = subst (λ (s : Session S). Clean g s.store.journal → SaysSame has.served.said (written g s.store.journal)) (sym session) has.served.says;
     serves = rw (session, answers, ended) has.served.serves;
   };
   appended = has.appended;

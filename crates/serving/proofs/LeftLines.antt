@@ -9,15 +9,14 @@ use Rattle.sqlite_trees.specs.declared.store.Store.{Ghosts}
 use Rattle.sqlite_trees.specs.Tree.{Trees}
 use Rattle.store_laws.specs.Stored.{Stored}
 use Rattle.store.specs.Ends.{closing}
-use Rattle.store.specs.Renews.{Renews}
 use Rattle.journal.specs.Contents.{Contents, IsFile, contents_of}
 use Rattle.journal.specs.Journal.{Clean, ShowsCommit, may_leave, written}
 use Rattle.durable_store.specs.declared.durable.Durable.{Durable}
 use Rattle.durable_store.specs.Durable.{IsDurable, events_of_kinds, kinds, with_all}
-use Rattle.durable_store.specs.Epochs.{renewed}
 use Rattle.durable_store.specs.Recovered.{IsStoreOf}
 use Rattle.request_text.specs.declared.request.Asked.{Asked}
 use Rattle.serving.specs.declared.answer_line.Answered.{Answered}
+use Rattle.serving.specs.declared.extension.Extension.{Extension}
 use Rattle.serving.specs.declared.session.Session.{Session}
 use Rattle.serving.specs.declared.server.Server.{Server}
 use Rattle.serving.specs.Does.{is_epoch_full}
@@ -26,22 +25,23 @@ use Rattle.serving.specs.Epochs.{aborted}
 use Rattle.serving.specs.Follows.{LeavesWritten}
 use Rattle.serving.specs.Left.{AreFirstAnswers, IsFileAfter, IsStoreFile, IsInLife, IsLeftAfter, LeavesLines, Survives, Began, began_at}
 use Rattle.serving.specs.Lines.{AreLines, asks_end}
+use Rattle.serving.specs.NextEpoch.{limit_while}
 use Rattle.serving.specs.Served.{Serves}
 use Rattle.serving.specs.Server.{AnswersLine, DoesLine, HasServed, KeepsByte, StaysInEpoch, TakesByte, TakesEnd, life_of}
-use Rattle.serving.specs.Told.{has_commit, is_commit}
+use Rattle.serving.specs.Told.{has_lasting, is_lasting}
 use Rattle.serving.proofs.LaterEpochs.{is-store-of}
 use Rattle.serving.proofs.Premises.{serves-weaker}
 
 -- ---- answers
 
 -- where none is to a commit, none of the later ones is
-none-later : (n : ℕ) (answers : List Answered) → has_commit answers ≡ false → has_commit (drop n answers) ≡ false
+none-later : (n : ℕ) (answers : List Answered) → has_lasting answers ≡ false → has_lasting (drop n answers) ≡ false
 none-later zero answers none = none
 none-later (suc n) [] none = refl
-none-later (suc n) (a ∷ answers) none = none-later n answers (or_parts (is_commit a.answer) (has_commit answers) none).1
+none-later (suc n) (a ∷ answers) none = none-later n answers (or_parts (is_lasting a.answer) (has_lasting answers) none).1
 
-none-after : (n : ℕ) (told waiting : List Answered) → has_commit (drop n told) ≡ false → has_commit waiting ≡ false → has_commit (drop n (told ++ waiting)) ≡ false
-none-after zero told waiting none rest = list_any-append (λ (a : Answered). is_commit a.answer) told waiting ∙ ap₂ (λ p q. p || q) none rest
+none-after : (n : ℕ) (told waiting : List Answered) → has_lasting (drop n told) ≡ false → has_lasting waiting ≡ false → has_lasting (drop n (told ++ waiting)) ≡ false
+none-after zero told waiting none rest = list_any-append (λ (a : Answered). is_lasting a.answer) told waiting ∙ ap₂ (λ p q. p || q) none rest
 none-after (suc n) [] waiting none rest = none-later (suc n) waiting rest
 none-after (suc n) (a ∷ told) waiting none rest = none-after n told waiting none rest
 
@@ -50,7 +50,7 @@ first-all : (told waiting : List Answered) → AreFirstAnswers told waiting (tol
 first-all told waiting = record {
   others = [];
   all = sym (append-nil (told ++ waiting));
-  none = ap has_commit (drop_all (length (told ++ waiting)) told (omega (arith, length-append told waiting)));
+  none = ap has_lasting (drop_all (length (told ++ waiting)) told (omega (arith, length-append told waiting)));
 }
 
 -- while more wait
@@ -62,7 +62,7 @@ first-more {told} {waiting} {done} more first = record {
 }
 
 -- once the client may have got what waited, where none of it is to a commit
-first-told : {told waiting done : List Answered} → has_commit waiting ≡ false → AreFirstAnswers told waiting done → AreFirstAnswers (told ++ waiting) [] done
+first-told : {told waiting done : List Answered} → has_lasting waiting ≡ false → AreFirstAnswers told waiting done → AreFirstAnswers (told ++ waiting) [] done
 first-told {told} {waiting} {done} none first = record {
   others = first.others;
   all = append-nil (told ++ waiting) ∙ first.all;
@@ -76,10 +76,10 @@ pub rest-read : (seen bytes : List ℕ) (i : ℕ) → (seen ++ take i bytes) ++ 
 rest-read seen bytes i = append_assoc seen (take i bytes) (drop i bytes) ∙ ap (λ bs. seen ++ bs) (take-append-drop i bytes)
 
 -- where it is over for another reason too
-file-last : {over others : Type 0} {life : ℕ} {s : Stored} {c : Contents} → (over → others) → IsStoreFile over life s c → IsStoreFile others life s c
+file-last : {over others : Type 0} {waits : Option Extension} {life : ℕ} {s : Stored} {c : Contents} → (over → others) → IsStoreFile over waits life s c → IsStoreFile others waits life s c
 file-last turn (IsStoreFile.present c is lives) = IsStoreFile.present c is lives
 file-last turn (IsStoreFile.closed c so is lives) = IsStoreFile.closed c (turn so) is lives
-file-last turn (IsStoreFile.anew c next so is lives renews) = IsStoreFile.anew c next (turn so) is lives renews
+file-last turn (IsStoreFile.anew c now next so is lives begins) = IsStoreFile.anew c now next (turn so) is lives begins
 
 module _ {b : Began} where
   -- of more bytes
@@ -123,17 +123,19 @@ module _ {b : Began} where
     file = record {
       life = left.file.life;
       reached = left.file.reached;
+      said = left.file.said;
       ended = left.file.ended;
+      waits = left.file.waits;
       serves = left.file.serves;
-      file = file-last (λ (so : (is_epoch_full b.most left.file.reached ≡ true) ⊎ last left.lines). elim so [ inl full ↦ inl full | inr it ↦ inr (turn left.lines it) ]) left.file.file;
+      file = file-last (λ (so : (is_epoch_full (limit_while left.file.waits b.most) left.file.reached ≡ true) ⊎ last left.lines). elim so [ inl full ↦ inl full | inr it ↦ inr (turn left.lines it) ]) left.file.file;
     };
   }
 
   -- after these lines
-  left-of : {last : List (List ℕ) → Type 0} (seen rest : List ℕ) (lines : List (List ℕ)) (half : List ℕ) (c : Contents) (told waiting done : List Answered) (life : ℕ) (reached : Stored) (ended : Option Asked)
-      → AreLines seen lines half → told ++ waiting ≡ done → Serves (Unit {0}) b.most b.file b.life lines b.store done life reached ended
-      → IsStoreFile ((is_epoch_full b.most reached ≡ true) ⊎ last lines) life reached c → IsLeftAfter b last (seen ++ rest) told waiting c
-  left-of seen rest lines half c told waiting done life reached ended asked all serves file = record {
+  left-of : {last : List (List ℕ) → Type 0} (seen rest : List ℕ) (lines : List (List ℕ)) (half : List ℕ) (c : Contents) (told waiting done : List Answered) (life : ℕ) (said : Contents) (reached : Stored) (ended : Option Asked) (waits : Option Extension)
+      → AreLines seen lines half → told ++ waiting ≡ done → Serves (Unit {0}) b.most b.file b.life lines b.store done life said reached ended waits
+      → IsStoreFile ((is_epoch_full (limit_while waits b.most) reached ≡ true) ⊎ last lines) waits life reached c → IsLeftAfter b last (seen ++ rest) told waiting c
+  left-of seen rest lines half c told waiting done life said reached ended waits asked all serves file = record {
     count = length seen;
     within = omega (arith, length-append seen rest);
     lines = lines;
@@ -141,7 +143,7 @@ module _ {b : Began} where
     asked = subst (λ bs. AreLines bs lines half) (sym (take-append_seam seen rest)) asked;
     done = done;
     first = subst (λ xs. AreFirstAnswers told waiting xs) all (first-all told waiting);
-    file = record { life = life; reached = reached; ended = ended; serves = serves; file = file };
+    file = record { life = life; reached = reached; said = said; ended = ended; waits = waits; serves = serves; file = file };
   }
 
 -- ---- a byte
@@ -186,28 +188,28 @@ module _ {S : Type 0} (g : Ghosts S) (b : Began) (now : Durable S) where
 
 module _ {S : Type 0} {g : Ghosts S} where
   -- all that was written by then
-  file-written : {over : Type 0} (s : Server S) (c : Contents) → IsDurable g s.session.store → s.session.life ≡ life_of s.session.store → Clean g s.session.store.journal
-      → c ≡ written g s.session.store.journal → c.headers ≡ s.session.store.journal.header ∷ [] → IsStoreFile over s.session.life s.session.store.store c
+  file-written : {over : Type 0} {waits : Option Extension} (s : Server S) (c : Contents) → IsDurable g s.session.store → s.session.life ≡ life_of s.session.store → Clean g s.session.store.journal
+      → c ≡ written g s.session.store.journal → c.headers ≡ s.session.store.journal.header ∷ [] → IsStoreFile over waits s.session.life s.session.store.store c
   file-written s c sound named clean is said =
       IsStoreFile.present c (subst (λ (x : Contents). IsStoreOf x s.session.store.store) (sym is) (is-store-of g s.session.store sound clean)) (s.session.store.journal.header, said, sym named)
 
   -- where one is to a commit, all that was written is durable
-  pub lines-group : (b : Began) {last : List (List ℕ) → Type 0} {all : List (List ℕ)} {half seen : List ℕ} {told : List Answered} (mid new : Session S) (rest : List ℕ) (answers : List Answered) (ended : Option Asked)
-      → AreLines seen all half → IsDurable g mid.store → mid.life ≡ life_of mid.store → StaysInEpoch g mid new → (has_commit answers ≡ true → ShowsCommit g new.store.journal)
+  pub lines-group : (b : Began) {last : List (List ℕ) → Type 0} {all : List (List ℕ)} {half seen : List ℕ} {told : List Answered} (mid new : Session S) (rest : List ℕ) (answers : List Answered) (said : Contents) (ended : Option Asked)
+      → AreLines seen all half → IsDurable g mid.store → mid.life ≡ life_of mid.store → StaysInEpoch g mid new → (has_lasting answers ≡ true → ShowsCommit g new.store.journal)
       → (Clean g new.store.journal → written g new.store.journal ≡ written g mid.store.journal)
-      → Serves (Clean g mid.store.journal) b.most b.file b.life all b.store (told ++ answers) mid.life mid.store.store ended
+      → Serves (Clean g mid.store.journal) b.most b.file b.life all b.store (told ++ answers) mid.life said mid.store.store ended mid.waiting
       → LeavesLines g b last (seen ++ rest) told answers new.store → Clean g new.store.journal → LeavesLines g b last (seen ++ rest) (told ++ answers) [] new.store
-  lines-group b {last} {all} {half} {seen} {told} mid new rest answers ended asked sound named stays settled same serves so_far clean =
-      elim (has_commit answers) as (λ v. has_commit answers ≡ v → LeavesLines g b last (seen ++ rest) (told ++ answers) [] new.store) [
+  lines-group b {last} {all} {half} {seen} {told} mid new rest answers said ended asked sound named stays settled same serves so_far clean =
+      elim (has_lasting answers) as (λ v. has_lasting answers ≡ v → LeavesLines g b last (seen ++ rest) (told ++ answers) [] new.store) [
         | true ↦ λ some db left.
             let was = stays.clean clean in
             let shows = settled some clean in
             let is : contents_of db ≡ written g new.store.journal = stays.sound.settled clean db left ∙ ap contents_of (sym shows.clean) in
-            let said = ap (λ (c : Contents). c.headers) is ∙ (stays.sound.journal clean).header_is shows.sound in
+            let header = ap (λ (c : Contents). c.headers) is ∙ (stays.sound.journal clean).header_is shows.sound in
             let store : IsStoreOf (contents_of db) mid.store.store = subst (λ (x : Contents). IsStoreOf x mid.store.store) (sym (is ∙ same clean)) (is-store-of g mid.store sound was) in (
               (so_far db left).0,
-              left-of seen rest all half (contents_of db) (told ++ answers) [] (told ++ answers) mid.life mid.store.store ended asked (append-nil (told ++ answers)) (serves-weaker (λ known. was) serves)
-                  (IsStoreFile.present (contents_of db) store (new.store.journal.header, said, stays.same ∙ sym named)),
+              left-of seen rest all half (contents_of db) (told ++ answers) [] (told ++ answers) mid.life said mid.store.store ended mid.waiting asked (append-nil (told ++ answers)) (serves-weaker (λ known. was) serves)
+                  (IsStoreFile.present (contents_of db) store (new.store.journal.header, header, stays.same ∙ sym named)),
             )
         | false ↦ λ none. lines-first g b new.store (λ done first. first-told none first) so_far
       ] refl
@@ -222,25 +224,26 @@ module _ {S : Type 0} {g : Ghosts S} where
       let is : contents_of db ≡ written g began.store.journal = sound.settled clean db left ∙ ap contents_of (sym it.clean) in
       let store : IsStoreOf (contents_of db) began.store.store = subst (λ (x : Contents). IsStoreOf x began.store.store) (sym is) (is-store-of g began.store sound clean) in (
         subst IsFile (sym (last_commit db it.is_open left)) (file.kept it.is_open),
-        left-of [] [] [] [] (contents_of db) [] [] [] began.life began.store.store None (record { text = refl; whole = tt; within = refl }) refl (Serves.none began.store.store)
+        left-of [] [] [] [] (contents_of db) [] [] [] began.life (written g began.store.journal) began.store.store None None (record { text = refl; whole = tt; within = refl }) refl (Serves.none began.store.store)
             (IsStoreFile.present (contents_of db) store (began.store.journal.header, ap (λ (c : Contents). c.headers) is ∙ file.header_is it.sound, sym named)),
       )
 
 -- the file of an epoch that is over
-file-ended : {S : Type 0} {over : Type 0} (s : Server S) (c : Contents) → over → s.session.life ≡ life_of s.session.store → (IsEpochOver s.session.store c ⊎ BeginsAnew s.session.store c)
-    → IsStoreFile over s.session.life s.session.store.store c
-file-ended {over = over} s c so named ended = elim ended [
+file-ended : {S : Type 0} {over : Type 0} (waits : Option Extension) (s : Server S) (c : Contents) → over → s.session.life ≡ life_of s.session.store → (IsEpochOver s.session.store c ⊎ BeginsAnew waits s.session.store c)
+    → IsStoreFile over waits s.session.life s.session.store.store c
+file-ended waits s c so named ended = elim ended [
   | inl it ↦ IsStoreFile.closed c so it.0 (s.session.store.journal.header, it.1, sym named)
-  | inr it ↦ subst (λ (x : Contents). IsStoreFile over s.session.life s.session.store.store x) (sym it.is)
-      (IsStoreFile.anew it.before it.next so it.over.0 (s.session.store.journal.header, it.over.1, sym named) it.renews)
+  | inr it ↦ IsStoreFile.anew it.before c it.next so it.over.0 (s.session.store.journal.header, it.over.1, sym named) it.is
 ]
 
 module _ {S : Type 0} {g : Ghosts S} {began : Session S} where
   -- after all lines so far
   left-now : {last : List (List ℕ) → Type 0} {told : List Answered} {seen : List ℕ} (s : Server S) (rest : List ℕ) (c : Contents) → (served : HasServed g began told seen s) → Clean g s.session.store.journal
-      → IsStoreFile ((is_epoch_full began.most_events s.session.store.store ≡ true) ⊎ last served.lines) s.session.life s.session.store.store c → IsLeftAfter (began_at g began) last (seen ++ rest) told s.answers.items c
+      → IsStoreFile ((is_epoch_full (limit_while s.session.waiting began.most_events) s.session.store.store ≡ true) ⊎ last served.lines) s.session.waiting s.session.life s.session.store.store c
+      → IsLeftAfter (began_at g began) last (seen ++ rest) told s.answers.items c
   left-now {last} {told} {seen} s rest c served clean file =
-      left-of seen rest served.lines served.half c told s.answers.items (told ++ s.answers.items) s.session.life s.session.store.store s.end served.asked refl (serves-weaker (λ known. clean) served.serves) file
+      left-of seen rest served.lines served.half c told s.answers.items (told ++ s.answers.items) s.session.life served.said s.session.store.store s.end s.session.waiting served.asked refl
+      (serves-weaker (λ known. clean) served.serves) file
 
   -- ---- a crash
 
@@ -280,9 +283,19 @@ module _ {S : Type 0} {g : Ghosts S} {began : Session S} where
   -- ---- the end of an epoch
 
   pub lines-ended : {last : List (List ℕ) → Type 0} {told : List Answered} {seen : List ℕ} (s : Server S) (new : Durable S) (rest : List ℕ)
-      → (served : HasServed g began told seen s) → ((is_epoch_full began.most_events s.session.store.store ≡ true) ⊎ last served.lines)
-      → LeavesEnd g s.session.store new → LeavesLines g (began_at g began) last (seen ++ rest) told s.answers.items s.session.store → LeavesLines g (began_at g began) last (seen ++ rest) told s.answers.items new
+      → (served : HasServed g began told seen s) → ((is_epoch_full (limit_while s.session.waiting began.most_events) s.session.store.store ≡ true) ⊎ last served.lines)
+      → LeavesEnd g s.session.waiting s.session.store new → LeavesLines g (began_at g began) last (seen ++ rest) told s.answers.items s.session.store → LeavesLines g (began_at g began) last (seen ++ rest) told s.answers.items new
   lines-ended s new rest served so crash so_far db left = elim (crash db left) [
-    | inl it ↦ (it.1, left-now s rest (contents_of db) served it.0 (file-ended s (contents_of db) so served.lasts.named it.2))
+    | inl it ↦ (it.1, left-now s rest (contents_of db) served it.0 (file-ended s.session.waiting s (contents_of db) so served.lasts.named it.2))
     | inr before ↦ so_far db before
   ]
+
+  -- after which another one has begun, durable
+  pub lines-begun : {last : List (List ℕ) → Type 0} {told : List Answered} {seen : List ℕ} (s : Server S) (rest : List ℕ) → HasServed g began told seen s → ShowsCommit g s.session.store.journal → Clean g s.session.store.journal
+      → ((db : Trees) → may_leave g s.session.store.journal db → IsFile db) → LeavesLines g (began_at g began) last (seen ++ rest) told s.answers.items s.session.store
+  lines-begun s rest served shows clean files db left =
+      let sound = served.lasts.sound in
+      let it = shows clean in
+      let is : contents_of db ≡ written g s.session.store.journal = sound.settled clean db left ∙ ap contents_of (sym it.clean) in
+      let header = ap (λ (c : Contents). c.headers) is ∙ (sound.journal clean).header_is it.sound in
+      (files db left, left-now s rest (contents_of db) served clean (file-written s (contents_of db) sound served.lasts.named clean is header))

@@ -3,9 +3,10 @@ pub mod MoreEvents
 pub mod Premises
 pub mod ByteByByte
 pub mod KeptEpochs
+pub mod NextEpochs
+pub mod TextParts
 pub mod LaterEpochs
 pub mod ServedBytes
-pub mod TextParts
 pub mod Listed
 pub mod ClosedEpochs
 pub mod Groups

@@ -13,7 +13,13 @@ use Rattle.request_text.specs.declared.request.Request.TheVariants as request
 use Rattle.serving.specs.declared.answer_line.AnswerLine.{AnswerLine}
 use Rattle.serving.specs.declared.answer_line.AnswerLine.TheVariants.{Fault, Objects, Types, Events}
 use Rattle.serving.specs.declared.answer_line.Answered.{Answered}
-use Rattle.serving.specs.Requests.{DoesRequest, TellsEvents, TellsObjects, TellsTypes}
+use Rattle.serving.specs.declared.extension.Extension.{Extension}
+use Rattle.serving.specs.NextEpoch.{limit_while}
+use Rattle.std.specs.Prelude.{length, unwrap_or}
+use Rattle.durable_store.specs.Names.{find_named}
+use Rattle.request_text.specs.declared.request.ObjectWord.{ObjectWord}
+use Rattle.request_text.specs.declared.request.ObjectWord.TheVariants.{Number, Name}
+use Rattle.serving.specs.Requests.{DoesRequest, Means, TellsEvents, TellsObjects, TellsTypes}
 use Rattle.serving.specs.Served.{IsAnswered, Serves}
 
 module _ {clean clean' : Type 0} (sure : clean' → clean) where
@@ -31,22 +37,28 @@ module _ {clean clean' : Type 0} (sure : clean' → clean) where
   tells-events (Events told) events tells = λ c. tells (sure c)
   tells-events answer events tells = absurd tells
 
+  means-before : (x : ObjectWord) (n : ℕ) (was now : List ObjectLine) → (clean' → was ≡ now) → Means clean was x n → Means clean' now x n
+  means-before (Number x) n was now same means = means
+  means-before (Name w) n was now same means = λ c. means (sure c) ∙ ap (λ os. unwrap_or (find_named os w) (length os)) (same c)
+
   -- ---- requests
 
   -- over a file with the same objects and types
   done-before : (most life : ℕ) (c d : Contents) (old : Stored) (r : Request) (answer : AnswerLine) (new : Stored) → (clean' → (d.objects ≡ c.objects) × (d.types ≡ c.types))
       → DoesRequest clean most life d old r answer new → DoesRequest clean' most life c old r answer new
   done-before most life c d old request.Begin answer new same does = does
-  done-before most life c d old (request.Call t x name) answer new same does = does
-  done-before most life c d old (request.Would t x name) answer new same does = does
+  done-before most life c d old (request.Call t x name) answer new same does = (does.0, means-before x does.0 d.objects c.objects (λ now. (same now).0) does.1, does.2)
+  done-before most life c d old (request.Would t x name) answer new same does = (does.0, means-before x does.0 d.objects c.objects (λ now. (same now).0) does.1, does.2)
   done-before most life c d old (request.Commit t) answer new same does = does
   done-before most life c d old (request.Abort t) answer new same does = does
   done-before most life c d old (request.Rollback t count) answer new same does = does
-  done-before most life c d old (request.Kept x) answer new same does = does
+  done-before most life c d old (request.Kept x) answer new same does = (does.0, means-before x does.0 d.objects c.objects (λ now. (same now).0) does.1, does.2)
+  done-before most life c d old (request.Find name) answer new same does = (does.0, does.1, does.2, λ now. does.3 (sure now) ∙ ap (λ os. find_named os name) (same now).0)
   done-before most life c d old request.Objects answer new same does = (tells-objects answer d.objects c.objects (λ now. (same now).0) does.0, does.1)
   done-before most life c d old request.Types answer new same does = (tells-types answer d.types c.types (λ now. (same now).1) does.0, does.1)
   done-before most life c d old (request.Events from count) answer new same does = (tells-events answer _ does.0, does.1)
   done-before most life c d old request.Stats answer new same does = does
+  done-before most life c d old request.Extend answer new same does = does
   done-before most life c d old request.End answer new same does = does
 
   -- a line that asks the same
@@ -66,12 +78,14 @@ module _ {clean clean' : Type 0} (sure : clean' → clean) where
 
   -- ---- lines
 
-  pub serves-weaker : {most : ℕ} {c : Contents} {first : ℕ} {lines : List (List ℕ)} {old : Stored} {answers : List Answered} {life : ℕ} {new : Stored} {ended : Option Asked}
-      → Serves clean most c first lines old answers life new ended → Serves clean' most c first lines old answers life new ended
+  pub serves-weaker : {most : ℕ} {c : Contents} {first : ℕ} {lines : List (List ℕ)} {old : Stored} {answers : List Answered} {life : ℕ} {said : Contents} {new : Stored} {ended : Option Asked} {waits : Option Extension}
+      → Serves clean most c first lines old answers life said new ended waits → Serves clean' most c first lines old answers life said new ended waits
   serves-weaker (Serves.none s) = Serves.none s
-  serves-weaker {most} {c} (Serves.line lines asked old mid new answers a life before other answered) =
-      Serves.line lines asked old mid new answers a life (serves-weaker before) other (answered-before most life c c asked asked mid a new (λ now. (refl, refl)) refl answered)
-  serves-weaker (Serves.end lines asked old new answers life before ends) = Serves.end lines asked old new answers life (serves-weaker before) ends
-  serves-weaker (Serves.forget lines old mid answers life n ended before) = Serves.forget lines old mid answers life n ended (serves-weaker before)
-  serves-weaker (Serves.epoch lines old mid new answers life next before full renews follows) =
-      Serves.epoch lines old mid new answers life next (serves-weaker before) full renews (λ now. follows (sure now))
+  serves-weaker {most} (Serves.line lines asked old mid new answers a life said waits before other may answered) =
+      Serves.line lines asked old mid new answers a life said waits (serves-weaker before) other may
+      (answered-before (limit_while waits most) life said said asked asked mid a new (λ now. (refl, refl)) refl answered)
+  serves-weaker (Serves.more lines asked old new answers a life said waits before may more) = Serves.more lines asked old new answers a life said waits (serves-weaker before) may more
+  serves-weaker (Serves.end lines asked old new answers life said waits before ends) = Serves.end lines asked old new answers life said waits (serves-weaker before) ends
+  serves-weaker (Serves.forget lines old mid answers life n said ended waits before) = Serves.forget lines old mid answers life n said ended waits (serves-weaker before)
+  serves-weaker (Serves.epoch lines old mid new answers life next said now waits before full renews follows says) =
+      Serves.epoch lines old mid new answers life next said now waits (serves-weaker before) full renews (λ clean_now. follows (sure clean_now)) (λ clean_now. says (sure clean_now))

@@ -1,5 +1,5 @@
 -- What holds at a result whose kind is known.
-use Rattle.std.proofs.Common.{◌≡◌, Result, Ok, Err, OnErr, OnOk}
+use Rattle.std.proofs.Common.{◌≡◌, Result, Ok, Err, IfOk, OnErr, OnOk, subst}
 
 -- at a value
 pub of-ok : {T E : Type 0} {P : Type 0} (r : Result T E) (x : T) → r ≡ Ok x → OnOk r P → P
@@ -10,3 +10,12 @@ of-ok (Err e) x is p = absurd cc
 pub of-err : {T E : Type 0} {P : Type 0} (r : Result T E) (e : E) → r ≡ Err e → OnErr r P → P
 of-err (Ok x) e is p = absurd cc
 of-err (Err x) e is p = p
+
+-- more of each value
+pub if-ok : {T E : Type 0} {P Q : T → Type 0} (r : Result T E) → ((x : T) → P x → Q x) → IfOk r P → IfOk r Q
+if-ok (Ok x) turn p = turn x p
+if-ok (Err e) turn p = tt
+
+-- at a value that is known
+pub if-value : {T E : Type 0} (P : T → Type 0) (r : Result T E) (x : T) → r ≡ Ok x → IfOk r P → P x
+if-value {T} {E} P r x is p = subst (λ (q : Result T E). IfOk q P) is p

@@ -12,7 +12,7 @@ use Rattle.request_text.specs.declared.fault.RequestFault.{RequestFault}
 use Rattle.request_text.specs.declared.fault.RequestFault.TheVariants.{TooLong, NotAscii, BadTag, UnknownVerb, BadWords, BadNumber}
 use Rattle.request_text.specs.declared.request.TransactionName.{TransactionName}
 use Rattle.serving.specs.declared.answer_line.AnswerLine.{AnswerLine}
-use Rattle.serving.specs.declared.answer_line.AnswerLine.TheVariants.{Done, Committed, Begun, State, Reply, Busy, Draining, Nothing, Counts, Objects, Types, Events, Refused, Fault}
+use Rattle.serving.specs.declared.answer_line.AnswerLine.TheVariants.{Done, Committed, Begun, State, Reply, Busy, Draining, Nothing, Counts, Objects, Types, Events, Extended, Found, NotAdded, Waiting, Refused, Fault}
 
 -- the tag, or `-` where a line has none
 abbrev pub tag_text : Option (List ℕ) → List ℕ
@@ -46,9 +46,9 @@ draining_text tag = pieces_text (tag ∷ codes " busy drain\n" ∷ [])
 abbrev pub transaction_text : List ℕ → List ℕ → TransactionName → List ℕ
 transaction_text tag words t = pieces_text (tag ∷ words ∷ decimal t.life ∷ codes "." ∷ decimal t.number ∷ (10 ∷ []) ∷ [])
 
--- a tag and a state
-abbrev pub state_text : List ℕ → ℕ → List ℕ
-state_text tag state = pieces_text (tag ∷ codes " ok " ∷ decimal state ∷ (10 ∷ []) ∷ [])
+-- a tag and a number
+abbrev pub number_text : List ℕ → ℕ → List ℕ
+number_text tag number = pieces_text (tag ∷ codes " ok " ∷ decimal number ∷ (10 ∷ []) ∷ [])
 
 -- a tag and one word after words
 abbrev pub word_text : List ℕ → List ℕ → List ℕ → List ℕ
@@ -84,7 +84,7 @@ abbrev pub answer_text : Option (List ℕ) → AnswerLine → List ℕ
 answer_text tag Done = done_text (tag_text tag)
 answer_text tag Committed = done_text (tag_text tag)
 answer_text tag (Begun t) = transaction_text (tag_text tag) (codes " ok ") t
-answer_text tag (State state) = state_text (tag_text tag) state
+answer_text tag (State state) = number_text (tag_text tag) state
 answer_text tag (Reply reply) = word_text (tag_text tag) (codes " reply ") reply
 answer_text tag (Busy blocker) = transaction_text (tag_text tag) (codes " busy ") blocker
 answer_text tag Draining = draining_text (tag_text tag)
@@ -93,5 +93,9 @@ answer_text tag (Counts events begun open_ones) = counts_text (tag_text tag) eve
 answer_text tag (Objects objects) = flat_map (object_answer (tag_text tag)) objects.items ++ done_text (tag_text tag)
 answer_text tag (Types texts) = flat_map (answer_lines (tag_text tag)) texts.items ++ done_text (tag_text tag)
 answer_text tag (Events events) = flat_map (event_text (tag_text tag)) events.items ++ done_text (tag_text tag)
+answer_text tag (Extended first) = number_text (tag_text tag) first
+answer_text tag (Found x) = number_text (tag_text tag) x
+answer_text tag (NotAdded why) = word_text (tag_text tag) (codes " no ") why.items
+answer_text tag Waiting = []
 answer_text tag (Refused refusal) = word_text (tag_text tag) (codes " refused ") (refusal_name refusal)
 answer_text tag (Fault fault) = word_text (tag_text tag) (codes " fault ") (fault_name fault)

@@ -1,20 +1,20 @@
 -- The end of an epoch.
-use Rattle.std.specs.Prelude.{◌≡◌, ◌⊎◌, suc, List, [], ◌∷◌, Option, None, Some}
+use Rattle.std.specs.Prelude.{◌≡◌, ◌⊎◌, suc, List, [], ◌∷◌, ◌++◌, Option, None, Some}
 use Rattle.sqlite_trees.specs.declared.store.Store.{Ghosts}
 use Rattle.sqlite_trees.specs.Tree.{Trees}
 use Rattle.store_laws.specs.Stored.{Stored}
 use Rattle.store.specs.Ends.{closing}
-use Rattle.store.specs.Renews.{Renews}
 use Rattle.journal.specs.Contents.{Contents, IsFile, contents_of}
 use Rattle.journal.specs.Journal.{Clean, durable, may_leave, written}
 use Rattle.durable_store.specs.declared.durable.Durable.{Durable}
 use Rattle.durable_store.specs.Durable.{with_all}
-use Rattle.durable_store.specs.Epochs.{renewed}
 use Rattle.durable_store.specs.Recovered.{IsStoreOf}
 use Rattle.request_text.specs.declared.request.Asked.{Asked}
 use Rattle.serving.specs.declared.answer_line.Answered.{Answered}
 use Rattle.serving.specs.declared.answer_line.AnswerLine.TheVariants.{Done}
+use Rattle.serving.specs.declared.extension.Extension.{Extension}
 use Rattle.serving.specs.Epochs.{aborted}
+use Rattle.serving.specs.NextEpoch.{IsNextFile, IsNextStore, answers_in}
 use Rattle.serving.specs.Server.{life_of}
 
 -- what a line is answered that asked for the end, where one did
@@ -22,10 +22,14 @@ abbrev pub end_answers : Option Asked → List Answered
 end_answers None = []
 end_answers (Some asked) = record { tag = asked.tag; answer = Done } ∷ []
 
--- what is open is aborted, and the file begins anew at the states that are kept then, in the next life
-pub record EndsEpoch {S : Type 0} (g : Ghosts S) (old new : Durable S) : Type 0 where
-  pub store : Renews (aborted old.store) new.store
-  pub durable : Clean g new.journal → durable g new.journal ≡ renewed (with_all (written g old.journal) (closing old.store.history)) new.store.types
+-- what is answered at the end: to an extension that waits, and then to a line that asked for the end
+abbrev pub last_answers : Option Answered → Option Asked → List Answered
+last_answers late ended = answers_in late ++ end_answers ended
+
+-- what is open is aborted, and the file begins anew at the states that are kept then, with what waits to be added, in the next life
+pub record EndsEpoch {S : Type 0} (g : Ghosts S) (waits : Option Extension) (old new : Durable S) : Type 0 where
+  pub store : IsNextStore waits (aborted old.store) new.store
+  pub durable : Clean g new.journal → IsNextFile waits (aborted old.store) new.store (with_all (written g old.journal) (closing old.store.history)) (durable g new.journal)
   pub life : Clean g new.journal → life_of new ≡ suc (life_of old)
 
 -- ---- a crash
@@ -35,18 +39,23 @@ abbrev pub IsEpochOver : {S : Type 0} → Durable S → Contents → Type 0
 IsEpochOver d c = IsStoreOf c (aborted d.store) × (c.headers ≡ d.journal.header ∷ [])
 
 -- one that begins anew from such a file
-pub record BeginsAnew {S : Type 0} (d : Durable S) (c : Contents) : Type 0 where
+pub record BeginsAnew {S : Type 0} (waits : Option Extension) (d : Durable S) (c : Contents) : Type 0 where
   pub before : Contents
   pub next : Stored
   pub over : IsEpochOver d before
-  pub renews : Renews (aborted d.store) next
-  pub is : c ≡ renewed before next.types
+  pub is : IsNextFile waits (aborted d.store) next before c
 
 -- a crash leaves what it could have left before, or the file of the epoch that is over
 abbrev pub LeavesClosed : {S : Type 0} (g : Ghosts S) → Durable S → Durable S → Type 0
 LeavesClosed g old new = (db : Trees) → may_leave g new.journal db → (Clean g old.journal × IsFile db × IsEpochOver old (contents_of db)) ⊎ may_leave g old.journal db
 
 -- the same, or one that begins anew from there
-abbrev pub LeavesEnd : {S : Type 0} (g : Ghosts S) → Durable S → Durable S → Type 0
-LeavesEnd g old new = (db : Trees) → may_leave g new.journal db
-    → (Clean g old.journal × IsFile db × (IsEpochOver old (contents_of db) ⊎ BeginsAnew old (contents_of db))) ⊎ may_leave g old.journal db
+abbrev pub LeavesEnd : {S : Type 0} (g : Ghosts S) → Option Extension → Durable S → Durable S → Type 0
+LeavesEnd g waits old new = (db : Trees) → may_leave g new.journal db
+    → (Clean g old.journal × IsFile db × (IsEpochOver old (contents_of db) ⊎ BeginsAnew waits old (contents_of db))) ⊎ may_leave g old.journal db
+
+-- the file of a store where nothing is open begins anew, or is as before
+abbrev pub LeavesNext : {S : Type 0} (g : Ghosts S) → Option Extension → Durable S → Durable S → Type 0
+LeavesNext g waits old new = (db : Trees) → may_leave g new.journal db
+    → (Clean g old.journal × IsFile db × ((s : Stored) × IsNextFile waits old.store s (written g old.journal) (contents_of db))
+    × ((written g old.journal).headers ≡ old.journal.header ∷ [])) ⊎ may_leave g old.journal db

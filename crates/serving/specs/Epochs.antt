@@ -4,25 +4,26 @@ use Rattle.sqlite_trees.specs.declared.store.Store.{Ghosts}
 use Rattle.sqlite_trees.specs.Tree.{Trees}
 use Rattle.store_laws.specs.Stored.{Stored}
 use Rattle.store.specs.Ends.{closing}
-use Rattle.store.specs.Renews.{Renews}
 use Rattle.journal.specs.Contents.{Contents, IsFile, contents_of}
 use Rattle.journal.specs.Journal.{Clean, may_leave, written}
 use Rattle.durable_store.specs.declared.durable.Durable.{Durable}
-use Rattle.durable_store.specs.Epochs.{renewed}
 use Rattle.durable_store.specs.Recovered.{IsStoreOf}
 use Rattle.serving.specs.Archives.{KeepsAtLeast, KeepsEpochs, KeptHistory}
+use Rattle.serving.specs.declared.extension.Extension.{Extension}
 use Rattle.serving.specs.Follows.{HasMoreEvents}
+use Rattle.serving.specs.NextEpoch.{IsNextFile}
 
 -- with an abort of each transaction that was open
 abbrev pub aborted : Stored → Stored
 aborted s = record s { history = s.history ++ closing s.history }
 
--- what a file comes to: events follow, or it begins anew at the states that the store of what it says has kept; and what it said at the end of
--- each epoch that is over, in their order
+-- what a file comes to: events follow, or it begins anew at the states that the store of what it says has kept, and maybe with more objects; and
+-- what it said at the end of each epoch that is over, in their order
 pub data Reaches (c : Contents) : List Contents → Contents → Type 0 where
   none : Reaches c [] c
   events : (ended : List Contents) (mid new : Contents) → Reaches c ended mid → HasMoreEvents mid new → Reaches c ended new
-  epoch : (ended : List Contents) (mid : Contents) (old new : Stored) → Reaches c ended mid → IsStoreOf mid old → Renews old new → Reaches c (ended ++ mid ∷ []) (renewed mid new.types)
+  epoch : (ended : List Contents) (mid now : Contents) (waits : Option Extension) (old new : Stored) → Reaches c ended mid → IsStoreOf mid old → IsNextFile waits old new mid now
+      → Reaches c (ended ++ mid ∷ []) now
 
 -- a crash leaves what it could have left before, or what the file came to from what was written then; an archive that kept these histories now
 -- keeps, after them, those of all epochs that are over

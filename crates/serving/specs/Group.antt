@@ -3,10 +3,12 @@ use Rattle.std.specs.Prelude.{◌≡◌, ℕ, Bool, true, false, List, [], ◌++
 use Rattle.std.specs.Io.KnownBytes.{Appends, Consumes, IsAtEnd}
 use Rattle.sqlite_trees.specs.declared.store.Store.{Ghosts}
 use Rattle.store_laws.specs.Stored.{Stored}
+use Rattle.journal.specs.Contents.{Contents}
 use Rattle.journal.specs.Journal.{Clean, written}
 use Rattle.durable_store.specs.declared.durable.Durable.{Durable}
 use Rattle.request_text.specs.declared.request.Asked.{Asked}
 use Rattle.serving.specs.declared.answer_line.Answered.{Answered}
+use Rattle.serving.specs.declared.extension.Extension.{Extension}
 use Rattle.serving.specs.declared.session.Session.{Session}
 use Rattle.serving.specs.declared.server.Server.{Server}
 use Rattle.serving.specs.Lines.{AreLines}
@@ -51,8 +53,10 @@ pub record StopsTelling {S : Type 0} (g : Ghosts S) (began : Session S) (given t
   pub answers : List Answered
   pub life : ℕ
   pub reached : Stored
+  pub said : Contents
   pub ended : Option Asked
-  pub serves : Serves (Clean g now.journal) began.most_events (written g began.store.journal) began.life lines began.store.store answers life reached ended
+  pub waits : Option Extension
+  pub serves : Serves (Clean g now.journal) began.most_events (written g began.store.journal) began.life lines began.store.store answers life said reached ended waits
   pub part : AppendsPart taken taken_now (answers_text answers)
 
 -- a server that was asked nothing yet
@@ -60,4 +64,5 @@ pub record IsUnasked {S : Type 0} (s : Server S) : Type 0 where
   pub line : s.line.items ≡ []
   pub answers : s.answers.items ≡ []
   pub end : s.end ≡ None
+  pub none_waits : s.session.waiting ≡ None
   pub named : s.session.life ≡ life_of s.session.store

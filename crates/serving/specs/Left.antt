@@ -3,21 +3,21 @@ use Rattle.std.specs.Prelude.{◌≡◌, ◌⊎◌, ◌≤◌, ℕ, true, false,
 use Rattle.sqlite_trees.specs.declared.store.Store.{Ghosts}
 use Rattle.sqlite_trees.specs.Tree.{Trees}
 use Rattle.store_laws.specs.Stored.{Stored}
-use Rattle.store.specs.Renews.{Renews}
 use Rattle.journal.specs.declared.header.Header.{Header}
 use Rattle.journal.specs.Contents.{Contents, IsFile, contents_of}
 use Rattle.journal.specs.Journal.{may_leave, written}
 use Rattle.durable_store.specs.declared.durable.Durable.{Durable}
-use Rattle.durable_store.specs.Epochs.{renewed}
 use Rattle.durable_store.specs.Recovered.{IsStoreOf}
 use Rattle.request_text.specs.declared.request.Asked.{Asked}
 use Rattle.serving.specs.declared.answer_line.Answered.{Answered}
+use Rattle.serving.specs.declared.extension.Extension.{Extension}
 use Rattle.serving.specs.declared.session.Session.{Session}
 use Rattle.serving.specs.Does.{is_epoch_full}
 use Rattle.serving.specs.Epochs.{aborted}
 use Rattle.serving.specs.Lines.{AreLines}
+use Rattle.serving.specs.NextEpoch.{IsNextFile, limit_while}
 use Rattle.serving.specs.Served.{Serves}
-use Rattle.serving.specs.Told.{has_commit}
+use Rattle.serving.specs.Told.{has_lasting}
 
 -- ---- where serving began
 
@@ -38,20 +38,22 @@ abbrev pub IsInLife : Contents → ℕ → Type 0
 IsInLife c life = (h : Header) × (c.headers ≡ h ∷ []) × (h.life ≡ life)
 
 -- the file of this store in this life; where its epoch is over, also that file with an abort of each transaction that was open, and the file
--- that begins anew from there
-pub data IsStoreFile (over : Type 0) (life : ℕ) (s : Stored) : Contents → Type 0 where
-  present : (c : Contents) → IsStoreOf c s → IsInLife c life → IsStoreFile over life s c
-  closed : (c : Contents) → over → IsStoreOf c (aborted s) → IsInLife c life → IsStoreFile over life s c
-  anew : (c : Contents) (next : Stored) → over → IsStoreOf c (aborted s) → IsInLife c life → Renews (aborted s) next → IsStoreFile over life s (renewed c next.types)
+-- that begins anew from there, with what waits to be added
+pub data IsStoreFile (over : Type 0) (waits : Option Extension) (life : ℕ) (s : Stored) : Contents → Type 0 where
+  present : (c : Contents) → IsStoreOf c s → IsInLife c life → IsStoreFile over waits life s c
+  closed : (c : Contents) → over → IsStoreOf c (aborted s) → IsInLife c life → IsStoreFile over waits life s c
+  anew : (c now : Contents) (next : Stored) → over → IsStoreOf c (aborted s) → IsInLife c life → IsNextFile waits (aborted s) next c now → IsStoreFile over waits life s now
 
--- since serving began these lines were done and so answered, and this is the file then; its epoch may be over where it is full, or where
--- these lines are the last
+-- since serving began these lines were done and so answered, and this is the file then; its epoch may be over where it is full or
+-- an extension waits, or where these lines are the last
 pub record IsFileAfter (b : Began) (last : List (List ℕ) → Type 0) (lines : List (List ℕ)) (done : List Answered) (c : Contents) : Type 0 where
   pub life : ℕ
   pub reached : Stored
+  pub said : Contents
   pub ended : Option Asked
-  pub serves : Serves (Unit {0}) b.most b.file b.life lines b.store done life reached ended
-  pub file : IsStoreFile ((is_epoch_full b.most reached ≡ true) ⊎ last lines) life reached c
+  pub waits : Option Extension
+  pub serves : Serves (Unit {0}) b.most b.file b.life lines b.store done life said reached ended waits
+  pub file : IsStoreFile ((is_epoch_full (limit_while waits b.most) reached ≡ true) ⊎ last lines) waits life reached c
 
 -- ---- after a crash
 
@@ -60,7 +62,7 @@ pub record IsFileAfter (b : Began) (last : List (List ℕ) → Type 0) (lines : 
 pub record AreFirstAnswers (told waiting done : List Answered) : Type 0 where
   pub others : List Answered
   pub all : told ++ waiting ≡ done ++ others
-  pub none : has_commit (drop (length done) told) ≡ false
+  pub none : has_lasting (drop (length done) told) ≡ false
 
 -- this is the file after the lines of the first bytes that were read, of which the client may have got these answers, and others wait
 pub record IsLeftAfter (b : Began) (last : List (List ℕ) → Type 0) (bytes : List ℕ) (told waiting : List Answered) (c : Contents) : Type 0 where

@@ -2,6 +2,7 @@ pub mod AnswerText
 pub mod Told
 pub mod Does
 pub mod Follows
+pub mod NextEpoch
 pub mod Archives
 pub mod Epochs
 pub mod Requests

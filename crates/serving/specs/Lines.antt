@@ -1,10 +1,11 @@
 -- The lines of what was asked.
-use Rattle.std.specs.Prelude.{◌≡◌, ℕ, Bool, true, false, ◌==◌, List, [], ◌∷◌, ◌++◌, Result, Ok}
+use Rattle.std.specs.Prelude.{◌≡◌, ℕ, Bool, true, false, ◌==◌, List, [], ◌∷◌, ◌++◌, Option, None, Some, Result, Ok}
 use Rattle.std.specs.List.{AllByRecursion, flat_map, list_any}
 use Rattle.request_text.specs.Requests.{asked_by}
 use Rattle.request_text.specs.declared.fault.RequestFault.{RequestFault}
 use Rattle.request_text.specs.declared.request.Request.{Request}
-use Rattle.request_text.specs.declared.request.Request.TheVariants.{End}
+use Rattle.request_text.specs.declared.request.Request.TheVariants.{Extend, End}
+use Rattle.serving.specs.declared.extension.Extension.{Extension}
 
 -- a line with the LF that ends it
 abbrev pub ended_line : List ℕ → List ℕ
@@ -26,3 +27,17 @@ is_end asked = false
 -- the line asks for the end
 abbrev pub asks_end : List ℕ → Bool
 asks_end line = is_end (asked_by line).request
+
+-- it asks for more objects
+abbrev pub is_more : Result Request RequestFault → Bool
+is_more (Ok Extend) = true
+is_more asked = false
+
+-- while no extension waits, what asks for more objects may wait
+abbrev pub is_taken : Option Extension → Result Request RequestFault → Bool
+is_taken None asked = is_more asked
+is_taken (Some e) asked = false
+
+-- the line is taken so
+abbrev pub may_wait : Option Extension → List ℕ → Bool
+may_wait waits line = is_taken waits (asked_by line).request

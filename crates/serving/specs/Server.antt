@@ -1,6 +1,7 @@
 -- What a server has done of what its client asked.
 use Rattle.std.specs.Prelude.{◌≡◌, ℕ, ◌≤◌, List, [], ◌∷◌, ◌++◌, length, take, nat_lt, ◌==◌, if◌then◌else◌, MatchBool, Some, None}
 use Rattle.sqlite_trees.specs.declared.store.Store.{Ghosts}
+use Rattle.journal.specs.Contents.{Contents}
 use Rattle.journal.specs.Journal.{Clean, written}
 use Rattle.durable_store.specs.declared.durable.Durable.{Durable}
 use Rattle.durable_store.specs.Durable.{IsDurable}
@@ -9,9 +10,10 @@ use Rattle.serving.specs.declared.session.Session.{Session}
 use Rattle.serving.specs.declared.server.Server.{Server}
 use Rattle.serving.specs.Epochs.{LeavesEpochs, WritesEpochs}
 use Rattle.serving.specs.Follows.{LeavesMore, WritesMore}
-use Rattle.serving.specs.Lines.{AreLines, asks_end}
+use Rattle.serving.specs.Lines.{AreLines, asks_end, may_wait}
+use Rattle.serving.specs.NextEpoch.{SaysSame, limit_while}
 use Rattle.request_text.specs.Requests.{asked_by}
-use Rattle.serving.specs.Served.{IsAnswered, Serves}
+use Rattle.serving.specs.Served.{IsAnswered, IsAskedMore, Serves}
 
 -- the most bytes that are kept of a line: with one more it is too long, whatever follows
 abbrev pub most_kept : ℕ
@@ -47,13 +49,19 @@ pub record HasServed {S : Type 0} (g : Ghosts S) (began : Session S) (told : Lis
   pub asked : AreLines bytes lines half
   pub kept : now.line.items ≡ take most_kept half
   pub lasts : Lasts g began now.session
-  pub serves : Serves (Clean g now.session.store.journal) began.most_events (written g began.store.journal) began.life lines began.store.store (told ++ now.answers.items) now.session.life now.session.store.store now.end
+  pub said : Contents
+  pub says : Clean g now.session.store.journal → SaysSame said (written g now.session.store.journal)
+  pub serves : Serves (Clean g now.session.store.journal) began.most_events (written g began.store.journal) began.life lines began.store.store (told ++ now.answers.items) now.session.life said now.session.store.store now.end now.session.waiting
 
--- a line is answered
+-- a line is answered: what it asks for may wait now; or it is done, in the same epoch
+abbrev pub DoesAsked : {S : Type 0} (g : Ghosts S) → Session S → List ℕ → Answered → Session S → Type 0
+DoesAsked g old line a new =
+    MatchBool (may_wait old.waiting line) (IsAskedMore line a new.waiting × (new ≡ record old { waiting = new.waiting }))
+    (StaysInEpoch g old new × (new.waiting ≡ old.waiting) × IsAnswered (Clean g new.store.journal) (limit_while old.waiting old.most_events) old.life (written g old.store.journal) line old.store.store a new.store.store)
+
 pub record AnswersLine {S : Type 0} (g : Ghosts S) (old new : Server S) : Type 0 where
   pub a : Answered
-  pub stays_in_epoch : StaysInEpoch g old.session new.session
-  pub answered : IsAnswered (Clean g new.session.store.journal) old.session.most_events old.session.life (written g old.session.store.journal) old.line.items old.session.store.store a new.session.store.store
+  pub does : DoesAsked g old.session old.line.items a new.session
   pub told : new.answers.items ≡ old.answers.items ++ a ∷ []
   pub others : new ≡ record old { session = new.session; line = new.line; answers = new.answers }
 

@@ -4,17 +4,18 @@ use Rattle.std.specs.Fmt.{decimal}
 use Rattle.std.specs.List.{flat_map, list_any}
 use Rattle.std.specs.Io.KnownBytes.{Appends}
 use Rattle.serving.specs.declared.answer_line.AnswerLine.{AnswerLine}
-use Rattle.serving.specs.declared.answer_line.AnswerLine.TheVariants.{Committed}
+use Rattle.serving.specs.declared.answer_line.AnswerLine.TheVariants.{Committed, Extended}
 use Rattle.serving.specs.declared.answer_line.Answered.{Answered}
 use Rattle.serving.specs.AnswerText.{answer_text, pieces_text}
 
--- it is the answer to a commit that was done
-abbrev pub is_commit : AnswerLine → Bool
-is_commit Committed = true
-is_commit answer = false
+-- it says that something is done which no crash takes away: a commit, or that objects were added
+abbrev pub is_lasting : AnswerLine → Bool
+is_lasting Committed = true
+is_lasting (Extended first) = true
+is_lasting answer = false
 
-abbrev pub has_commit : List Answered → Bool
-has_commit answers = list_any (λ (a : Answered). is_commit a.answer) answers
+abbrev pub has_lasting : List Answered → Bool
+has_lasting answers = list_any (λ (a : Answered). is_lasting a.answer) answers
 
 -- the lines of answers
 abbrev pub answers_text : List Answered → List ℕ

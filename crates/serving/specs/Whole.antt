@@ -3,26 +3,28 @@ use Rattle.std.specs.Prelude.{◌≡◌, ◌⊎◌, ℕ, List, ◌++◌, Option,
 use Rattle.std.specs.Io.KnownBytes.{Appends, IsAtEnd}
 use Rattle.sqlite_trees.specs.declared.store.Store.{Ghosts}
 use Rattle.store_laws.specs.Stored.{Stored}
-use Rattle.store.specs.Renews.{Renews}
+use Rattle.journal.specs.Contents.{Contents}
 use Rattle.journal.specs.Journal.{Clean, written}
 use Rattle.durable_store.specs.declared.durable.Durable.{Durable}
 use Rattle.request_text.specs.declared.request.Asked.{Asked}
 use Rattle.serving.specs.declared.answer_line.Answered.{Answered}
+use Rattle.serving.specs.declared.extension.Extension.{Extension}
 use Rattle.serving.specs.declared.session.Session.{Session}
 use Rattle.serving.specs.declared.server.Server.{Server}
-use Rattle.serving.specs.EpochEnd.{EndsEpoch, end_answers}
+use Rattle.serving.specs.EpochEnd.{EndsEpoch, last_answers}
 use Rattle.serving.specs.Epochs.{aborted}
 use Rattle.serving.specs.Group.{AreFirstLines, HasTold}
+use Rattle.serving.specs.NextEpoch.{IsNextStore, late_answer}
 use Rattle.serving.specs.Served.{Serves}
 use Rattle.serving.specs.Server.{life_of}
 use Rattle.serving.specs.Told.{AppendsPart, answers_text, greeting}
 
 -- a store that nobody has asked anything yet
 abbrev pub session_of : {S : Type 0} → ℕ → Durable S → Session S
-session_of most d = record { store = d; life = life_of d; most_events = most }
+session_of most d = record { store = d; life = life_of d; most_events = most; waiting = None }
 
--- a client was greeted, and got the answers to its lines; what was open then is aborted, the file begins anew, and a line that asked for the
--- end was answered after that
+-- a client was greeted, and got the answers to its lines; what was open then is aborted, the file begins anew, with what waited to be added, and
+-- that and a line that asked for the end were answered after that
 pub record ServesClient {S : Type 0} (g : Ghosts S) (most : ℕ) (began : Durable S) (given taken : Option (List ℕ)) (now : Durable S) (given_now taken_now : Option (List ℕ)) : Type 0 where
   pub served : Server S
   pub greeted : Option (List ℕ)
@@ -30,9 +32,9 @@ pub record ServesClient {S : Type 0} (g : Ghosts S) (most : ℕ) (began : Durabl
   pub greets : Appends taken greeted (greeting (life_of began))
   pub tells : HasTold g (session_of most began) given greeted served given_now answered
   pub asked : served.end ≡ None → IsAtEnd given_now
-  pub renews : EndsEpoch g served.session.store now
+  pub renews : EndsEpoch g served.session.waiting served.session.store now
   pub clean : Clean g now.journal → Clean g served.session.store.journal
-  pub ends : Appends answered taken_now (answers_text (end_answers served.end))
+  pub ends : Appends answered taken_now (answers_text (last_answers (late_answer served.session.waiting served.session.store.store) served.end))
 
 -- serving stopped: its client got a beginning of the greeting and of the answers to the first lines of its input; or the file had begun anew,
 -- and it got all of these and a beginning of what is answered at the end
@@ -42,7 +44,9 @@ pub record StopsServing {S : Type 0} (g : Ghosts S) (most : ℕ) (began : Durabl
   pub answers : List Answered
   pub life : ℕ
   pub reached : Stored
+  pub said : Contents
   pub ended : Option Asked
-  pub serves : Serves (Clean g now.journal) most (written g began.journal) (life_of began) lines began.store answers life reached ended
+  pub waits : Option Extension
+  pub serves : Serves (Clean g now.journal) most (written g began.journal) (life_of began) lines began.store answers life said reached ended waits
   pub told : AppendsPart taken taken_now (greeting (life_of began) ++ answers_text answers)
-      ⊎ (Renews (aborted reached) now.store × AppendsPart taken taken_now ((greeting (life_of began) ++ answers_text answers) ++ answers_text (end_answers ended)))
+      ⊎ (IsNextStore waits (aborted reached) now.store × AppendsPart taken taken_now ((greeting (life_of began) ++ answers_text answers) ++ answers_text (last_answers (late_answer waits reached) ended)))

@@ -33,6 +33,14 @@ pub enum AnswerLine {
     Types { texts: Vec<TypeText> },
     /// Events one after another, and that these are all.
     Events { events: Vec<EventKind> },
+    /// Objects were added, which is answered only once it is durable; this is the number of the first.
+    Extended { first: u32 },
+    /// The number of the object of a name.
+    Found { x: u32 },
+    /// What was asked for isn't added.
+    NotAdded { why: Vec<u8> },
+    /// What was asked for waits for another epoch. The client is told nothing of it before that.
+    Waiting,
     /// The store refused it.
     Refused { refusal: Refusal },
     /// The line is no request.

@@ -2,7 +2,7 @@
 
 ghost use Rattle.std.specs.Prelude.{◌≡◌, None, ◌+◌, ◌<◌, ◌==◌, ◌++◌, IfSome, drop, length, position};
 ghost use Rattle.outputs.specs.Out.{Puts};
-ghost use Rattle.serving.specs.AnswerText.{answer_text, counts_text, done_text, draining_text, fault_name, state_text, tag_text, transaction_text, behind, event_text, answer_lines, object_answer};
+ghost use Rattle.serving.specs.AnswerText.{answer_text, counts_text, done_text, draining_text, fault_name, number_text, tag_text, transaction_text, behind, event_text, answer_lines, object_answer};
 ghost use Rattle.std.specs.List.{flat_map};
 
 use crate::answer_line::AnswerLine;
@@ -33,7 +33,9 @@ pub fn write_answer<W: Out>(
     match answer {
         AnswerLine::Done | AnswerLine::Committed => put_done(out, tag),
         AnswerLine::Begun { t } => put_transaction(out, tag, b" ok ", *t),
-        AnswerLine::State { state } => put_state(out, tag, *state),
+        AnswerLine::State { state: number }
+        | AnswerLine::Extended { first: number }
+        | AnswerLine::Found { x: number } => put_number(out, tag, *number),
         AnswerLine::Reply { reply } => put_all(out, &[tag, b" reply ", reply.as_bytes(), b"\n"]),
         AnswerLine::Busy { blocker } => put_transaction(out, tag, b" busy ", *blocker),
         AnswerLine::Draining => put_draining(out, tag),
@@ -46,6 +48,8 @@ pub fn write_answer<W: Out>(
         AnswerLine::Objects { objects } => put_objects(out, tag, objects),
         AnswerLine::Types { texts } => put_types(out, tag, texts),
         AnswerLine::Events { events } => put_events(out, tag, events),
+        AnswerLine::NotAdded { why } => put_all(out, &[tag, b" no ", why.as_slice(), b"\n"]),
+        AnswerLine::Waiting => put_all(out, &[]),
         AnswerLine::Refused { refusal } => {
             put_all(
                 out,
@@ -111,13 +115,16 @@ fn put_transaction<W: Out>(
     )
 }
 
-/// Writes a tag and a state.
-fn put_state<W: Out>(out: &mut W, tag: &[u8], state: u32) -> Result<(), OutFault>
+/// Writes a tag and a number.
+fn put_number<W: Out>(out: &mut W, tag: &[u8], number: u32) -> Result<(), OutFault>
     requires { W.fault out.old ≡ None }
-    ensures { Puts (W.taken out.old) (W.taken out.new) (W.fault out.new) (state_text tag.now state) result }
+    ensures { Puts (W.taken out.old) (W.taken out.new) (W.fault out.new) (number_text tag.now number) result }
 {
-    let mut number = Buffer::new();
-    put_all(out, &[tag, b" ok ", number.format(state).as_bytes(), b"\n"])
+    let mut digits = Buffer::new();
+    put_all(
+        out,
+        &[tag, b" ok ", digits.format(number).as_bytes(), b"\n"],
+    )
 }
 
 /// Writes a tag and three counts.

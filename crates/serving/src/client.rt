@@ -6,8 +6,8 @@ ghost use Rattle.std.specs.Io.KnownBytes.{Appends};
 ghost use Rattle.outputs.specs.Out.{Puts};
 ghost use Rattle.outputs.specs.Gathered.{taken_by, under, waiting};
 ghost use Rattle.journal.specs.Journal.{Clean, durable, written};
-ghost use Rattle.serving.specs.Told.{AppendsPart, answers_text, greeting, has_commit};
-ghost use Rattle.serving.specs.EpochEnd.{end_answers};
+ghost use Rattle.serving.specs.Told.{AppendsPart, answers_text, greeting, has_lasting};
+ghost use Rattle.serving.specs.EpochEnd.{end_answers, last_answers};
 
 use crate::answer_line::{AnswerLine, Answered};
 use crate::answer_text::write_answer;
@@ -54,8 +54,8 @@ impl<W: Out> Client<W> {
         self.out.flush()
     }
 
-    /// Writes the client these answers, one after another. Where a commit is among them, all that was written is
-    /// durable.
+    /// Writes the client these answers, one after another. Where one of them says what no crash takes
+    /// away, all that was written is durable.
     ///
     /// # Errors
     ///
@@ -66,7 +66,7 @@ impl<W: Out> Client<W> {
         answers: &[Answered],
     ) -> Result<(), OutFault>
         requires out_takes { W.fault (under self.old.out) ≡ None }
-        requires settled { has_commit answers.now ≡ true → Clean S.Store store.now.journal
+        requires settled { has_lasting answers.now ≡ true → Clean S.Store store.now.journal
             → durable S.Store store.now.journal ≡ written S.Store store.now.journal }
         ensures told { OnOk result (Appends (taken_by W.taken self.old.out) (taken_by W.taken self.new.out) (answers_text answers.now)) }
         ensures part { OnErr result (AppendsPart (taken_by W.taken self.old.out) (taken_by W.taken self.new.out) (answers_text answers.now)) }
@@ -77,31 +77,57 @@ impl<W: Out> Client<W> {
         self.out.flush()
     }
 
+    /// Answers the client what comes where an epoch ends: to an extension, where one waited, and that the end is there,
+    /// where a line asked for it.
+    ///
+    /// # Errors
+    ///
+    /// The fault that stopped the output.
+    pub(crate) fn tell_last<S: Alter>(
+        &mut self,
+        store: &Durable<S>,
+        late: Option<Answered>,
+        end: Option<Asked>,
+    ) -> Result<(), OutFault>
+        requires out_takes { W.fault (under self.old.out) ≡ None }
+        requires settled { Clean S.Store store.now.journal → durable S.Store store.now.journal ≡ written S.Store store.now.journal }
+        ensures told { OnOk result (Appends (taken_by W.taken self.old.out) (taken_by W.taken self.new.out) (answers_text (last_answers late end))) }
+        ensures part { OnErr result (AppendsPart (taken_by W.taken self.old.out) (taken_by W.taken self.new.out) (answers_text (last_answers late end))) }
+        ensures fault { W.fault (under self.new.out) ≡ result_err result }
+    {
+        match (late, end) {
+            (Some(late), Some(asked)) => self.tell(store, &[late, end_answer(asked)]),
+            (Some(late), None) => self.tell(store, &[late]),
+            (None, end) => self.tell_end(store, end),
+        }
+    }
+
     /// Answers the client that the end is there, where a line asked for it.
     ///
     /// # Errors
     ///
     /// The fault that stopped the output.
-    pub(crate) fn tell_end<S: Alter>(
-        &mut self,
-        store: &Durable<S>,
-        end: Option<Asked>,
-    ) -> Result<(), OutFault>
+    fn tell_end<S: Alter>(&mut self, store: &Durable<S>, end: Option<Asked>) -> Result<(), OutFault>
         requires { W.fault (under self.old.out) ≡ None }
         ensures told { OnOk result (Appends (taken_by W.taken self.old.out) (taken_by W.taken self.new.out) (answers_text (end_answers end))) }
         ensures part { OnErr result (AppendsPart (taken_by W.taken self.old.out) (taken_by W.taken self.new.out) (answers_text (end_answers end))) }
         ensures fault { W.fault (under self.new.out) ≡ result_err result }
     {
         match end {
-            Some(asked) => {
-                let answered = Answered {
-                    tag: asked.tag,
-                    answer: AnswerLine::Done,
-                };
-                self.tell(store, &[answered])
-            }
+            Some(asked) => self.tell(store, &[end_answer(asked)]),
             None => Ok(()),
         }
+    }
+}
+
+/// What a line is answered that asked for the end.
+fn end_answer(asked: Asked) -> Answered
+    ensures tag { result.tag ≡ asked.tag }
+    ensures answer { result.answer ≡ AnswerLine.Done }
+{
+    Answered {
+        tag: asked.tag,
+        answer: AnswerLine::Done,
     }
 }
 

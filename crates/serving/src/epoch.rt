@@ -1,29 +1,34 @@
 //! The end of an epoch: its history goes to an archive, before the file begins anew.
 
-ghost use Rattle.std.specs.Prelude.{◌≡◌, [], ◌∷◌, OnOk, IfOk};
+ghost use Rattle.std.specs.Prelude.{◌≡◌, [], ◌∷◌, Some, true, is_some, OnOk, IfOk};
 ghost use Rattle.store.specs.Ends.{closing};
 ghost use Rattle.store.specs.Renews.{Renews};
 ghost use Rattle.journal.specs.Journal.{Clean, ShowsCommit, durable, written};
 ghost use Rattle.durable_store.specs.Durable.{IsDurable, with_all, OutcomesStay, events_of_kinds};
 ghost use Rattle.durable_store.specs.Epochs.{LeavesEpoch, renewed};
-ghost use Rattle.serving.specs.EpochEnd.{EndsEpoch, LeavesClosed, LeavesEnd};
+ghost use Rattle.serving.specs.EpochEnd.{EndsEpoch, LeavesClosed, LeavesEnd, LeavesNext};
+ghost use Rattle.serving.specs.NextEpoch.{IsNextFile, IsNextStore, late_answer};
 ghost use Rattle.serving.specs.Archives.{KeepsEpochs, text_of_epoch};
 ghost use Rattle.serving.specs.Epochs.{LeavesEpochs, WritesEpochs, aborted};
 ghost use Rattle.serving.specs.Follows.{LeavesWritten};
 ghost use Rattle.serving.specs.Requests.{LetsGo};
 ghost use Rattle.history_text.specs.Canonical.{canonical_text};
 
+use crate::answer_line::{AnswerLine, Answered};
 use crate::archive::Archive;
+use crate::extension::Extension;
 use crate::serve_fault::ServeFault;
 use durable_store::Durable;
 use history_text::write_history;
+use journal::JournalError;
 use object_trait::{Event, EventKind};
 use outputs::Sink;
 use sqlite_trees::store::Alter;
 use std::alloc::{AllocError, Global};
 use store_text::ObjectLine;
 
-/// Aborts what is open, gives the history of the epoch to the archive, and begins another epoch, all of it durable.
+/// Aborts what is open, gives the history of the epoch to the archive, and begins another epoch, all of it durable: with
+/// the objects of what waits, which is answered then.
 ///
 /// # Errors
 ///
@@ -32,24 +37,27 @@ use store_text::ObjectLine;
 pub(crate) fn end_epoch<S: Alter, A: Archive>(
     alloc: Global,
     mut store: Durable<S>,
+    waiting: Option<Extension>,
     archive: &mut A,
-) -> (Durable<S>, Result<(), ServeFault>)
+) -> (Durable<S>, Result<Option<Answered>, ServeFault>)
     requires { IsDurable S.Store store }
+    ensures late { IfOk result.1 (λ late. late ≡ late_answer waiting store.store) }
     ensures sound { OnOk result.1 (IsDurable S.Store result.0) }
-    ensures ends { OnOk result.1 (EndsEpoch S.Store store result.0) }
+    ensures ends { OnOk result.1 (EndsEpoch S.Store waiting store result.0) }
     ensures writes { OnOk result.1 (WritesEpochs S.Store store result.0 (A.kept archive.old) (A.kept archive.new)) }
     ensures shows { OnOk result.1 (ShowsCommit S.Store result.0.journal) }
+    ensures settled { OnOk result.1 (Clean S.Store result.0.journal → durable S.Store result.0.journal ≡ written S.Store result.0.journal) }
     ensures clean { Clean S.Store result.0.journal → Clean S.Store store.journal }
-    ensures left { LeavesEnd S.Store store result.0 }
+    ensures left { LeavesEnd S.Store waiting store result.0 }
     ensures crash { LeavesEpochs S.Store store result.0 (A.kept archive.old) (A.kept archive.new) }
 {
-    match close_epoch(alloc, &mut store, archive) {
-        Ok(()) => renew(alloc, store),
+    match close_epoch(alloc, &mut store, waiting.is_some(), archive) {
+        Ok(()) => begin_next(alloc, store, waiting),
         Err(fault) => (store, Err(fault)),
     }
 }
 
-/// Aborts what is open, and gives the history of the epoch to the archive.
+/// Aborts what is open, and gives the history of the epoch to the archive. What was written may be asked to be durable.
 ///
 /// # Errors
 ///
@@ -57,11 +65,13 @@ pub(crate) fn end_epoch<S: Alter, A: Archive>(
 fn close_epoch<S: Alter, A: Archive>(
     alloc: Global,
     store: &mut Durable<S>,
+    settled: bool,
     archive: &mut A,
 ) -> Result<(), ServeFault>
     requires { IsDurable S.Store store.old }
     ensures keeps { OnOk result (Clean S.Store store.new.journal → KeepsEpochs (A.kept archive.old) (A.kept archive.new) (written S.Store store.new.journal ∷ [])) }
     ensures sound { OnOk result (IsDurable S.Store store.new) }
+    ensures shows { OnOk result (settled ≡ true → ShowsCommit S.Store store.new.journal) }
     ensures store { OnOk result (LetsGo (aborted store.old.store) store.new.store) }
     ensures life { OnOk result (store.new.journal.header ≡ store.old.journal.header) }
     ensures written { OnOk result (Clean S.Store store.new.journal
@@ -71,10 +81,10 @@ fn close_epoch<S: Alter, A: Archive>(
     ensures crash { LeavesEpochs S.Store store.old store.new (A.kept archive.old) (A.kept archive.new) }
 {
     store.abort_all()?;
-    archive_epoch(alloc, store, archive)
+    archive_epoch(alloc, store, settled, archive)
 }
 
-/// Gives the history of the present epoch to an archive that asks for it.
+/// Gives the history of the present epoch to an archive that asks for it. What was written may be asked to be durable.
 ///
 /// # Errors
 ///
@@ -82,11 +92,13 @@ fn close_epoch<S: Alter, A: Archive>(
 pub(crate) fn archive_epoch<S: Alter, A: Archive>(
     alloc: Global,
     store: &mut Durable<S>,
+    settled: bool,
     archive: &mut A,
 ) -> Result<(), ServeFault>
     requires { IsDurable S.Store store.old }
     ensures keeps { OnOk result (Clean S.Store store.new.journal → KeepsEpochs (A.kept archive.old) (A.kept archive.new) (written S.Store store.new.journal ∷ [])) }
     ensures sound { OnOk result (IsDurable S.Store store.new) }
+    ensures shows { OnOk result (settled ≡ true → ShowsCommit S.Store store.new.journal) }
     ensures lets_go { OnOk result (LetsGo store.old.store store.new.store) }
     ensures life { OnOk result (store.new.journal.header ≡ store.old.journal.header) }
     ensures written { OnOk result (Clean S.Store store.new.journal → written S.Store store.new.journal ≡ written S.Store store.old.journal) }
@@ -97,8 +109,27 @@ pub(crate) fn archive_epoch<S: Alter, A: Archive>(
     if archive.wants() {
         keep_epoch(alloc, store, archive)
     } else {
+        settle_where(store, settled)?;
         Ok(())
     }
+}
+
+/// Makes durable all that was written, where it is asked to.
+///
+/// # Errors
+///
+/// As `Durable::settle`.
+fn settle_where<S: Alter>(store: &mut Durable<S>, asked: bool) -> Result<(), JournalError>
+    requires { IsDurable S.Store store.old }
+    ensures sound { OnOk result (IsDurable S.Store store.new) }
+    ensures shows { OnOk result (asked ≡ true → ShowsCommit S.Store store.new.journal) }
+    ensures lets_go { OnOk result (LetsGo store.old.store store.new.store) }
+    ensures life { store.new.journal.header ≡ store.old.journal.header }
+    ensures written { OnOk result (Clean S.Store store.new.journal → written S.Store store.new.journal ≡ written S.Store store.old.journal) }
+    ensures clean { Clean S.Store store.new.journal → Clean S.Store store.old.journal }
+    ensures left { LeavesWritten S.Store store.old store.new }
+{
+    if asked { store.settle() } else { Ok(()) }
 }
 
 /// Makes the present epoch durable, and gives its history to an archive, as the file has it.
@@ -114,6 +145,7 @@ fn keep_epoch<S: Alter, A: Archive>(
     requires { IsDurable S.Store store.old }
     ensures keeps { OnOk result (Clean S.Store store.new.journal → KeepsEpochs (A.kept archive.old) (A.kept archive.new) (written S.Store store.new.journal ∷ [])) }
     ensures sound { OnOk result (IsDurable S.Store store.new) }
+    ensures shows { OnOk result (ShowsCommit S.Store store.new.journal) }
     ensures lets_go { OnOk result (LetsGo store.old.store store.new.store) }
     ensures life { OnOk result (store.new.journal.header ≡ store.old.journal.header) }
     ensures written { OnOk result (Clean S.Store store.new.journal → written S.Store store.new.journal ≡ written S.Store store.old.journal) }
@@ -137,6 +169,7 @@ fn epoch_text<S: Alter>(alloc: Global, store: &mut Durable<S>) -> Result<Vec<u8>
     requires shows { ShowsCommit S.Store store.old.journal }
     ensures text { IfOk result (λ text. Clean S.Store store.new.journal → text.items ≡ text_of_epoch (written S.Store store.old.journal)) }
     ensures sound { OnOk result (IsDurable S.Store store.new) }
+    ensures still_shows { OnOk result (ShowsCommit S.Store store.new.journal) }
     ensures store { store.new.store ≡ store.old.store }
     ensures life { store.new.journal.header ≡ store.old.journal.header }
     ensures written { OnOk result (Clean S.Store store.new.journal → written S.Store store.new.journal ≡ written S.Store store.old.journal) }
@@ -181,6 +214,71 @@ fn events_of(alloc: Global, happened: &[EventKind]) -> Result<Vec<Event>, AllocE
         });
     }
     Ok(events)
+}
+
+/// Begins another epoch, where nothing is open: with the objects of what waits, which is answered then.
+///
+/// # Errors
+///
+/// The file failed, or memory was refused.
+fn begin_next<S: Alter>(
+    alloc: Global,
+    store: Durable<S>,
+    waiting: Option<Extension>,
+) -> (Durable<S>, Result<Option<Answered>, ServeFault>)
+    requires sound { IsDurable S.Store store }
+    requires shows { is_some waiting ≡ true → ShowsCommit S.Store store.journal }
+    ensures late { IfOk result.1 (λ late. late ≡ late_answer waiting store.store) }
+    ensures sound { OnOk result.1 (IsDurable S.Store result.0) }
+    ensures store { OnOk result.1 (IsNextStore waiting store.store result.0.store) }
+    ensures durable { OnOk result.1 (Clean S.Store result.0.journal → IsNextFile waiting store.store result.0.store (written S.Store store.journal) (durable S.Store result.0.journal)) }
+    ensures shows { OnOk result.1 (ShowsCommit S.Store result.0.journal) }
+    ensures last { OnOk result.1 (Clean S.Store result.0.journal → (written S.Store store.journal).headers ≡ store.journal.header ∷ []) }
+    ensures clean { Clean S.Store result.0.journal → Clean S.Store store.journal }
+    ensures crash { LeavesNext S.Store waiting store result.0 }
+{
+    match waiting {
+        Some(extension) => extend(alloc, store, extension),
+        None => {
+            let (store, renewed) = renew(alloc, store);
+            match renewed {
+                Ok(()) => (store, Ok(None)),
+                Err(fault) => (store, Err(fault)),
+            }
+        }
+    }
+}
+
+/// Begins another epoch with more objects, where nothing is open, and answers that they are there.
+///
+/// # Errors
+///
+/// As `begin_next`.
+fn extend<S: Alter>(
+    alloc: Global,
+    store: Durable<S>,
+    extension: Extension,
+) -> (Durable<S>, Result<Option<Answered>, ServeFault>)
+    requires sound { IsDurable S.Store store }
+    requires shows { ShowsCommit S.Store store.journal }
+    ensures late { IfOk result.1 (λ late. late ≡ late_answer (Some extension) store.store) }
+    ensures sound { OnOk result.1 (IsDurable S.Store result.0) }
+    ensures store { OnOk result.1 (IsNextStore (Some extension) store.store result.0.store) }
+    ensures durable { OnOk result.1 (Clean S.Store result.0.journal → IsNextFile (Some extension) store.store result.0.store (written S.Store store.journal) (durable S.Store result.0.journal)) }
+    ensures shows { OnOk result.1 (ShowsCommit S.Store result.0.journal) }
+    ensures last { OnOk result.1 (Clean S.Store result.0.journal → (written S.Store store.journal).headers ≡ store.journal.header ∷ []) }
+    ensures clean { Clean S.Store result.0.journal → Clean S.Store store.journal }
+    ensures crash { LeavesNext S.Store (Some extension) store result.0 }
+{
+    let Extension { tag, added } = extension;
+    let (store, extended) = store.extend(alloc, &added.texts, &added.lines);
+    match extended {
+        Ok(first) => {
+            let answer = AnswerLine::Extended { first };
+            (store, Ok(Some(Answered { tag, answer })))
+        }
+        Err(error) => (store, Err(ServeFault::from(error))),
+    }
 }
 
 /// Begins another epoch, where nothing is open.

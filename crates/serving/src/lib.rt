@@ -1,23 +1,27 @@
 //! A durable store that one client asks by lines: what each request does, and what it is answered.
 #![tactic(auto)]
 
+mod additions;
 mod answer_line;
 mod answer_text;
 mod archive;
 mod client;
 mod epoch;
 mod epoch_limits;
+mod extension;
 mod laws;
 mod serve_fault;
 mod server;
 mod service;
 mod session;
 
+pub use additions::{Added, AdditionFault, Additions, NoAdditions};
 pub use answer_line::{AnswerLine, Answered};
 pub use answer_text::write_answer;
 pub use archive::{Archive, ArchiveFault, NoArchive};
 pub use client::Client;
 pub use epoch_limits::EpochLimits;
+pub use extension::Extension;
 pub use laws::told_commits_are_found;
 pub use serve_fault::ServeFault;
 pub use server::Server;

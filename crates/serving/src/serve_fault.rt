@@ -1,7 +1,9 @@
 use crate::archive::ArchiveFault;
+use durable_store::OpenError;
 use journal::JournalError;
 use outputs::OutFault;
 use std::alloc::{AllocError, AllocFailed};
+use store::ExtendRefusal;
 use thiserror::Error;
 
 /// Why a store isn't served any more.
@@ -13,6 +15,9 @@ pub enum ServeFault {
     /// The archive didn't keep the history of an epoch that was to end: the file has it all.
     #[error("{0}")]
     Archive(ArchiveFault),
+    /// The store doesn't get the objects that were asked for, though they were tested before.
+    #[error("{0}")]
+    Extension(OpenError),
     /// What is asked can't be read.
     #[error("the input failed")]
     Input,
@@ -29,6 +34,20 @@ impl From<JournalError> for ServeFault {
 
     fn from(error: JournalError) -> ServeFault {
         ServeFault::Journal(error)
+    }
+}
+
+impl From<OpenError> for ServeFault {
+    ghost from_gives = { λ _ _. Unit {0} };
+
+    fn from(error: OpenError) -> ServeFault {
+        match error {
+            OpenError::Journal(error) => ServeFault::Journal(error),
+            OpenError::NoMemory | OpenError::NotExtended(ExtendRefusal::NoMemory) => {
+                ServeFault::NoMemory
+            }
+            error => ServeFault::Extension(error),
+        }
     }
 }
 

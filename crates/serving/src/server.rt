@@ -18,12 +18,15 @@ ghost use Rattle.serial_order.specs.History.{summary};
 ghost use Rattle.serial_order.specs.Replay.{open_count};
 ghost use Rattle.serving.specs.Does.{is_epoch_full};
 ghost use Rattle.serving.specs.EpochEnd.{EndsEpoch};
+ghost use Rattle.serving.specs.NextEpoch.{limit_while};
 ghost use Rattle.serving.specs.Requests.{LetsGo};
-ghost use Rattle.serving.specs.Told.{has_commit, is_commit};
+ghost use Rattle.serving.specs.Told.{has_lasting, is_lasting};
 
+use crate::additions::Additions;
 use crate::answer_line::{AnswerLine, Answered};
 use crate::archive::Archive;
 use crate::client::Client;
+use crate::extension::Extension;
 use crate::serve_fault::ServeFault;
 use crate::session::{Session, is_full};
 use durable_store::Durable;
@@ -48,7 +51,7 @@ pub struct Server<S: Alter> {
     pub(crate) answers: Vec<Answered>,
     /// The line that asked for the end.
     pub(crate) end: Option<Asked>,
-    /// When the epoch was first seen to be full.
+    /// When the epoch was first seen to be full, or what waits to be.
     pub(crate) full_since: Option<Instant>,
 }
 
@@ -66,6 +69,7 @@ impl<S: Alter> Server<S> {
                 store,
                 life,
                 most_events,
+                waiting: None,
             },
             line: Vec::new(alloc),
             answers: Vec::new(alloc),
@@ -81,9 +85,10 @@ impl<S: Alter> Server<S> {
         self.end
     }
 
-    /// Its store. What was asked of a line that isn't whole is let go.
-    pub fn into_store(self) -> Durable<S>
-        ensures { result ≡ self.session.store }
+    /// Its store, and what waits to be added. What was asked of a line that isn't whole is let go.
+    pub fn into_parts(self) -> (Durable<S>, Option<Extension>)
+        ensures store { result.0 ≡ self.session.store }
+        ensures waiting { result.1 ≡ self.session.waiting }
     {
         let Server {
             session,
@@ -96,8 +101,9 @@ impl<S: Alter> Server<S> {
             store,
             life: _,
             most_events: _,
+            waiting,
         } = session;
-        store
+        (store, waiting)
     }
 
     /// Serves the client, group by group: what it asks is read into the buffer, as much as is there. An epoch that is full
@@ -110,11 +116,12 @@ impl<S: Alter> Server<S> {
     ///
     /// The file, the archive, the input or the output failed, or memory was refused: the client got a beginning of the
     /// answers to some of its lines, and the server isn't to be used any more.
-    pub fn run<C: Clock, A: Archive, R: Read, W: Out>(
+    pub fn run<C: Clock, N: Additions, A: Archive, R: Read, W: Out>(
         self,
         clock: &C,
         alloc: Global,
         drain: Duration,
+        additions: &mut N,
         archive: &mut A,
         input: &mut R,
         buffer: &mut [u8],
@@ -138,7 +145,7 @@ impl<S: Alter> Server<S> {
         let mut server = self;
         for _turn in 0..u64::MAX {
             let (next, turned) = server.take_turn(
-                clock, alloc, drain, archive, input, buffer, client,
+                clock, alloc, drain, additions, archive, input, buffer, client,
             );
             server = next;
             match turned {
@@ -155,11 +162,12 @@ impl<S: Alter> Server<S> {
     /// # Errors
     ///
     /// As `serve_group`, and as `end_epoch` where the client got all answers.
-    pub(crate) fn take_turn<C: Clock, A: Archive, R: Read, W: Out>(
+    pub(crate) fn take_turn<C: Clock, N: Additions, A: Archive, R: Read, W: Out>(
         self,
         clock: &C,
         alloc: Global,
         drain: Duration,
+        additions: &mut N,
         archive: &mut A,
         input: &mut R,
         buffer: &mut [u8],
@@ -183,8 +191,8 @@ impl<S: Alter> Server<S> {
         ensures crash { LeavesEpochs S.Store self.session.store result.0.session.store (A.kept archive.old) (A.kept archive.new) }
     {
         let mut server = self;
-        match server.serve_group(alloc, input, buffer, client) {
-            Ok(true) => server.next_epoch(clock, alloc, drain, archive),
+        match server.serve_group(alloc, additions, input, buffer, client) {
+            Ok(true) => server.next_epoch(clock, alloc, drain, archive, client),
             served => (server, served),
         }
     }
@@ -195,9 +203,10 @@ impl<S: Alter> Server<S> {
     /// # Errors
     ///
     /// The file, the input or the output failed, or memory was refused: the server isn't to be used any more.
-    pub(crate) fn serve_group<R: Read, W: Out>(
+    pub(crate) fn serve_group<N: Additions, R: Read, W: Out>(
         &mut self,
         alloc: Global,
+        additions: &mut N,
         input: &mut R,
         buffer: &mut [u8],
         client: &mut Client<W>,
@@ -222,7 +231,7 @@ impl<S: Alter> Server<S> {
             Ok(count) => count,
             Err(_) => return Err(ServeFault::Input),
         };
-        self.serve_parts(alloc, &buffer[..count], client)?;
+        self.serve_parts(alloc, additions, &buffer[..count], client)?;
         Ok(count > 0 && self.end.is_none())
     }
 
@@ -232,9 +241,10 @@ impl<S: Alter> Server<S> {
     /// # Errors
     ///
     /// As `serve_group`.
-    fn serve_parts<W: Out>(
+    fn serve_parts<N: Additions, W: Out>(
         &mut self,
         alloc: Global,
+        additions: &mut N,
         bytes: &[u8],
         client: &mut Client<W>,
     ) -> Result<(), ServeFault>
@@ -254,13 +264,13 @@ impl<S: Alter> Server<S> {
     {
         let mut start = 0;
         for at in 0..bytes.len() {
-            start = self.serve_ended(alloc, bytes, start, at, client)?;
+            start = self.serve_ended(alloc, additions, bytes, start, at, client)?;
             let asked_end = self.end.is_some();
             if asked_end {
                 return Ok(());
             }
         }
-        self.serve_part(alloc, &bytes[start..], client)
+        self.serve_part(alloc, additions, &bytes[start..], client)
     }
 
     /// Serves the part that ends with the byte at `at`, where one does, of the bytes from `start` on. Where the next one
@@ -269,9 +279,10 @@ impl<S: Alter> Server<S> {
     /// # Errors
     ///
     /// As `serve_group`.
-    fn serve_ended<W: Out>(
+    fn serve_ended<N: Additions, W: Out>(
         &mut self,
         alloc: Global,
+        additions: &mut N,
         bytes: &[u8],
         start: usize,
         at: usize,
@@ -298,7 +309,7 @@ impl<S: Alter> Server<S> {
         if !ends_part(bytes, start, at) {
             return Ok(start);
         }
-        self.serve_part(alloc, &bytes[start..at + 1], client)?;
+        self.serve_part(alloc, additions, &bytes[start..at + 1], client)?;
         Ok(at + 1)
     }
 
@@ -308,9 +319,10 @@ impl<S: Alter> Server<S> {
     /// # Errors
     ///
     /// As `serve_group`. Where it wasn't the output, the client got nothing.
-    fn serve_part<W: Out>(
+    fn serve_part<N: Additions, W: Out>(
         &mut self,
         alloc: Global,
+        additions: &mut N,
         bytes: &[u8],
         client: &mut Client<W>,
     ) -> Result<(), ServeFault>
@@ -328,8 +340,8 @@ impl<S: Alter> Server<S> {
         ensures clean { Clean S.Store self.new.session.store.journal → Clean S.Store self.old.session.store.journal }
         ensures crash { LeavesMore S.Store self.old.session.store self.new.session.store }
     {
-        self.take_bytes(alloc, bytes)?;
-        self.settle_commits()?;
+        self.take_bytes(alloc, additions, bytes)?;
+        self.settle_lasting()?;
         client.tell(&self.session.store, &self.answers)?;
         self.answers.clear();
         Ok(())
@@ -340,7 +352,12 @@ impl<S: Alter> Server<S> {
     /// # Errors
     ///
     /// The file failed, or memory was refused: the server isn't to be used any more.
-    pub(crate) fn take_bytes(&mut self, alloc: Global, bytes: &[u8]) -> Result<(), ServeFault>
+    pub(crate) fn take_bytes<N: Additions>(
+        &mut self,
+        alloc: Global,
+        additions: &mut N,
+        bytes: &[u8],
+    ) -> Result<(), ServeFault>
         requires sound { IsDurable S.Store self.old.session.store }
         requires asked { self.old.end ≡ None }
         ensures serves { OnOk result ((began : Began S) (told : List Told) (seen : List ℕ) → HasServed S.Store began told seen self.old
@@ -355,7 +372,7 @@ impl<S: Alter> Server<S> {
         ensures crash { LeavesMore S.Store self.old.session.store self.new.session.store }
     {
         for b in bytes {
-            self.take_byte(alloc, *b)?;
+            self.take_byte(alloc, additions, *b)?;
             if self.end.is_some() {
                 return Ok(());
             }
@@ -368,14 +385,19 @@ impl<S: Alter> Server<S> {
     /// # Errors
     ///
     /// As `take_bytes`.
-    fn take_byte(&mut self, alloc: Global, b: u8) -> Result<(), ServeFault>
+    fn take_byte<N: Additions>(
+        &mut self,
+        alloc: Global,
+        additions: &mut N,
+        b: u8,
+    ) -> Result<(), ServeFault>
         requires { IsDurable S.Store self.old.session.store }
         ensures takes { OnOk result (TakesByte S.Store self.old b self.new) }
         ensures clean { Clean S.Store self.new.session.store.journal → Clean S.Store self.old.session.store.journal }
         ensures crash { LeavesWritten S.Store self.old.session.store self.new.session.store }
     {
         if b == b'\n' {
-            return self.do_line(alloc);
+            return self.do_line(alloc, additions);
         }
         if self.line.len() < MOST_KEPT {
             self.line.push(b)?;
@@ -388,71 +410,74 @@ impl<S: Alter> Server<S> {
     /// # Errors
     ///
     /// As `take_bytes`.
-    fn do_line(&mut self, alloc: Global) -> Result<(), ServeFault>
+    fn do_line<N: Additions>(&mut self, alloc: Global, additions: &mut N) -> Result<(), ServeFault>
         requires { IsDurable S.Store self.old.session.store }
         ensures does { OnOk result (DoesLine S.Store self.old self.new) }
         ensures clean { Clean S.Store self.new.session.store.journal → Clean S.Store self.old.session.store.journal }
         ensures crash { LeavesWritten S.Store self.old.session.store self.new.session.store }
     {
         let asked = read_line(alloc, &self.line)?;
-        self.line.clear();
         if asks_end(asked.request) {
+            self.line.clear();
             self.end = Some(asked);
             return Ok(());
         }
-        let answer = self.session.answer(alloc, asked.request)?;
-        self.answers.push(Answered {
-            tag: asked.tag,
-            answer,
-        })?;
+        let answered = self.session.do_asked(alloc, additions, &self.line, asked)?;
+        self.line.clear();
+        self.answers.push(answered)?;
         Ok(())
     }
 
-    /// Makes durable all that was written, where a commit is among the answers.
+    /// Makes durable all that was written, where one of the answers says what no crash takes away.
     ///
     /// # Errors
     ///
     /// As `Session::settle`.
-    pub(crate) fn settle_commits(&mut self) -> Result<(), JournalError>
+    pub(crate) fn settle_lasting(&mut self) -> Result<(), JournalError>
         requires { IsDurable S.Store self.old.session.store }
         ensures others { self.new ≡ record self.old { session = self.new.session } }
         ensures stays_in_epoch { OnOk result (StaysInEpoch S.Store self.old.session self.new.session) }
+        ensures waits { self.new.session.waiting ≡ self.old.session.waiting }
         ensures lets_go { OnOk result (LetsGo self.old.session.store.store self.new.session.store.store) }
-        ensures settled { OnOk result (has_commit self.old.answers.items ≡ true → Clean S.Store self.new.session.store.journal
+        ensures settled { OnOk result (has_lasting self.old.answers.items ≡ true → Clean S.Store self.new.session.store.journal
             → durable S.Store self.new.session.store.journal ≡ written S.Store self.new.session.store.journal) }
-        ensures shows { OnOk result (has_commit self.old.answers.items ≡ true → ShowsCommit S.Store self.new.session.store.journal) }
+        ensures shows { OnOk result (has_lasting self.old.answers.items ≡ true → ShowsCommit S.Store self.new.session.store.journal) }
         ensures same { OnOk result (Clean S.Store self.new.session.store.journal → written S.Store self.new.session.store.journal ≡ written S.Store self.old.session.store.journal) }
         ensures clean { Clean S.Store self.new.session.store.journal → Clean S.Store self.old.session.store.journal }
         ensures crash { LeavesWritten S.Store self.old.session.store self.new.session.store }
     {
-        if has_commit(&self.answers) {
+        if has_lasting(&self.answers) {
             self.session.settle()?;
         }
         Ok(())
     }
 
-    /// Begins another epoch where this one is over. More may come.
+    /// Begins another epoch where this one is over, and answers the client to what waited for it. More may come.
     ///
     /// # Errors
     ///
-    /// As `end_epoch`.
-    fn next_epoch<C: Clock, A: Archive>(
+    /// As `end_epoch`, or the output failed.
+    fn next_epoch<C: Clock, A: Archive, W: Out>(
         self,
         clock: &C,
         alloc: Global,
         drain: Duration,
         archive: &mut A,
+        client: &mut Client<W>,
     ) -> (Server<S>, Result<bool, ServeFault>)
         requires sound { IsDurable S.Store self.session.store }
         requires asked { self.end ≡ None }
-        ensures serves { OnOk result.1 ((began : Began S) (given taken given_now taken_now : Option (List ℕ)) → TellsSafely S.Store began given taken self given_now taken_now
-            → TellsSafely S.Store began given taken result.0 given_now taken_now) }
-        ensures stops { OnErr result.1 ((began : Began S) (given taken given_now taken_now : Option (List ℕ)) → TellsSafely S.Store began given taken self given_now taken_now
-            → StopsSafely S.Store began given taken result.0.session.store taken_now) }
-        ensures ends { OnOk result.1 (is_epoch_full self.session.most_events self.session.store.store ≡ true → open_count (summary self.session.store.store.history) ≡ 0 → EndsEpoch S.Store self.session.store result.0.session.store) }
+        requires out_takes { W.fault (under client.old.out) ≡ None }
+        ensures serves { OnOk result.1 ((began : Began S) (given taken given_now : Option (List ℕ)) → TellsSafely S.Store began given taken self given_now (taken_by W.taken client.old.out)
+            → TellsSafely S.Store began given taken result.0 given_now (taken_by W.taken client.new.out)) }
+        ensures stops { OnErr result.1 ((began : Began S) (given taken given_now : Option (List ℕ)) → TellsSafely S.Store began given taken self given_now (taken_by W.taken client.old.out)
+            → StopsSafely S.Store began given taken result.0.session.store (taken_by W.taken client.new.out)) }
+        ensures ends { OnOk result.1 (is_epoch_full (limit_while self.session.waiting self.session.most_events) self.session.store.store ≡ true → open_count (summary self.session.store.store.history) ≡ 0
+            → EndsEpoch S.Store self.session.waiting self.session.store result.0.session.store) }
         ensures more { IfOk result.1 (λ more. more ≡ true) }
         ensures asked { result.0.end ≡ None }
         ensures told { result.0.answers ≡ self.answers }
+        ensures out_takes { OnOk result.1 (W.fault (under client.new.out) ≡ None) }
         ensures writes { OnOk result.1 (WritesEpochs S.Store self.session.store result.0.session.store (A.kept archive.old) (A.kept archive.new)) }
         ensures sound { OnOk result.1 (IsDurable S.Store result.0.session.store) }
         ensures clean { Clean S.Store result.0.session.store.journal → Clean S.Store self.session.store.journal }
@@ -478,19 +503,23 @@ impl<S: Alter> Server<S> {
             full_since: None,
         };
         match begun {
-            Ok(()) => (next, Ok(true)),
+            Ok(late) => match client.tell_last(&next.session.store, late, None) {
+                Ok(()) => (next, Ok(true)),
+                Err(fault) => (next, Err(ServeFault::Output(fault))),
+            },
             Err(fault) => (next, Err(fault)),
         }
     }
 
-    /// Whether the epoch is over: it is full, and nothing is open or the open ones had their time.
+    /// Whether the epoch is over: it is full or an extension waits, and nothing is open or the open ones had their time.
     fn is_over<C: Clock>(&mut self, clock: &C, drain: Duration) -> bool
-        ensures full { result ≡ true → is_epoch_full self.old.session.most_events self.old.session.store.store ≡ true }
-        ensures over { is_epoch_full self.old.session.most_events self.old.session.store.store ≡ true → open_count (summary self.old.session.store.store.history) ≡ 0 → result ≡ true }
+        ensures full { result ≡ true → is_epoch_full (limit_while self.old.session.waiting self.old.session.most_events) self.old.session.store.store ≡ true }
+        ensures over { is_epoch_full (limit_while self.old.session.waiting self.old.session.most_events) self.old.session.store.store ≡ true → open_count (summary self.old.session.store.store.history) ≡ 0 → result ≡ true }
         ensures others { self.new ≡ record self.old { full_since = self.new.full_since } }
     {
+        let limit = self.session.limit();
         let store = self.session.store.store();
-        if !is_full(store, self.session.most_events) {
+        if !is_full(store, limit) {
             return false;
         }
         if store.open_count() == 0 {
@@ -538,18 +567,18 @@ fn asks_end(asked: Result<Request, RequestFault>) -> bool
     matches!(asked, Ok(Request::End))
 }
 
-/// Whether a commit that was done is among these answers.
-fn has_commit(answers: &[Answered]) -> bool
-    ensures { result ≡ has_commit answers.now }
+/// Whether one of these answers says what no crash takes away.
+fn has_lasting(answers: &[Answered]) -> bool
+    ensures { result ≡ has_lasting answers.now }
 {
-    answers.iter().any(|a| is_commit(&a.answer))
+    answers.iter().any(|a| is_lasting(&a.answer))
 }
 
-/// Whether it is the answer to a commit that was done.
-fn is_commit(answer: &AnswerLine) -> bool
-    ensures { result ≡ is_commit answer.now }
+/// Whether it says that something is done which no crash takes away.
+fn is_lasting(answer: &AnswerLine) -> bool
+    ensures { result ≡ is_lasting answer.now }
 {
-    matches!(answer, AnswerLine::Committed)
+    matches!(answer, AnswerLine::Committed | AnswerLine::Extended { .. })
 }
 
 /// Whether this long has passed since then, by a clock; one that fails doesn't hold up what waits.

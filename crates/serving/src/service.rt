@@ -5,16 +5,19 @@ ghost use Rattle.outputs.specs.Gathered.{taken_by, under};
 ghost use Rattle.journal.specs.Journal.{Clean, ShowsCommit};
 ghost use Rattle.durable_store.specs.Durable.{IsDurable};
 ghost use Rattle.serving.specs.Acknowledged.{ServesSafely, StopsServingSafely};
-ghost use Rattle.serving.specs.EpochEnd.{EndsEpoch, LeavesEnd, end_answers};
+ghost use Rattle.serving.specs.EpochEnd.{EndsEpoch, LeavesEnd, last_answers};
+ghost use Rattle.serving.specs.NextEpoch.{late_answer};
 ghost use Rattle.serving.specs.Epochs.{LeavesEpochs, WritesEpochs};
 ghost use Rattle.serving.specs.Told.{AppendsPart, answers_text};
 ghost use Rattle.std.specs.Io.KnownBytes.{Appends};
 ghost use Rattle.serving.specs.Whole.{ServesClient, StopsServing};
 
+use crate::additions::Additions;
 use crate::archive::Archive;
 use crate::client::Client;
 use crate::epoch::end_epoch;
 use crate::epoch_limits::EpochLimits;
+use crate::extension::Extension;
 use crate::serve_fault::ServeFault;
 use crate::server::Server;
 use durable_store::Durable;
@@ -26,21 +29,23 @@ use std::io::Read;
 use std::rt::Clock;
 
 /// Serves a client: greets it, and writes it the answers to its lines, group by group as they are read into the buffer.
-/// Where an epoch is full, as the limits say, no further transaction begins before another epoch has begun. Where the
-/// client has asked for the end, or its input has ended, what is open is aborted and the file begins another epoch. The
-/// history of each epoch that ends is kept by the archive, where it asks for any, before the file begins anew. Then the
-/// end is answered, where the client asked for it. However it ends, each commit that was answered survives a crash,
+/// Where an epoch is full, as the limits say, or more objects were read that the client asks to be added, no further
+/// transaction begins before another epoch has begun, with these objects. Where the client has asked for the end, or its
+/// input has ended, what is open is aborted and the file begins another epoch. The history of each epoch that ends is kept
+/// by the archive, where it asks for any, before the file begins anew. Then an extension is answered that waited, and the
+/// end, where the client asked for it. However it ends, each commit that was answered survives a crash,
 /// where all that was written was durable as it began.
 ///
 /// # Errors
 ///
 /// The file, the archive, the input or the output failed, or memory was refused. The client got a beginning of
 /// what it gets otherwise, and each commit that was answered is durable.
-pub fn serve<C: Clock, S: Alter, A: Archive, R: Read, W: Out>(
+pub fn serve<C: Clock, S: Alter, N: Additions, A: Archive, R: Read, W: Out>(
     clock: &C,
     alloc: Global,
     limits: EpochLimits,
     store: Durable<S>,
+    additions: &mut N,
     archive: &mut A,
     input: &mut R,
     buffer: &mut [u8],
@@ -64,16 +69,25 @@ pub fn serve<C: Clock, S: Alter, A: Archive, R: Read, W: Out>(
         return (store, Err(ServeFault::Output(fault)));
     }
     let server = Server::new(alloc, store, limits.most_events);
-    let (server, served) = server.run(clock, alloc, limits.drain, archive, input, buffer, client);
+    let (server, served) = server.run(
+        clock,
+        alloc,
+        limits.drain,
+        additions,
+        archive,
+        input,
+        buffer,
+        client,
+    );
     let end = server.end();
-    let store = server.into_store();
+    let (store, waiting) = server.into_parts();
     match served {
-        Ok(()) => end_serving(alloc, store, archive, end, client),
+        Ok(()) => end_serving(alloc, store, waiting, archive, end, client),
         Err(fault) => (store, Err(fault)),
     }
 }
 
-/// Ends what a client was served: another epoch begins, and then that is answered.
+/// Ends what a client was served: another epoch begins, with what waits to be added, and then that is answered.
 ///
 /// # Errors
 ///
@@ -81,29 +95,30 @@ pub fn serve<C: Clock, S: Alter, A: Archive, R: Read, W: Out>(
 fn end_serving<S: Alter, A: Archive, W: Out>(
     alloc: Global,
     store: Durable<S>,
+    waiting: Option<Extension>,
     archive: &mut A,
     end: Option<Asked>,
     client: &mut Client<W>,
 ) -> (Durable<S>, Result<(), ServeFault>)
     requires sound { IsDurable S.Store store }
     requires out_takes { W.fault (under client.old.out) ≡ None }
-    ensures renews { OnOk result.1 (EndsEpoch S.Store store result.0) }
-    ensures told { OnOk result.1 (Appends (taken_by W.taken client.old.out) (taken_by W.taken client.new.out) (answers_text (end_answers end))) }
+    ensures renews { OnOk result.1 (EndsEpoch S.Store waiting store result.0) }
+    ensures told { OnOk result.1 (Appends (taken_by W.taken client.old.out) (taken_by W.taken client.new.out) (answers_text (last_answers (late_answer waiting store.store) end))) }
     ensures part { OnErr result.1 ((taken_by W.taken client.new.out ≡ taken_by W.taken client.old.out)
-        ⊎ (EndsEpoch S.Store store result.0 × AppendsPart (taken_by W.taken client.old.out) (taken_by W.taken client.new.out) (answers_text (end_answers end)))) }
+        ⊎ (EndsEpoch S.Store waiting store result.0 × AppendsPart (taken_by W.taken client.old.out) (taken_by W.taken client.new.out) (answers_text (last_answers (late_answer waiting store.store) end)))) }
     ensures writes { OnOk result.1 (WritesEpochs S.Store store result.0 (A.kept archive.old) (A.kept archive.new)) }
     ensures shows { OnOk result.1 (ShowsCommit S.Store result.0.journal) }
     ensures sound { OnOk result.1 (IsDurable S.Store result.0) }
     ensures clean { Clean S.Store result.0.journal → Clean S.Store store.journal }
-    ensures left { LeavesEnd S.Store store result.0 }
+    ensures left { LeavesEnd S.Store waiting store result.0 }
     ensures crash { LeavesEpochs S.Store store result.0 (A.kept archive.old) (A.kept archive.new) }
 {
-    let (store, ended) = end_epoch(alloc, store, archive);
-    if let Err(fault) = ended {
-        return (store, Err(fault));
-    }
-    match client.tell_end(&store, end) {
-        Ok(()) => (store, Ok(())),
-        Err(fault) => (store, Err(ServeFault::Output(fault))),
+    let (store, ended) = end_epoch(alloc, store, waiting, archive);
+    match ended {
+        Ok(late) => match client.tell_last(&store, late, end) {
+            Ok(()) => (store, Ok(())),
+            Err(fault) => (store, Err(ServeFault::Output(fault))),
+        },
+        Err(fault) => (store, Err(fault)),
     }
 }

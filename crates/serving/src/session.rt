@@ -1,24 +1,31 @@
 //! A durable store that one client asks: what each request does, and what it is answered.
 
-ghost use Rattle.std.specs.Prelude.{◌≡◌, IfOk, OnOk, MatchResult, ◌<◌, None, Option};
+ghost use Rattle.std.specs.Prelude.{◌≡◌, ℕ, IfOk, OnOk, MatchResult, ◌<◌, None, Option};
 ghost use Rattle.journal.specs.Journal.{Clean, written, ShowsCommit, durable};
 ghost use Rattle.durable_store.specs.Durable.{IsDurable};
 ghost use Rattle.serving.specs.Follows.{LeavesWritten};
-ghost use Rattle.serving.specs.Requests.{LetsGo, TellsEvents, TellsObjects, TellsTypes, events_from, DoesRequest};
-ghost use Rattle.serving.specs.Server.{StaysInEpoch, life_of};
+ghost use Rattle.durable_store.specs.Names.{find_named};
+ghost use Rattle.serving.specs.Requests.{LetsGo, Means, found_answer, TellsEvents, TellsObjects, TellsTypes, events_from, DoesRequest};
+ghost use Rattle.request_text.specs.Requests.{asked_by};
+ghost use Rattle.serving.specs.Lines.{is_taken};
+ghost use Rattle.serving.specs.NextEpoch.{MayWait, late_answer, limit_while};
+ghost use Rattle.serving.specs.Server.{DoesAsked, StaysInEpoch, life_of};
 ghost use Rattle.serving.specs.Does.{DoesAbort, DoesBegin, DoesCall, DoesCommit, DoesRollback, done_or, is_epoch_full, DoesKept, DoesStats, DoesWould, call_answer, op_of_object, reply_of};
 ghost use Rattle.serving.specs.EpochEnd.{EndsEpoch, LeavesEnd};
 ghost use Rattle.serving.specs.Epochs.{LeavesEpochs, WritesEpochs};
 
-use crate::answer_line::AnswerLine;
+use crate::additions::{AdditionFault, Additions};
+use crate::answer_line::{AnswerLine, Answered};
 use crate::archive::Archive;
 use crate::epoch::end_epoch;
+use crate::extension::Extension;
 use crate::serve_fault::ServeFault;
 use durable_store::Durable;
 use journal::JournalError;
 use object_calls::Answer;
+use object_name::ObjectName;
 use objects::Object;
-use request_text::{Request, RequestFault, TransactionName};
+use request_text::{Asked, ObjectWord, Request, RequestFault, TransactionName, file_words};
 use serial_order::Refusal;
 use sqlite_trees::store::Alter;
 use std::alloc::Global;
@@ -28,15 +35,86 @@ use type_table::{Name, Op, Operation};
 /// The most events of one answer.
 const MOST_TOLD: u32 = 65_536;
 
-/// A durable store that one client asks, the number of its life, with which it names its transactions, and with how many
-/// events an epoch is full.
+/// A durable store that one client asks, the number of its life, with which it names its transactions, with how many
+/// events an epoch is full, and what waits to be added where another begins: until then no transaction begins.
 pub struct Session<S: Alter> {
     pub store: Durable<S>,
     pub life: u32,
     pub most_events: u32,
+    pub waiting: Option<Extension>,
 }
 
 impl<S: Alter> Session<S> {
+    /// With how many events the present epoch is full.
+    pub(crate) fn limit(&self) -> u32
+        ensures { result ≡ limit_while self.now.waiting self.now.most_events }
+    {
+        match self.waiting {
+            Some(_) => 0,
+            None => self.most_events,
+        }
+    }
+
+    /// Answers a line: does what it asks, or reads what it asks to be added, which waits then.
+    ///
+    /// # Errors
+    ///
+    /// As `ask`.
+    pub(crate) fn do_asked<N: Additions>(
+        &mut self,
+        alloc: Global,
+        additions: &mut N,
+        line: &[u8],
+        asked: Asked,
+    ) -> Result<Answered, ServeFault>
+        requires sound { IsDurable S.Store self.old.store }
+        requires asked { asked ≡ asked_by line.now }
+        ensures does { IfOk result (λ a. DoesAsked S.Store self.old line.now a self.new) }
+        ensures clean { Clean S.Store self.new.store.journal → Clean S.Store self.old.store.journal }
+        ensures crash { LeavesWritten S.Store self.old.store self.new.store }
+    {
+        if is_taken(&self.waiting, asked.request) {
+            let answer = self.take_more(alloc, additions, line, asked.tag)?;
+            return Ok(Answered {
+                tag: asked.tag,
+                answer,
+            });
+        }
+        let answer = self.answer(alloc, asked.request)?;
+        Ok(Answered {
+            tag: asked.tag,
+            answer,
+        })
+    }
+
+    /// Reads what a line asks to be added, where nothing waits so far.
+    ///
+    /// # Errors
+    ///
+    /// Memory was refused.
+    fn take_more<N: Additions>(
+        &mut self,
+        alloc: Global,
+        additions: &mut N,
+        line: &[u8],
+        tag: Option<Name>,
+    ) -> Result<AnswerLine, ServeFault>
+        requires { self.old.waiting ≡ None }
+        ensures waits { IfOk result (λ a. MayWait tag a self.new.waiting) }
+        ensures others { self.new ≡ record self.old { waiting = self.new.waiting } }
+    {
+        let paths = file_words(alloc, line)?;
+        let so_far = self.store.store().object_count();
+        match additions.read(alloc, so_far, self.store.names(), &paths) {
+            Ok(added) => {
+                self.waiting = Some(Extension { tag, added });
+                Ok(AnswerLine::Waiting)
+            }
+            Err(AdditionFault::Refused { why }) => Ok(AnswerLine::NotAdded { why }),
+            Err(AdditionFault::NoMemory) => Err(ServeFault::NoMemory),
+        }
+    }
+
     /// Does what a line asks, or answers its fault.
     ///
     /// # Errors
@@ -48,9 +126,10 @@ impl<S: Alter> Session<S> {
         asked: Result<Request, RequestFault>,
     ) -> Result<AnswerLine, JournalError>
         requires { IsDurable S.Store self.old.store }
-        ensures does { IfOk result (λ a. MatchResult asked (λ request. DoesRequest (Clean S.Store self.new.store.journal) self.old.most_events self.old.life (written S.Store self.old.store.journal) self.old.store.store request a self.new.store.store)
+        ensures does { IfOk result (λ a. MatchResult asked (λ request. DoesRequest (Clean S.Store self.new.store.journal) (limit_while self.old.waiting self.old.most_events) self.old.life (written S.Store self.old.store.journal) self.old.store.store request a self.new.store.store)
             (λ fault. (a ≡ AnswerLine.Fault fault) × (self.new.store.store ≡ self.old.store.store))) }
         ensures stays_in_epoch { OnOk result (StaysInEpoch S.Store self.old self.new) }
+        ensures waits { self.new.waiting ≡ self.old.waiting }
         ensures clean { Clean S.Store self.new.store.journal → Clean S.Store self.old.store.journal }
         ensures crash { LeavesWritten S.Store self.old.store self.new.store }
     {
@@ -61,30 +140,36 @@ impl<S: Alter> Session<S> {
     }
 
     /// Does a request. That a commit is done is to be answered only once it is settled; that the end was asked for
-    /// changes nothing here.
+    /// changes nothing here, nor that more objects were.
     ///
     /// # Errors
     ///
     /// The file failed, or memory was refused for it: the session isn't to be asked any more.
     pub fn ask(&mut self, alloc: Global, request: Request) -> Result<AnswerLine, JournalError>
         requires { IsDurable S.Store self.old.store }
-        ensures does { IfOk result (λ a. DoesRequest (Clean S.Store self.new.store.journal) self.old.most_events self.old.life (written S.Store self.old.store.journal) self.old.store.store request a self.new.store.store) }
+        ensures does { IfOk result (λ a. DoesRequest (Clean S.Store self.new.store.journal) (limit_while self.old.waiting self.old.most_events) self.old.life (written S.Store self.old.store.journal) self.old.store.store request a self.new.store.store) }
         ensures stays_in_epoch { OnOk result (StaysInEpoch S.Store self.old self.new) }
+        ensures waits { self.new.waiting ≡ self.old.waiting }
         ensures clean { Clean S.Store self.new.store.journal → Clean S.Store self.old.store.journal }
         ensures crash { LeavesWritten S.Store self.old.store self.new.store }
     {
         match request {
             Request::Begin => self.begin(),
-            Request::Call { t, x, call } => self.call(t, x, call),
+            Request::Call { t, x, call } => {
+                let x = self.number_of(x);
+                self.call(t, x, call)
+            }
             Request::Commit { t } => self.commit(t),
             Request::Abort { t } => self.abort(t),
             Request::Rollback { t, count } => self.rollback(t, count),
             Request::Objects => self.objects(alloc),
             Request::Types => self.types(alloc),
             Request::Events { from, count } => self.events(alloc, from, count),
-            Request::Would { t, x, call } => Ok(self.would(t, x, call)),
-            Request::Kept { x } => Ok(self.kept(x)),
+            Request::Would { t, x, call } => Ok(self.would(t, self.number_of(x), call)),
+            Request::Kept { x } => Ok(self.kept(self.number_of(x))),
+            Request::Find { name } => Ok(self.find(name)),
             Request::Stats => Ok(self.counts()),
+            Request::Extend => Ok(AnswerLine::Draining),
             Request::End => Ok(AnswerLine::Done),
         }
     }
@@ -92,12 +177,14 @@ impl<S: Alter> Session<S> {
     /// Begins a transaction, but for an epoch that is full.
     pub(crate) fn begin(&mut self) -> Result<AnswerLine, JournalError>
         requires { IsDurable S.Store self.old.store }
-        ensures does { IfOk result (λ a. DoesBegin self.old.most_events self.old.life self.old.store.store a self.new.store.store) }
+        ensures does { IfOk result (λ a. DoesBegin (limit_while self.old.waiting self.old.most_events) self.old.life self.old.store.store a self.new.store.store) }
         ensures stays_in_epoch { OnOk result (StaysInEpoch S.Store self.old self.new) }
+        ensures waits { self.new.waiting ≡ self.old.waiting }
         ensures clean { Clean S.Store self.new.store.journal → Clean S.Store self.old.store.journal }
         ensures crash { LeavesWritten S.Store self.old.store self.new.store }
     {
-        if is_full(self.store.store(), self.most_events) {
+        let limit = self.limit();
+        if is_full(self.store.store(), limit) {
             return Ok(AnswerLine::Draining);
         }
         match self.store.begin()? {
@@ -122,6 +209,7 @@ impl<S: Alter> Session<S> {
         requires { IsDurable S.Store self.old.store }
         ensures does { IfOk result (λ a. DoesCall self.old.life self.old.store.store t x name a self.new.store.store) }
         ensures stays_in_epoch { OnOk result (StaysInEpoch S.Store self.old self.new) }
+        ensures waits { self.new.waiting ≡ self.old.waiting }
         ensures clean { Clean S.Store self.new.store.journal → Clean S.Store self.old.store.journal }
         ensures crash { LeavesWritten S.Store self.old.store self.new.store }
     {
@@ -137,6 +225,7 @@ impl<S: Alter> Session<S> {
         requires { IsDurable S.Store self.old.store }
         ensures does { IfOk result (λ a. DoesCommit self.old.life self.old.store.store t a self.new.store.store) }
         ensures stays_in_epoch { OnOk result (StaysInEpoch S.Store self.old self.new) }
+        ensures waits { self.new.waiting ≡ self.old.waiting }
         ensures clean { Clean S.Store self.new.store.journal → Clean S.Store self.old.store.journal }
         ensures crash { LeavesWritten S.Store self.old.store self.new.store }
     {
@@ -152,6 +241,7 @@ impl<S: Alter> Session<S> {
         requires { IsDurable S.Store self.old.store }
         ensures does { IfOk result (λ a. DoesAbort self.old.life self.old.store.store t a self.new.store.store) }
         ensures stays_in_epoch { OnOk result (StaysInEpoch S.Store self.old self.new) }
+        ensures waits { self.new.waiting ≡ self.old.waiting }
         ensures clean { Clean S.Store self.new.store.journal → Clean S.Store self.old.store.journal }
         ensures crash { LeavesWritten S.Store self.old.store self.new.store }
     {
@@ -171,6 +261,7 @@ impl<S: Alter> Session<S> {
         requires { IsDurable S.Store self.old.store }
         ensures does { IfOk result (λ a. DoesRollback self.old.life self.old.store.store t count a self.new.store.store) }
         ensures stays_in_epoch { OnOk result (StaysInEpoch S.Store self.old self.new) }
+        ensures waits { self.new.waiting ≡ self.old.waiting }
         ensures clean { Clean S.Store self.new.store.journal → Clean S.Store self.old.store.journal }
         ensures crash { LeavesWritten S.Store self.old.store self.new.store }
     {
@@ -205,6 +296,33 @@ impl<S: Alter> Session<S> {
         }
     }
 
+    /// The number that a word says. A name that no object has says a number that none has.
+    fn number_of(&self, x: ObjectWord) -> u32
+        requires { IsDurable S.Store self.now.store }
+        ensures { Means (Clean S.Store self.now.store.journal) (written S.Store self.now.store.journal).objects x result }
+    {
+        match x {
+            ObjectWord::Number { x } => x,
+            ObjectWord::Name { name } => {
+                let count = self.store.store().object_count();
+                self.store.find(name).unwrap_or(count)
+            }
+        }
+    }
+
+    /// The number of the object that has this name.
+    fn find(&self, name: ObjectName) -> AnswerLine
+        requires { IsDurable S.Store self.now.store }
+        ensures { (found : Option ℕ) × (result ≡ found_answer found) × (Clean S.Store self.now.store.journal → found ≡ find_named (written S.Store self.now.store.journal).objects name) }
+    {
+        match self.store.find(name) {
+            Some(x) => AnswerLine::Found { x },
+            None => AnswerLine::Refused {
+                refusal: Refusal::NoObject,
+            },
+        }
+    }
+
     /// How many events and transactions there are.
     pub(crate) fn counts(&self) -> AnswerLine
         ensures { DoesStats self.now.store.store result self.now.store.store }
@@ -227,6 +345,7 @@ impl<S: Alter> Session<S> {
         ensures tells { IfOk result (λ a. TellsObjects (Clean S.Store self.new.store.journal) a (written S.Store self.old.store.journal).objects) }
         ensures lets_go { OnOk result (LetsGo self.old.store.store self.new.store.store) }
         ensures stays_in_epoch { OnOk result (StaysInEpoch S.Store self.old self.new) }
+        ensures waits { self.new.waiting ≡ self.old.waiting }
         ensures clean { Clean S.Store self.new.store.journal → Clean S.Store self.old.store.journal }
         ensures crash { LeavesWritten S.Store self.old.store self.new.store }
     {
@@ -245,6 +364,7 @@ impl<S: Alter> Session<S> {
         ensures tells { IfOk result (λ a. TellsTypes (Clean S.Store self.new.store.journal) a (written S.Store self.old.store.journal).types) }
         ensures lets_go { OnOk result (LetsGo self.old.store.store self.new.store.store) }
         ensures stays_in_epoch { OnOk result (StaysInEpoch S.Store self.old self.new) }
+        ensures waits { self.new.waiting ≡ self.old.waiting }
         ensures clean { Clean S.Store self.new.store.journal → Clean S.Store self.old.store.journal }
         ensures crash { LeavesWritten S.Store self.old.store self.new.store }
     {
@@ -268,6 +388,7 @@ impl<S: Alter> Session<S> {
         ensures tells { IfOk result (λ a. TellsEvents (Clean S.Store self.new.store.journal) a (events_from self.old.store.store from count)) }
         ensures lets_go { OnOk result (LetsGo self.old.store.store self.new.store.store) }
         ensures stays_in_epoch { OnOk result (StaysInEpoch S.Store self.old self.new) }
+        ensures waits { self.new.waiting ≡ self.old.waiting }
         ensures clean { Clean S.Store self.new.store.journal → Clean S.Store self.old.store.journal }
         ensures crash { LeavesWritten S.Store self.old.store self.new.store }
     {
@@ -285,6 +406,7 @@ impl<S: Alter> Session<S> {
     pub(crate) fn settle(&mut self) -> Result<(), JournalError>
         requires { IsDurable S.Store self.old.store }
         ensures stays_in_epoch { OnOk result (StaysInEpoch S.Store self.old self.new) }
+        ensures waits { self.new.waiting ≡ self.old.waiting }
         ensures lets_go { OnOk result (LetsGo self.old.store.store self.new.store.store) }
         ensures settled { OnOk result (Clean S.Store self.new.store.journal → durable S.Store self.new.store.journal ≡ written S.Store self.new.store.journal) }
         ensures shows { OnOk result (ShowsCommit S.Store self.new.store.journal) }
@@ -295,7 +417,8 @@ impl<S: Alter> Session<S> {
         self.store.settle()
     }
 
-    /// Aborts what is open, gives the history of the epoch to the archive, and begins another epoch, all of it durable.
+    /// Aborts what is open, gives the history of the epoch to the archive, and begins another epoch, all of it durable:
+    /// with the objects of what waits, which is answered then.
     ///
     /// # Errors
     ///
@@ -304,14 +427,18 @@ impl<S: Alter> Session<S> {
         self,
         alloc: Global,
         archive: &mut A,
-    ) -> (Session<S>, Result<(), ServeFault>)
+    ) -> (Session<S>, Result<Option<Answered>, ServeFault>)
         requires { IsDurable S.Store self.store }
+        ensures late { IfOk result.1 (λ late. late ≡ late_answer self.waiting self.store.store) }
         ensures sound { OnOk result.1 (IsDurable S.Store result.0.store) }
-        ensures ends { OnOk result.1 (EndsEpoch S.Store self.store result.0.store) }
+        ensures ends { OnOk result.1 (EndsEpoch S.Store self.waiting self.store result.0.store) }
         ensures writes { OnOk result.1 (WritesEpochs S.Store self.store result.0.store (A.kept archive.old) (A.kept archive.new)) }
-        ensures left { LeavesEnd S.Store self.store result.0.store }
+        ensures shows { OnOk result.1 (ShowsCommit S.Store result.0.store.journal) }
+        ensures settled { OnOk result.1 (Clean S.Store result.0.store.journal → durable S.Store result.0.store.journal ≡ written S.Store result.0.store.journal) }
+        ensures left { LeavesEnd S.Store self.waiting self.store result.0.store }
         ensures named { result.0.life ≡ life_of result.0.store }
         ensures most { result.0.most_events ≡ self.most_events }
+        ensures none_waits { result.0.waiting ≡ None }
         ensures clean { Clean S.Store result.0.store.journal → Clean S.Store self.store.journal }
         ensures crash { LeavesEpochs S.Store self.store result.0.store (A.kept archive.old) (A.kept archive.new) }
     {
@@ -319,15 +446,27 @@ impl<S: Alter> Session<S> {
             store,
             life: _,
             most_events,
+            waiting,
         } = self;
-        let (store, ended) = end_epoch(alloc, store, archive);
+        let (store, ended) = end_epoch(alloc, store, waiting, archive);
         let life = store.life();
         let session = Session {
             store,
             life,
             most_events,
+            waiting: None,
         };
         (session, ended)
+    }
+}
+
+/// Whether a line asks for more objects, which may wait as nothing waits so far.
+fn is_taken(waiting: &Option<Extension>, asked: Result<Request, RequestFault>) -> bool
+    ensures { result ≡ is_taken waiting.now asked }
+{
+    match waiting {
+        Some(_) => false,
+        None => matches!(asked, Ok(Request::Extend)),
     }
 }
 

@@ -6,3 +6,6 @@ returns-in-Journal c = is-no-input c.fault_of_file.result c.fault_of_file.ensure
 
 pub returns-in-Archive : goal.returns-in-Archive
 returns-in-Archive c = is-no-input c.fault_of_archive.result c.fault_of_archive.ensures
+
+pub returns-in-Extension : goal.returns-in-Extension
+returns-in-Extension c = is-no-input c.fault_of_making.result c.fault_of_making.ensures

@@ -15,32 +15,32 @@ returns-in-Err-clause-stops g c =
 
 pub returns-in-Ok-clause-told : goal.returns-in-Ok-clause-told
 returns-in-Ok-clause-told g c =
-    serves-whole (taken_by g.W.Out.taken c.args.client.now.out) (taken_by g.W.Out.taken c.end_serving.new.client.out) c.end_serving.result.0 c.end_serving.result.1 (same-session c.new-server.result.session c.args.store c.args.limits.most_events c.new-server.ensures.store c.new-server.ensures.life c.new-server.ensures.most)
+    serves-whole (taken_by g.W.Out.taken c.args.client.now.out) (taken_by g.W.Out.taken c.end_serving.new.client.out) c.end_serving.result.0 c.end_serving.result.1 (same-session c.new-server.result.session c.args.store c.args.limits.most_events c.new-server.ensures.store c.new-server.ensures.life c.new-server.ensures.most c.new-server.ensures.fresh.none_waits)
     (subst (λ n. Appends (taken_by g.W.Out.taken c.args.client.now.out) (taken_by g.W.Out.taken c.greet.new.self.out) (greeting n)) c.life.ensures c.in_default.ensures.told)
-    (of-ok c.run-server.result.1 c.in-Ok.field-0 c.in-Ok.is c.run-server.ensures.told) (of-ok c.run-server.result.1 c.in-Ok.field-0 c.in-Ok.is c.run-server.ensures.ended) c.into_store-store.ensures c.end-end.ensures c.end_serving.ensures.clean c.end_serving.ensures.renews c.end_serving.ensures.told
+    (of-ok c.run-server.result.1 c.in-Ok.field-0 c.in-Ok.is c.run-server.ensures.told) (of-ok c.run-server.result.1 c.in-Ok.field-0 c.in-Ok.is c.run-server.ensures.ended) c.into_parts-store.ensures.waiting c.into_parts-store.ensures.store c.end-end.ensures c.end_serving.ensures.clean c.end_serving.ensures.renews c.end_serving.ensures.told
 
 pub returns-in-Ok-clause-stops : goal.returns-in-Ok-clause-stops
 returns-in-Ok-clause-stops g c =
-    stops-whole (taken_by g.W.Out.taken c.args.client.now.out) (taken_by g.W.Out.taken c.end_serving.new.client.out) c.end_serving.result.0 c.end_serving.result.1 (same-session c.new-server.result.session c.args.store c.args.limits.most_events c.new-server.ensures.store c.new-server.ensures.life c.new-server.ensures.most)
+    stops-whole (taken_by g.W.Out.taken c.args.client.now.out) (taken_by g.W.Out.taken c.end_serving.new.client.out) c.end_serving.result.0 c.end_serving.result.1 (same-session c.new-server.result.session c.args.store c.args.limits.most_events c.new-server.ensures.store c.new-server.ensures.life c.new-server.ensures.most c.new-server.ensures.fresh.none_waits)
     (subst (λ n. Appends (taken_by g.W.Out.taken c.args.client.now.out) (taken_by g.W.Out.taken c.greet.new.self.out) (greeting n)) c.life.ensures c.in_default.ensures.told)
-    (of-ok c.run-server.result.1 c.in-Ok.field-0 c.in-Ok.is c.run-server.ensures.told) c.into_store-store.ensures c.end-end.ensures c.end_serving.ensures.clean c.end_serving.ensures.part
+    (of-ok c.run-server.result.1 c.in-Ok.field-0 c.in-Ok.is c.run-server.ensures.told) c.into_parts-store.ensures.waiting c.into_parts-store.ensures.store c.end-end.ensures c.end_serving.ensures.clean c.end_serving.ensures.part
 
 pub returns-in-Ok-clause-archives : goal.returns-in-Ok-clause-archives
 returns-in-Ok-clause-archives g c =
     writes-served g.S.Store c.end_serving.result.0 (g.A.Archive.kept c.args.archive.now) (g.A.Archive.kept c.run-server.new.archive) (g.A.Archive.kept c.end_serving.new.archive) c.end_serving.result.1
-    c.new-server.ensures.store c.into_store-store.ensures c.end_serving.ensures.clean (of-ok c.run-server.result.1 c.in-Ok.field-0 c.in-Ok.is c.run-server.ensures.archives) c.end_serving.ensures.writes
+    c.new-server.ensures.store c.into_parts-store.ensures.store c.end_serving.ensures.clean (of-ok c.run-server.result.1 c.in-Ok.field-0 c.in-Ok.is c.run-server.ensures.archives) c.end_serving.ensures.writes
 
 pub returns-in-Ok-clause-crash : goal.returns-in-Ok-clause-crash
 returns-in-Ok-clause-crash g c =
     left-served g.S.Store c.end_serving.result.0 (g.A.Archive.kept c.args.archive.now) (g.A.Archive.kept c.run-server.new.archive) (g.A.Archive.kept c.end_serving.new.archive) c.new-server.ensures.store
-    c.into_store-store.ensures c.run-server.ensures.clean (of-ok c.run-server.result.1 c.in-Ok.field-0 c.in-Ok.is c.run-server.ensures.archives) c.run-server.ensures.crash c.end_serving.ensures.crash
+    c.into_parts-store.ensures.store c.run-server.ensures.clean (of-ok c.run-server.result.1 c.in-Ok.field-0 c.in-Ok.is c.run-server.ensures.archives) c.run-server.ensures.crash c.end_serving.ensures.crash
 
 pub returns-in-Err-clause-crash : goal.returns-in-Err-clause-crash
 returns-in-Err-clause-crash g c = left-nowhere g.S.Store c.args.store c.args.store (g.A.Archive.kept c.args.archive.now) refl
 
 pub returns-in-Err-served-clause-stops : goal.returns-in-Err-served-clause-stops
 returns-in-Err-served-clause-stops g c =
-    stops-served (same-session c.new-server.result.session c.args.store c.args.limits.most_events c.new-server.ensures.store c.new-server.ensures.life c.new-server.ensures.most) c.into_store-store.ensures
+    stops-served (same-session c.new-server.result.session c.args.store c.args.limits.most_events c.new-server.ensures.store c.new-server.ensures.life c.new-server.ensures.most c.new-server.ensures.fresh.none_waits) c.into_parts-store.ensures.store
     (subst (λ n. Appends (taken_by g.W.Out.taken c.args.client.now.out) (taken_by g.W.Out.taken c.greet.new.self.out) (greeting n)) c.life.ensures c.in_default.ensures.told)
     (of-err c.run-server.result.1 c.in-Err-served.fault c.in-Err-served.is c.run-server.ensures.stops)
 
@@ -52,13 +52,13 @@ returns-in-Err-clause-acknowledged g c =
 pub returns-in-Ok-clause-acknowledged : goal.returns-in-Ok-clause-acknowledged
 returns-in-Ok-clause-acknowledged g c =
     whole-safely (taken_by g.W.Out.taken c.args.client.now.out) (taken_by g.W.Out.taken c.end_serving.new.client.out) c.end_serving.result.0 c.end_serving.result.1
-    (same-session c.new-server.result.session c.args.store c.args.limits.most_events c.new-server.ensures.store c.new-server.ensures.life c.new-server.ensures.most)
+    (same-session c.new-server.result.session c.args.store c.args.limits.most_events c.new-server.ensures.store c.new-server.ensures.life c.new-server.ensures.most c.new-server.ensures.fresh.none_waits)
     (subst (λ n. Appends (taken_by g.W.Out.taken c.args.client.now.out) (taken_by g.W.Out.taken c.greet.new.self.out) (greeting n)) c.life.ensures c.in_default.ensures.told)
-    (match-ok _ _ c.run-server.result.1 c.in-Ok.field-0 c.in-Ok.is c.run-server.ensures.acknowledged) (of-ok c.run-server.result.1 c.in-Ok.field-0 c.in-Ok.is c.run-server.ensures.ended) c.into_store-store.ensures c.end-end.ensures
+    (match-ok _ _ c.run-server.result.1 c.in-Ok.field-0 c.in-Ok.is c.run-server.ensures.acknowledged) (of-ok c.run-server.result.1 c.in-Ok.field-0 c.in-Ok.is c.run-server.ensures.ended) c.into_parts-store.ensures.waiting c.into_parts-store.ensures.store c.end-end.ensures
     c.end_serving.ensures.clean c.end_serving.ensures.left c.end_serving.ensures.renews c.end_serving.ensures.told c.end_serving.ensures.part
 
 pub returns-in-Err-served-clause-acknowledged : goal.returns-in-Err-served-clause-acknowledged
 returns-in-Err-served-clause-acknowledged g c =
-    stops-safely-served (g.R.Read.remaining c.run-server.new.input) (same-session c.new-server.result.session c.args.store c.args.limits.most_events c.new-server.ensures.store c.new-server.ensures.life c.new-server.ensures.most) c.into_store-store.ensures
+    stops-safely-served (g.R.Read.remaining c.run-server.new.input) (same-session c.new-server.result.session c.args.store c.args.limits.most_events c.new-server.ensures.store c.new-server.ensures.life c.new-server.ensures.most c.new-server.ensures.fresh.none_waits) c.into_parts-store.ensures.store
     (subst (λ n. Appends (taken_by g.W.Out.taken c.args.client.now.out) (taken_by g.W.Out.taken c.greet.new.self.out) (greeting n)) c.life.ensures c.in_default.ensures.told)
     (match-err _ _ c.run-server.result.1 c.in-Err-served.fault c.in-Err-served.is c.run-server.ensures.acknowledged)

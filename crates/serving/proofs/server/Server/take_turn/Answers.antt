@@ -1,6 +1,5 @@
 use Rattle.std.proofs.Common.{rules}
 use Rattle.std.specs.Prelude.{OnOk}
-use Rattle.outputs.specs.Gathered.{taken_by}
 use Rattle.serving.specs.Epochs.{WritesEpochs}
 use Rattle.std.proofs.lemmas.Result.{on_err_weaker, on_ok_weaker}
 use Rattle.serving.proofs.LaterEpochs.{left-stays, left-more, writes-stays, writes-one}
@@ -9,12 +8,12 @@ use Rattle.serving.proofs.server.Server.take_turn.Goals as goal
 pub returns-in-Ok-true-clause-serves : goal.returns-in-Ok-true-clause-serves
 returns-in-Ok-true-clause-serves g c =
     on_ok_weaker c.next_epoch.result.1 (λ serves began given taken so_far.
-    serves began given taken (g.R.Read.remaining c.serve_group.new.input) (taken_by g.W.Out.taken c.serve_group.new.client.out) (c.in-Ok-true.ensures.serves began given taken so_far)) c.next_epoch.ensures.serves
+    serves began given taken (g.R.Read.remaining c.serve_group.new.input) (c.in-Ok-true.ensures.serves began given taken so_far)) c.next_epoch.ensures.serves
 
 pub returns-in-Ok-true-clause-stops : goal.returns-in-Ok-true-clause-stops
 returns-in-Ok-true-clause-stops g c =
     on_err_weaker c.next_epoch.result.1 (λ stops began given taken so_far.
-    stops began given taken (g.R.Read.remaining c.serve_group.new.input) (taken_by g.W.Out.taken c.serve_group.new.client.out) (c.in-Ok-true.ensures.serves began given taken so_far)) c.next_epoch.ensures.stops
+    stops began given taken (g.R.Read.remaining c.serve_group.new.input) (c.in-Ok-true.ensures.serves began given taken so_far)) c.next_epoch.ensures.stops
 
 pub returns-in-Ok-true-clause-writes : goal.returns-in-Ok-true-clause-writes
 returns-in-Ok-true-clause-writes g c =
