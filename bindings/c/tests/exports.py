@@ -29,6 +29,8 @@ PATHS = {
     "errors": os.path.join(BINDINGS, "python", "colock", "_errors.py"),
     "make": os.path.join(BINDINGS, "c", "Makefile"),
 }
+# What is never wrong with a line of the text of a type.
+OF_NO_TYPE = ("NoMemory", "TwiceName")
 STRUCTS = ["handle", "answer", "fault", "shape", "event"]
 # what the header has in place of the one handle
 HANDLES = ["type", "store", "held"]
@@ -118,7 +120,7 @@ def by_number(found):
 def exported():
     text = source()
     with open(FAULTS, encoding="utf-8") as file:
-        faults = {upper(name): n for name, n in numbered(without_comments(file.read()), "FaultKind").items() if name != "NoMemory"}
+        faults = {upper(name): n for name, n in numbered(without_comments(file.read()), "FaultKind").items() if name not in OF_NO_TYPE}
     return {
         "calls": exported_calls(text),
         "structs": {name: layout(fields) for name, fields in exported_structs(text).items()},

@@ -94,6 +94,8 @@ Objects may have names, by which calls then have them; and more may be added whi
     >>> hall.kept("A2"), hall.kept("B1"), hall.find("B2"), hall.name_of(0)
     (1, 0, 3, 'A1')
 
+In a file they have names too, and `extend` waits there until no transaction is open.
+
 A store has a lock, which each call takes: threads may share it and its transactions.
 """
 from typing import TYPE_CHECKING as _TYPE_CHECKING
@@ -105,6 +107,7 @@ from ._errors import (
     BadRollback,
     BadText,
     BusyError,
+    CannotExtend,
     CannotOpen,
     ClosedError,
     ConnectionLost,
@@ -159,6 +162,7 @@ __all__ = [
     "BadText",
     "Busy",
     "BusyError",
+    "CannotExtend",
     "CannotOpen",
     "ClosedError",
     "ConnectionLost",

@@ -51,7 +51,7 @@ def _keeping(steps: Steps[T], told: List[T]) -> Steps[None]:
 class Backend(ABC):
     """Where the transactions of a store run, with the lock and the sleepers of the store.
 
-    Each method is called under the lock, but for `run`, `interrupted`, and what is given back as a `Finish`.
+    Each method is called under the lock, but for `run`, `extend`, `interrupted`, and what is given back as a `Finish`.
 
     A signal handler may raise at any place in the main thread: it ends the call, and the store is to hold. So what a call
     has to do together is noted in `doing` first; and what the call left there is put right before the next one.
@@ -63,19 +63,19 @@ class Backend(ABC):
     put: Callable[[Slot], None]
     answer: Callable[[Slot], bytes]
 
-    def __init__(self, types: List[Type], blocker: Optional[Blocker] = None) -> None:
+    def __init__(self, blocker: Optional[Blocker] = None) -> None:
         self.lock = threading.RLock()
         # the thread that is in a turn of `transact`, and has the lock meanwhile
         self.turn_of = 0
         # whether a call in it was interrupted, which may have left the lock
         self.is_turn_cut = False
-        # they become more, at their end
-        self.types = types
+        # those of the objects, which become more at their end
+        self.types: List[Type] = []
         # the numbers of the objects that have names, and their names
         self.numbers: Dict[str, int] = {}
         self.names: Dict[int, str] = {}
-        self.sleepers = Sleepers(types, blocker)
-        self.counts = Counts(len(types))
+        self.sleepers = Sleepers(self.types, blocker)
+        self.counts = Counts()
         # how often a transaction has ended, or all of them; or more
         self.ends = 0
         # what puts right what was begun under the lock and isn't through; it may be done twice
@@ -235,8 +235,16 @@ class Backend(ABC):
 
     # ---- objects
 
+    def know(self, first: int, added: List[Given]) -> None:
+        """There are these objects from this number on. It may be done twice."""
+        self.types[first:] = [of for of, _ in added]
+        self.counts.begin_at(first, len(added))
+        for x, (_, name) in enumerate(added, first):
+            if name is not None:
+                self.numbers[name], self.names[x] = x, name
+
     def number_of(self, object: ObjectRef) -> int:
-        """The number of an object. Of a store in a file no object has a name. It needs no lock."""
+        """The number of an object. It needs no lock."""
         if object.__class__ is int and 0 <= object < NUMBERS:  # type: ignore[operator]
             return object  # type: ignore[return-value]
         if not isinstance(object, str):
@@ -356,6 +364,6 @@ class Backend(ABC):
         """Begins anew."""
         raise InMemoryOnly(InMemoryOnly.__doc__)
 
+    @abstractmethod
     def extend(self, added: List[Given]) -> int:
-        """Begins anew with more objects, and returns the number of the first of them."""
-        raise InMemoryOnly(InMemoryOnly.__doc__)
+        """Begins anew with more objects, and returns the number of the first of them. It is called without the lock."""

@@ -1,13 +1,18 @@
 """A durable store, over a child process `colock serve`."""
 import re
+import threading
+import time
+from contextlib import suppress
 from functools import partial
-from typing import TYPE_CHECKING, Callable, Collection, Dict, List, NoReturn, Optional, Tuple
+from typing import TYPE_CHECKING, Callable, Collection, Dict, List, NamedTuple, NoReturn, Optional, Sequence, Tuple
 from typing import Type as Class
 
 from ._backend import Backend, Finish, Steps
+from ._calls import Calls
 from ._connection import Connection, Slot
 from ._errors import (
     BadRollback,
+    CannotExtend,
     ClosedError,
     ConnectionLost,
     EpochEndedError,
@@ -17,14 +22,19 @@ from ._errors import (
     NoCall,
     NoMemory,
     NoObject,
+    NoObjects,
     NotOpenError,
     OutcomeUnknown,
+    Refused,
+    TimedOut,
+    TooManyObjects,
     TooManyOpenError,
 )
 from ._events import Event, read_event
+from ._object_files import room_for_words, write_objects
+from ._objects import MOST_OBJECTS, Given, check_names
 from ._outcomes import Archive, outcome_in
 from ._replies import Busy, Operation, Reply
-from ._types import Type
 
 if TYPE_CHECKING:
     from ._transaction import Transaction
@@ -42,6 +52,18 @@ REFUSALS: Dict[str, Class[Error]] = {
     "BadRollback": BadRollback,
 }
 STATS = re.compile(rb"ok events ([0-9]+) begun [0-9]+ open ([0-9]+)")
+# That the type of an object isn't accepted.
+NOT_ACCEPTED = re.compile(r"# object [0-9]+ no ([A-Za-z]+)((?: [0-9]+)*)")
+# The most bytes of a request, and how long it is waited before one is made again that was answered `busy drain`.
+LONGEST_REQUEST = 4_096
+SECONDS_OF_DRAIN = 0.01
+
+
+class Extending(NamedTuple):
+    """What an extension needs: the program, which writes texts of types; and how many seconds a command and an epoch may take."""
+
+    program: str
+    limit: float
 
 
 class Child(Backend):
@@ -50,10 +72,12 @@ class Child(Backend):
     Answers are awaited without the lock.
     """
 
-    def __init__(self, connection: Connection, life: int, types: List[Type], archive: Optional[Archive]) -> None:
+    def __init__(self, connection: Connection, life: int, objects: List[Given], archive: Optional[Archive], extending: Extending) -> None:
         """The store that was opened in this life."""
         self._connection, self._is_closed, self._has_finished = connection, False, False
-        super().__init__(types)
+        super().__init__()
+        # one extension goes on at a time, in a thread of its own, which no signal handler interrupts
+        self._extending, self._one_extension = extending, threading.Lock()
         self.life = self._first_life = life
         self._archive = archive
         self._found = connection.found()
@@ -62,7 +86,8 @@ class Child(Backend):
         # the number of the last end or rollback, and for each object of the last one that let go there
         self._last_end = 0
         self._let_go: Dict[int, int] = {}
-        self._calls = [of._calls for of in types]
+        self._calls: List[Calls] = []
+        self.know(0, objects)
         # the request for the end
         self._last: Optional[Slot] = None
         connection.on_loss = self.sleepers.ring_all
@@ -94,6 +119,80 @@ class Child(Backend):
         if kind is None:
             self._break(answer)
         raise kind(kind.__doc__)
+
+    # ---- objects
+
+    def know(self, first: int, added: List[Given]) -> None:
+        super().know(first, added)
+        self._calls[first:] = [of._calls for of, _ in added]
+
+    def extend(self, added: List[Given]) -> int:
+        self.run(self._check_connection)
+        for of, _ in added:
+            of._use()
+        work = _Work(partial(self._extend, added))
+        work.start()
+        return work.result()
+
+    def _extend(self, added: List[Given]) -> int:
+        """Adds objects, after those that others add."""
+        with self._one_extension:
+            self.run(partial(self._check_addition, added))
+            with room_for_words() as folder:
+                try:
+                    files = write_objects(self._extending.program, folder, added, self._extending.limit)
+                except OSError as error:
+                    raise CannotExtend(str(error)) from error
+                return self._extend_by(files, added)
+
+    def _check_addition(self, added: List[Given]) -> None:
+        """That these objects may be added, as far as is known."""
+        check_names(added, self.numbers)
+        if not added:
+            raise NoObjects(NoObjects.__doc__)
+        if len(self.types) + len(added) > MOST_OBJECTS:
+            raise TooManyObjects(TooManyObjects.__doc__)
+
+    def _extend_by(self, files: Sequence[str], added: List[Given]) -> int:
+        """Adds the objects of these files, which are asked for again where the program adds others, within the limit."""
+        deadline = time.monotonic() + self._extending.limit
+        while True:
+            first: Optional[int] = self.run(partial(self._extension, files, added))
+            if first is not None:
+                return first
+            if time.monotonic() >= deadline:
+                raise TimedOut("objects are added, and the next epoch doesn't begin")
+            time.sleep(SECONDS_OF_DRAIN)
+
+    def _extension(self, files: Sequence[str], added: List[Given]) -> Slot:
+        """The request for more objects."""
+        self._check_connection()
+        slot = self._connection.made_late(" ".join(["extend", *files]), self._look)
+        if len(slot.line) > LONGEST_REQUEST:
+            raise CannotExtend(f"a request has {LONGEST_REQUEST} bytes, in which {len(files) - 1} types have no room")
+        slot.then = partial(self._extended, added, self.life)
+        return slot
+
+    def _look(self) -> None:
+        """Lets the program look at its clock, so that it ends an epoch whose time is over."""
+        with suppress(ClosedError, ConnectionLost):
+            self.run(self.open_count)
+
+    def _extended(self, added: List[Given], life: int, answer: bytes) -> Optional[int]:
+        """The number of the first new object, by the answer to what was asked in a life; None where others are added."""
+        if answer == b"busy drain":
+            return None
+        if answer.startswith(b"no "):
+            _refuse_objects(answer[3:].decode("ascii", "replace"))
+        first = len(self.types)
+        if answer != b"ok %d" % first:
+            self._refuse(answer)
+        self.know(first, added)
+        # where a transaction has begun since then, the life is known
+        if self.life == life:
+            self._end_life()
+            self.life = life + 1
+        return first
 
     # ---- transactions
 
@@ -506,6 +605,7 @@ class Child(Backend):
 
     def after_fork(self) -> None:
         super().after_fork()
+        self._one_extension = threading.Lock()
         self._is_closed = self._has_finished = True
         self.left.clear()
         self._connection.after_fork()
@@ -513,3 +613,37 @@ class Child(Backend):
     def __del__(self) -> None:
         if not self._has_finished:
             self._connection.let_go()
+
+
+class _Work(threading.Thread):
+    """What is done by a thread of its own, to its end, also where whoever waits for it is interrupted."""
+
+    def __init__(self, act: Callable[[], int]) -> None:
+        super().__init__(name="colock extension", daemon=True)
+        self._act, self._told = act, 0
+        self._error: Optional[BaseException] = None
+
+    def run(self) -> None:
+        try:
+            self._told = self._act()
+        except BaseException as error:
+            self._error = error
+
+    def result(self) -> int:
+        """What came of it."""
+        self.join()
+        if self._error is not None:
+            raise self._error
+        return self._told
+
+
+def _refuse_objects(why: str) -> NoReturn:
+    """Raises why no objects were added, by the words of the program."""
+    words = NOT_ACCEPTED.fullmatch(why)
+    if words is not None:
+        raise Refused(words[1], tuple(map(int, words[2].split())))
+    if why == "TooLarge":
+        raise TooManyObjects(TooManyObjects.__doc__)
+    if why == "no memory":
+        raise NoMemory(NoMemory.__doc__)
+    raise CannotExtend(why)

@@ -12,6 +12,8 @@ from ._errors import CannotOpen, ConnectionLost
 
 # A line of an answer is shorter by far: a name has at most 32 bytes.
 LONGEST_LINE = 4096
+# How often who waits for a late answer asks something else: the program looks at its clock where a line comes.
+SECONDS_BETWEEN_LOOKS = 0.2
 # How long a program may take to end that has closed its output, or was killed.
 SECONDS_TO_END = 1.0
 # How much of what the program said is read.
@@ -54,7 +56,7 @@ class Slot:
 
     def take(self, line: bytes) -> bool:
         """Takes a line, and returns whether the answer is whole. Raises `NoAnswer`."""
-        if not line.startswith(self._start):
+        if not self.owns(line):
             raise NoAnswer(f"the answer {line[:80]!r} came, and not one behind {self._start!r}")
         rest = line[len(self._start) :]
         if self.is_list and rest != b"ok" and not rest.startswith((b"refused ", b"fault ")):
@@ -63,6 +65,10 @@ class Slot:
         self.answer = rest
         self.end()
         return True
+
+    def owns(self, line: bytes) -> bool:
+        """Whether a line is one of its answer."""
+        return line.startswith(self._start)
 
     def forget(self) -> None:
         """It isn't a question any more, so that it keeps nothing alive."""
@@ -81,16 +87,35 @@ class Slot:
         """Waits for the answer, and returns whether it is there, or known not to come."""
         if self._is_over:
             return True
-        # each wait has a bell of its own, so that one which is interrupted takes nothing from another
-        bell = threading.Lock()
-        bell.acquire()
-        self._bells.append(bell)
+        bell = self._new_bell()
         # who ends it marks that first and rings then
         return self._is_over or bell.acquire(timeout=seconds) or self._is_over
 
+    def _new_bell(self) -> threading.Lock:
+        """What rings once it is over. Each wait has one of its own, so that one which is interrupted takes nothing from another."""
+        bell = threading.Lock()
+        bell.acquire()
+        self._bells.append(bell)
+        return bell
+
+
+class LateSlot(Slot):
+    """A request whose answer may come after those to later ones. Who waits for it does something from time to time."""
+
+    __slots__ = ("meanwhile",)
+
+    meanwhile: Callable[[], None]
+
+    def wait(self, seconds: float) -> bool:
+        """Waits for the answer however long that takes."""
+        bell = self._new_bell()
+        while not (self._is_over or bell.acquire(timeout=SECONDS_BETWEEN_LOOKS)):
+            self.meanwhile()
+        return True
+
 
 class Connection:
-    """A process that answers lines, in their order. Requests are put under a lock of the caller.
+    """A process that answers lines, in their order, but for some that may be late. Requests are put under a lock of the caller.
 
     A thread reads the answers. It takes no lock of the store, and knows nothing of it: where nobody has the store
     any more, the pipe is closed, and the process ends by itself.
@@ -109,8 +134,9 @@ class Connection:
         # what is in flight, and what was put last, which may not be written
         self._requests: Deque[Slot] = deque()
         self._last: Optional[Slot] = None
-        # the request whose answer is being read
+        # the request whose answer is being read, and those whose answers are late
         self._head: Optional[Slot] = None
+        self._late: Deque[Slot] = deque()
         self._said = tempfile.TemporaryFile()
         self._process = self._started(words)
         self._to, self._from = _ends(self._process)
@@ -136,6 +162,13 @@ class Connection:
         self._count += 1
         return Slot(self._count, words, is_list)
 
+    def made_late(self, words: str, meanwhile: Callable[[], None]) -> Slot:
+        """A request that isn't put yet, whose answer may be late."""
+        self._count += 1
+        slot = LateSlot(self._count, words, False)
+        slot.meanwhile = meanwhile
+        return slot
+
     def put(self, slot: Slot) -> None:
         """Puts a request: those that were put before it are done before it. A second time does nothing.
 
@@ -145,7 +178,8 @@ class Connection:
             return
         last = self._last
         if last is not None and not last.written:
-            self._take_back(last)
+            # it isn't in flight, since a signal handler came before
+            _remove(self._requests, last)
         self._last = slot
         # it is in flight before it is looked whether all is over: who sees the end marks that first, and then ends all
         self._requests.append(slot)
@@ -161,13 +195,6 @@ class Connection:
             # where the program has ended the reader says why, with what it said
             self._reader.join(2 * SECONDS_TO_END)
             self.lose(f"the program takes no requests: {error}")
-
-    def _take_back(self, last: Slot) -> None:
-        """What was put last isn't in flight where it wasn't written, since a signal handler came before."""
-        try:
-            self._requests.remove(last)
-        except ValueError:
-            pass
 
     def send(self, words: str, is_list: bool = False) -> Slot:
         """A request that is put."""
@@ -192,12 +219,13 @@ class Connection:
 
     def _end_all(self) -> None:
         """What is in flight gets no answer. Where it is lost, whoever sleeps is woken."""
-        while True:
-            try:
-                slot = self._requests.popleft()
-            except IndexError:
-                break
-            slot.end()
+        for waiting in self._requests, self._late:
+            while True:
+                try:
+                    slot = waiting.popleft()
+                except IndexError:
+                    break
+                slot.end()
         if self.lost is not None:
             self.on_loss()
 
@@ -229,21 +257,33 @@ class Connection:
     def _take(self, line: bytes) -> None:
         slot, self._head = self._head, None
         if slot is None:
-            try:
-                slot = self._requests.popleft()
-            except IndexError:
-                raise NoAnswer(f"the answer {line[:80]!r} came, and nothing was asked") from None
+            slot = self._asked(line)
         # it is the head also where the line isn't an answer, so that it is failed
         self._head = slot
         if slot.take(line):
             self._head = None
+
+    def _asked(self, line: bytes) -> Slot:
+        """The request that a line answers: one that is late, or the next one. Raises `NoAnswer` where nothing was asked."""
+        late = next((slot for slot in list(self._late) if slot.owns(line)), None) if self._late else None
+        if late is not None:
+            _remove(self._late, late)
+            return late
+        while True:
+            try:
+                slot = self._requests.popleft()
+            except IndexError:
+                raise NoAnswer(f"the answer {line[:80]!r} came, and nothing was asked") from None
+            if not isinstance(slot, LateSlot) or slot.owns(line):
+                return slot
+            self._late.append(slot)
 
     def _end_reading(self, why: Optional[str]) -> None:
         """No answer comes any more: the process is reaped, and what is in flight is failed."""
         if why is not None:
             self._process.kill()
         status = self._reaped()
-        if not self._is_ending or self._head or self._requests or status or why:
+        if not self._is_ending or self._head or self._requests or self._late or status or why:
             self._reasons.append(why or self._told_end(status))
             self.lost = self._reasons[0]
         self._is_over = True
@@ -329,6 +369,14 @@ class Connection:
 
 def _nothing() -> None:
     """A loss wakes nobody."""
+
+
+def _remove(slots: Deque[Slot], slot: Slot) -> None:
+    """Takes one out, where it is there."""
+    try:
+        slots.remove(slot)
+    except ValueError:
+        pass
 
 
 def _ends(process: "subprocess.Popen[bytes]") -> Tuple[int, int]:

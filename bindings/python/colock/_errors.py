@@ -170,6 +170,14 @@ class InUse(CannotOpen):
     """Another process has the file open, or makes it."""
 
 
+class CannotExtend(Error, OSError):
+    """A store in a file got no more objects: `words` say what the program said, or why it wasn't asked."""
+
+    def __init__(self, words: str) -> None:
+        super().__init__(words)
+        self.words = words
+
+
 class OtherObjects(Error, ValueError):
     """The objects of the file aren't those that were given: the words name the first that differs."""
 
@@ -191,7 +199,7 @@ class TooManyStates(Error, ValueError):
 
 
 class NoObjects(Error, ValueError):
-    """A store of no object."""
+    """A store of no object, or one in a file that is extended by none."""
 
 
 class TooManyObjects(Error, ValueError):

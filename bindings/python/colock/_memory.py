@@ -37,11 +37,11 @@ class Memory(Backend):
         events, opens = unsigned("the limit of events", limits.events, 64), unsigned("the limit of open transactions", limits.open, 32)
         objects = unsigned("the limit of objects", limits.objects, 32)
         _begin_store(self._handle, first)
-        super().__init__([], _blocker_in(self._handle))
+        super().__init__(_blocker_in(self._handle))
         self.life = 0
         # the replies are made once, and what a call writes into is used again: all of it is under the lock
         self._replies: List[Dict[int, Operation]] = []
-        self._know(0, first)
+        self.know(0, first)
         self._answer, self._number = _library.Answer(), ctypes.c_uint64()
         # the number that was begun last
         self._begun = ctypes.c_uint64(_NOBODY)
@@ -287,6 +287,9 @@ class Memory(Backend):
             self.life = life
 
     def extend(self, added: List[Given]) -> int:
+        return self.run(lambda: self._extend(added))
+
+    def _extend(self, added: List[Given]) -> int:
         check_names(added, self.numbers)
         self.put_right()
         first, life, begun = len(self.types), self.life + 1, _Begun(added)
@@ -307,17 +310,12 @@ class Memory(Backend):
     def _has_extended(self, life: int, first: int, added: List[Given]) -> None:
         """What follows from an extension. It may be done twice, as what follows from a renewal."""
         if self.life != life:
-            self._know(first, added)
+            self.know(first, added)
             self._has_renewed(life)
 
-    def _know(self, first: int, added: List[Given]) -> None:
-        """There are these objects from this number on. It may be done twice."""
-        self.types[first:] = [of for of, _ in added]
+    def know(self, first: int, added: List[Given]) -> None:
+        super().know(first, added)
         self._replies[first:] = [of._calls.replies for of, _ in added]
-        self.counts.begin_at(first, len(added))
-        for x, (_, name) in enumerate(added, first):
-            if name is not None:
-                self.numbers[name], self.names[x] = x, name
 
     def committed(self, life: int, number: int) -> Optional[bool]:
         # the history of an earlier life isn't there any more

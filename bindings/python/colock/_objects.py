@@ -1,4 +1,4 @@
-"""The objects of a store in memory, as they are given: their types, and names of those that have one."""
+"""The objects of a store, as they are given: their types, and names of those that have one."""
 import re
 from typing import Container, Iterable, List, Mapping, NamedTuple, Optional, Set, Tuple, Union
 
@@ -10,6 +10,8 @@ ObjectRef = Union[int, str]
 # Objects of a store that is to be made: types, and pairs of a name or None and a type; or types by their names.
 Objects = Union[Mapping[str, Type], Iterable[Union[Type, Tuple[Optional[str], Type]]]]
 
+# The most objects of a store.
+MOST_OBJECTS = 65_536
 NAME = re.compile(r"[a-zA-Z0-9_:./-]{1,64}")
 
 

@@ -4,7 +4,6 @@ from typing import Iterable, List, NamedTuple, Optional, Sequence, Tuple
 
 from ._events import Event, EventKind
 
-MOST_OBJECTS = 256
 ENDS = {EventKind.COMMIT: True, EventKind.ABORT: False}
 
 
@@ -48,5 +47,7 @@ class Archive(NamedTuple):
                 lines = file.read().split(b"\n")
         except FileNotFoundError:
             return None
-        objects = sum(line.startswith(b"object ") for line in lines[:MOST_OBJECTS])
-        return lines[objects : lines.index(b"end")] if b"end" in lines else None
+        if b"end" not in lines:
+            return None
+        first = next(place for place, line in enumerate(lines) if not line.startswith(b"object"))
+        return lines[first : lines.index(b"end")]

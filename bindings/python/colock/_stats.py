@@ -1,5 +1,5 @@
 """What a client counts."""
-from typing import NamedTuple, Tuple
+from typing import List, NamedTuple, Tuple
 
 
 class Stats(NamedTuple):
@@ -23,9 +23,9 @@ class Stats(NamedTuple):
 class Counts:
     """The same, as it grows."""
 
-    def __init__(self, objects: int) -> None:
+    def __init__(self) -> None:
         self.commits = self.aborts = self.waits = self.deadlocks = self.timeouts = 0
-        self.busy = [0] * objects
+        self.busy: List[int] = []
         self.waited = 0.0
 
     def begin_at(self, first: int, objects: int) -> None:

@@ -22,7 +22,6 @@ from ._opening import Opening, open_child
 from ._outcomes import read_id
 from ._stats import Stats
 from ._transaction import Transaction
-from ._types import Type
 from ._waiting import Waiting, finished
 
 T = TypeVar("T")
@@ -41,8 +40,8 @@ SECONDS_OF_DRAIN = 0.01
 class Store:
     """A store of objects, which are numbered from 0: in memory, or by `Store.open` in a file. A `with` closes it.
 
-    In memory an object may have a name too, of 1 to 64 bytes of a-z, A-Z, 0-9, `_`, `:`, `-`, `.` and `/`, which no other
-    object of the store has. Each method takes an object by its number or its name, and raises `NoObject` where there is none.
+    An object may have a name too, of 1 to 64 bytes of a-z, A-Z, 0-9, `_`, `:`, `-`, `.` and `/`, which no other object of the
+    store has. Each method takes an object by its number or its name, and raises `NoObject` where there is none.
 
     Each call takes the lock of the store, so threads may share it. In a fork of the process it is closed.
     """
@@ -71,7 +70,7 @@ class Store:
     def open(
         cls,
         path: Path,
-        objects: Optional[Iterable[Type]] = None,
+        objects: Optional[Objects] = None,
         *,
         create: bool = False,
         archive: Optional[Path] = None,
@@ -83,20 +82,20 @@ class Store:
         """Opens the store in the file at a path, for this client alone.
 
         A child process `colock serve` has it open: what a commit answers is durable, and survives that process and
-        this one. The objects are those of the file. Where `objects` are given they are compared with these; and
-        where nothing is at the path and `create`, the file is made of them.
+        this one. The objects are those of the file, with their names. Where `objects` are given, as to `Store`, they are
+        compared with these; and where nothing is at the path and `create`, the file is made of them.
 
         `archive` is a folder that keeps the history of each epoch, made where it isn't there; several stores may
         share it. `fast` supposes that the disk tears no write apart. `drain` is how many seconds what is open may go
         on in a full epoch, 5 where it isn't given. `program` is the program; else `COLOCK` of the environment names
         it, or it is a file `colock` beside the package, or on PATH. `limit` is how many seconds an answer may take.
 
-        Raises `CannotOpen`, `OtherObjects`, `ValueError` where `create` comes without objects or `limit` isn't above
-        0, or `OverflowError` where `drain` isn't a number of 32 bits.
+        Raises `CannotOpen`, `OtherObjects`, `BadName`, `NameTaken`, `TooManyObjects`, `ValueError` where `create` comes without
+        objects or `limit` isn't above 0, or `OverflowError` where `drain` isn't a number of 32 bits.
         """
         opening = Opening(
             os.path.abspath(os.fspath(path)),
-            None if objects is None else tuple(objects),
+            None if objects is None else given(objects),
             create,
             None if archive is None else os.path.abspath(os.fspath(archive)),
             fast,
@@ -128,7 +127,7 @@ class Store:
         """Begins a transaction, as a worker, which is a number below 256 that its events have.
 
         It is open until it commits or aborts, nobody has it any more, or the store is closed. In a file, where an epoch
-        is full, it waits for the next one. Raises `TooManyOpenError`, `HistoryFullError`, `NoMemory` or `ClosedError`; of a store in
+        is full or objects are added, it waits for the next one. Raises `TooManyOpenError`, `HistoryFullError`, `NoMemory` or `ClosedError`; of a store in
         a file `ConnectionLost`, `TimedOut` where the next epoch doesn't come, or `InMemoryOnly` of a worker other than 0.
         """
         t = Transaction(self, unsigned("the worker", worker, 8), next(self._ages))
@@ -157,7 +156,7 @@ class Store:
             time.sleep(SECONDS_OF_DRAIN)
             if self._begins_now(t):
                 return
-        raise TimedOut("the epoch is full, and the next one doesn't begin")
+        raise TimedOut("the epoch is full, or objects are added, and the next one doesn't begin")
 
     def _begin_in_room(self, t: Transaction) -> None:
         """Begins a transaction, where too many are open when one has ended."""
@@ -259,7 +258,7 @@ class Store:
                     finished(done[1])
                     return done[0]
                 if time.monotonic() >= deadline:
-                    raise TimedOut("the epoch is full, and the next one doesn't begin")
+                    raise TimedOut("the epoch is full, or objects are added, and the next one doesn't begin")
                 time.sleep(SECONDS_OF_DRAIN)
         except BaseException as error:
             self._backend.end_turn()
@@ -392,12 +391,21 @@ class Store:
     def extend(self, types: Objects) -> int:
         """Begins anew, as `renew`, with more objects, and returns the number of the first of them.
 
-        They come after those that there are, each in its initial state, and are given as to `Store`. Raises `BadName`,
-        `NameTaken`, `StillOpenError`, `TooManyObjects`, `NoMemory`, `InMemoryOnly`, or `ClosedError` of the store or a type.
+        They come after those that there are, each in its initial state, and are given as to `Store`. In a file it waits, and
+        no transaction begins meanwhile, until all that are open have ended or the `drain` of `open` is over, which aborts them;
+        it is durable then. Where it is interrupted, the objects may still be added.
+
+        Raises `BadName`, `NameTaken`, `TooManyObjects`, `NoMemory`, or `ClosedError` of the store or a type; in memory
+        `StillOpenError`; of a store in a file `NoObjects`, `CannotExtend`, `TimedOut` where others go on adding objects, or
+        `ConnectionLost`, after which the file has all of the objects or none of them.
         """
         added = given(types)
         self._check_no_turn()
-        return self._told(lambda: self._backend.extend(added))
+        try:
+            return self._backend.extend(added)
+        except BaseException as error:
+            self._backend.interrupted(error)
+            raise
 
     # ---- the end
 

@@ -10,7 +10,7 @@ from typing import Any, Callable, FrozenSet, Hashable, Iterable, List, NamedTupl
 from . import _library
 from ._bounds import Bounds, bounds_of, may_block
 from ._calls import Calls
-from ._errors import BadParameter, NoOperation, done, type_error
+from ._errors import BadParameter, NoOperation, done, error_of, type_error
 from ._library import functions, unsigned
 from ._operations import number_of
 from ._steps import grid, labelled
@@ -320,6 +320,12 @@ class Type:
             conflicts = tuple(self._conflicts(p, q) for p in numbers for q in numbers)
             self._all = (self.name, self.kind, self.states, self.initial, self.operations, steps, conflicts)
         return self._all
+
+    def _use(self) -> None:
+        """A store has it, which may ask later what it is asked here. Raises `ClosedError` where it is closed."""
+        self._is_used = True
+        if not self._handle.live:
+            raise error_of(_library.NOT_HELD)
 
     def _add_to(self, store: _library.Handle) -> None:
         """Adds an object of it to a store that was begun. Raises `NoMemory` or `ClosedError`."""

@@ -12,7 +12,7 @@ import time
 
 import colock
 from colock import Store, Type
-from colock._opening import find_program
+from colock._program import find_program
 
 THREADS = 16
 THINK = 0.001

@@ -20,7 +20,7 @@ import time
 import colock
 from colock import Busy, EventKind, Kind, NoOperation, Operation, Store, Type
 from colock._operations import number_of
-from colock._opening import find_program
+from colock._program import find_program
 
 THREADS = 8
 OBJECTS = 4

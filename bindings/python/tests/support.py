@@ -13,7 +13,7 @@ import warnings
 from contextlib import closing
 
 import colock
-from colock._opening import find_program
+from colock._program import find_program
 
 QUICK = os.environ.get("COLOCK_TESTS") == "quick"
 # How long a test waits for what has to come.

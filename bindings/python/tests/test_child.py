@@ -132,7 +132,7 @@ class Opening(Files):
             with self.assertRaises(colock.CannotOpen) as raised:
                 Store.open(self.path)
             self.assertIn("COLOCK", raised.exception.words)
-        with mock.patch.dict(os.environ, {"COLOCK": "", "PATH": self.folder}), mock.patch("colock._opening.PROGRAM", "no-colock"):
+        with mock.patch.dict(os.environ, {"COLOCK": "", "PATH": self.folder}), mock.patch("colock._program.PROGRAM", "no-colock"):
             with self.assertRaises(colock.CannotOpen) as raised:
                 Store.open(self.path)
             self.assertIn("COLOCK of the environment isn't set", raised.exception.words)

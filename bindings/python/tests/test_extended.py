@@ -144,12 +144,5 @@ class Extended(support.InMemory, unittest.TestCase):
         self.assertEqual(keeps(store, objects), [3] * objects)
 
 
-class OverChild(support.OverChild, unittest.TestCase):
-    def test_only_a_store_in_memory_is_extended(self):
-        store = self.make([COUNTER])
-        self.assertRaises(colock.InMemoryOnly, store.extend, [COUNTER])
-        self.assertEqual(store.kept(0), 0)
-
-
 if __name__ == "__main__":
     unittest.main()

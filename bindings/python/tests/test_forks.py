@@ -42,6 +42,7 @@ class Forks:
         for act in (
             store.begin, store.open_count, store.events, store.event_count, t.commit, t.abort, lambda: store.kept(0), lambda: store.retry(lambda t: None),
             lambda: t.call(0, "inc:1"), lambda: t.call(0, "inc:1", wait=60), lambda: t.would(0, "inc:1"), lambda: store.transact(lambda t: None),
+            lambda: store.extend([COUNTER]),
         ):
             self.assertRaises(colock.ClosedError, act)
         store.close()

@@ -133,14 +133,5 @@ class Hall(unittest.TestCase):
             self.assertRaises(colock.TooManyObjects, store.extend, {"B1001": SEAT})
 
 
-class OverChild(support.OverChild, unittest.TestCase):
-    def test_no_object_has_a_name(self):
-        store = self.make([COUNTER])
-        with store.begin() as t:
-            for ask in (store.kept, store.find, lambda name: t.call(name, "inc:1"), lambda name: t.would_op(name, 0)):
-                self.assertRaises(colock.NoObject, ask, "a")
-            self.assertEqual((t.expect(0, "inc:1", "ok").reply, store.name_of(0)), ("ok", None))
-
-
 if __name__ == "__main__":
     unittest.main()

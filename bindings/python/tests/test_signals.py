@@ -426,6 +426,28 @@ class CallsInMemory(support.InMemory, Calls, unittest.TestCase):
 class CallsOverAChild(support.OverChild, Calls, unittest.TestCase):
     """Over a child."""
 
+    def test_extend(self):
+        """It goes on by itself where it was asked for, and otherwise nothing is added."""
+        store, of, added = self.make([COUNTER], fast=True), Type(support.TWO), []
+
+        def turn(handler):
+            count, name = len(added) + 1, f"x{handler.left}"
+            was_raised = handler.during(lambda: store.extend([(name, of)]))
+            until(lambda: not any(each.name == "colock extension" and each.is_alive() for each in threading.enumerate()), "the end")
+            if store.name_of(count) is None:
+                self.assertTrue(was_raised)
+                self.assertRaises(colock.NoObject, store.kept, count)
+            else:
+                added.append(name)
+                store.transact(lambda t: t.expect(name, "take", "ok"))
+                self.assertEqual((store.find(name), store.name_of(count)), (count, name))
+            self.assertEqual((store.open_count(), store.kept(0)), (0, 0))
+            return was_raised
+
+        self.at_each(turn)
+        self.assertGreater(STEP * len(added), 5)
+        self.assertEqual([store.name_of(x) for x in range(len(added) + 1)], [None, *added])
+
     def test_close(self):
         def turn(handler):
             store = self.make([COUNTER], fast=True)

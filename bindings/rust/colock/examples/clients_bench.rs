@@ -161,7 +161,7 @@ fn turns(limit: Duration) -> Result<(), Error> {
 fn child(limit: Duration, path: &str) -> Result<(), Error> {
     let wheel = wheel()?;
     for (name, is_fast) in [("child_store", false), ("child_fast_store", true)] {
-        let store = OpenOptions::new().objects(&[&wheel]).create(true).fast(is_fast).open(path)?;
+        let store = OpenOptions::new().objects([&wheel]).create(true).fast(is_fast).open(path)?;
         let tick = store.call_number(0, "tick")?;
         let shared = per_second(THREADS, limit, |_, _| {
             let mut t = store.begin().unwrap();
@@ -210,7 +210,7 @@ fn herd_in_memory() -> Result<(), Error> {
 }
 
 fn herd_over_child(path: &str) -> Result<(), Error> {
-    let store = OpenOptions::new().objects(&[&Type::read(TOKEN, Kind::Undo)?]).create(true).open(path)?;
+    let store = OpenOptions::new().objects([&Type::read(TOKEN, Kind::Undo)?]).create(true).open(path)?;
     herd(&store, "herd_child_store")?;
     store.close()
 }

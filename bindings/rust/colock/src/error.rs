@@ -36,7 +36,7 @@ pub enum Error {
     },
     /// The checker refuses the type for this kind of recovery.
     Refused(CheckRefusal),
-    /// A store of no object.
+    /// A store of no object, or one in a file that is extended by none.
     NoObjects,
     /// A store of more objects than it may have: 256, or what its [`Limits`](crate::Limits) say.
     TooManyObjects,
@@ -91,6 +91,8 @@ pub enum Error {
     Closed,
     /// A file wasn't opened or made, by the words of the program, or by why it wasn't started.
     CannotOpen(Failure),
+    /// A store in a file got no more objects, by the words of the program, or by why it wasn't asked.
+    CannotExtend(Failure),
     /// The objects of the file aren't those that were given.
     OtherObjects,
     /// Only a store in memory does this.
@@ -319,6 +321,7 @@ impl Error {
             Error::OutcomeUnknown(id) => write!(f, "the store was lost while transaction {id} was committed"),
             Error::Closed => f.write_str("the store is closed"),
             Error::CannotOpen(words) => write!(f, "the store can't be opened: {words}"),
+            Error::CannotExtend(words) => write!(f, "no objects were added: {words}"),
             Error::OtherObjects => f.write_str("the store has other objects"),
             Error::InTurn => f.write_str("the thread is in a turn of the store, for whose end this would wait"),
             Error::InMemoryOnly => f.write_str("only a store in memory does this"),
@@ -356,7 +359,7 @@ impl fmt::Display for NotFollowed {
 impl std::error::Error for Error {
     fn source(&self) -> Option<&(dyn std::error::Error + 'static)> {
         match self {
-            Error::CannotOpen(failure) => Some(failure.io_error()?),
+            Error::CannotOpen(failure) | Error::CannotExtend(failure) => Some(failure.io_error()?),
             _ => None,
         }
     }

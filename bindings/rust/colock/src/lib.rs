@@ -69,8 +69,9 @@
 //!
 //! # Names, and more objects
 //!
-//! An object of a store in memory may have a name, by which calls then have it ([`NewObject`], [`ObjectRef`]). While no
-//! transaction is open a store gets more objects: [`Store::extend`] begins anew with them, at the states that are kept.
+//! An object may have a name, by which calls then have it ([`NewObject`], [`ObjectRef`]). While no transaction is open a store
+//! gets more objects: [`Store::extend`] begins anew with them, at the states that are kept. In a file [`SharedStore::extend`]
+//! waits until none is open, and the file keeps the names.
 //!
 //! ```
 //! use colock::{Kind, Store, Type};
@@ -167,7 +168,7 @@
 //!
 //! let seats = Type::set(&["a1", "a2", "b1"], Kind::Undo)?;
 //! let path = std::env::temp_dir().join("seats.db");
-//! let options = OpenOptions::new().objects(&[&seats]).create(true);
+//! let options = OpenOptions::new().objects([&seats]).create(true);
 //! let store = options.clone().open(&path)?;
 //! let mut transaction = store.begin()?;
 //! transaction.expect(0, "insert:a1", "ok")?;

@@ -65,7 +65,7 @@ impl ObjectRef for Object<'_> {
     }
 }
 
-/// An object that a store in memory is to have: its type, and its name where it has one.
+/// An object that a store is to have: its type, and its name where it has one.
 ///
 /// A name has 1 to 64 bytes of `a-z`, `A-Z`, `0-9`, `_`, `:`, `-`, `.` and `/`, and no other object of the store has it. An
 /// object may be given as its type, or as a pair of a name and its type. A list that has both is one of these:
@@ -91,8 +91,20 @@ impl<'t> From<&'t Type> for NewObject<'t> {
     }
 }
 
+impl<'t> From<&&'t Type> for NewObject<'t> {
+    fn from(of: &&'t Type) -> Self {
+        NewObject { name: None, of }
+    }
+}
+
 impl<'t> From<(&'t str, &'t Type)> for NewObject<'t> {
     fn from((name, of): (&'t str, &'t Type)) -> Self {
+        NewObject { name: Some(Cow::Borrowed(name)), of }
+    }
+}
+
+impl<'t> From<&(&'t str, &'t Type)> for NewObject<'t> {
+    fn from((name, of): &(&'t str, &'t Type)) -> Self {
         NewObject { name: Some(Cow::Borrowed(name)), of }
     }
 }

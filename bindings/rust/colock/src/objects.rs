@@ -9,6 +9,9 @@ use std::collections::{HashMap, HashSet};
 use std::iter::repeat_with;
 use std::sync::{Arc, OnceLock, PoisonError, RwLock};
 
+/// The most objects of a store.
+pub(crate) const MOST_OBJECTS: usize = 65_536;
+
 /// The longest name, in bytes.
 const LONGEST_NAME: usize = 64;
 
@@ -41,11 +44,6 @@ impl Objects {
         let left = most.saturating_sub(first.len());
         let known = first.into_iter().map(OnceLock::from).chain(repeat_with(OnceLock::new).take(left)).collect();
         Objects { known, numbers, later_numbers: RwLock::default() }
-    }
-
-    /// Those of these types, none of which has a name.
-    pub(crate) fn unnamed(types: &[Type]) -> Objects {
-        Objects::of(types.iter().map(|of| Known { of: of.clone(), name: None }).collect(), types.len())
     }
 
     /// None yet, of a store that isn't made.
@@ -125,6 +123,10 @@ impl Objects {
 impl Known {
     pub(crate) fn of(&self) -> &Type {
         &self.of
+    }
+
+    pub(crate) fn name(&self) -> Option<&str> {
+        self.name.as_deref()
     }
 }
 

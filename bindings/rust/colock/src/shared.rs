@@ -15,14 +15,13 @@ use crate::limits::Limits;
 use crate::locks::locked;
 use crate::memory::store::Store;
 use crate::object::{NewObject, Object};
-use crate::objects::Objects;
+use crate::objects::{Known, Objects, MOST_OBJECTS};
 use crate::reply::{Outcome, Reply};
 use crate::shared::in_turn::InTurn;
 use crate::shared::state::{Held, State, Ticket};
 use crate::shared::transaction::{OwnedTransaction, SharedTransaction};
 use crate::transaction_id::TransactionId;
 use crate::types::calls::Calls;
-use crate::types::Type;
 use crate::wire::remote::{Remote, RemoteState};
 use std::fmt;
 use std::sync::atomic::{AtomicBool, Ordering};
@@ -119,8 +118,8 @@ impl SharedStore {
     }
 
     /// A store behind a child that was greeted.
-    pub(crate) fn of_remote(remote_state: RemoteState, types: &[Type], life: u64, remote: Remote) -> SharedStore {
-        let objects = Arc::new(Objects::unnamed(types));
+    pub(crate) fn of_remote(remote_state: RemoteState, found: Vec<Known>, life: u64, remote: Remote) -> SharedStore {
+        let objects = Arc::new(Objects::of(found, MOST_OBJECTS));
         let store = SharedStore::of(Held::Remote(remote_state), objects, life, Some(remote));
         if let Some(remote) = &store.remote {
             remote.link.belongs_to(&store.state);
@@ -203,7 +202,7 @@ impl SharedStore {
         self.objects.calls_at(object)
     }
 
-    /// The number of an object. Over a child no object has a name.
+    /// The number of an object.
     #[inline]
     pub(crate) fn number_of(&self, object: Object<'_>) -> Result<u32, Error> {
         if let Object::Name(_) = object {
@@ -237,7 +236,7 @@ impl SharedStore {
     /// # Errors
     ///
     /// [`Error::TooManyOpen`], [`Error::HistoryFull`] or [`Error::NoMemory`]. Over a child [`Error::ConnectionLost`],
-    /// and [`Error::TimedOut`] where its epoch is full, and no other one begins within the limit.
+    /// and [`Error::TimedOut`] where its epoch is full or objects are added, and no other one begins within the limit.
     pub fn begin(&self) -> Result<SharedTransaction<'_>, Error> {
         self.begin_aged(0, None)
     }
@@ -306,6 +305,12 @@ impl SharedStore {
     #[doc(hidden)]
     pub fn take_gate_out(&self) {
         self.lock().waiters.take_gate_out();
+    }
+
+    /// Whether the child has more objects that wait until what is open has ended, for a test.
+    #[doc(hidden)]
+    pub fn waits_to_extend(&self) -> bool {
+        self.remote.as_ref().is_some_and(|remote| remote.link.has_late())
     }
 
     /// The child process, so that a test can kill it.

@@ -5,6 +5,7 @@ pub(crate) mod child;
 mod creating;
 pub(crate) mod dropped;
 pub(crate) mod ending;
+pub(crate) mod extending;
 mod flight;
 mod gather;
 mod identity;

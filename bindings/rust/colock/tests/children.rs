@@ -166,7 +166,7 @@ fn refused(options: OpenOptions<'_>, path: impl AsRef<std::path::Path>) -> Strin
 fn what_cant_be_opened_is_told() {
     let (folder, counter) = (Folder::new(), kept(counter()));
     let path = folder.file("a.db");
-    let missing = OpenOptions::new().program(program()).objects(&[counter]);
+    let missing = OpenOptions::new().program(program()).objects([counter]);
     assert!(refused(missing.clone(), &path).contains("no such file"));
     assert!(!path.exists());
     assert_eq!(OpenOptions::new().program(program()).create(true).open(&path).err(), Some(Error::NoObjects));

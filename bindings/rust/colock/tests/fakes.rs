@@ -157,7 +157,7 @@ fn wrong_amounts_are_no_answers() {
 fn a_command_that_hangs_is_ended() {
     let fake = Fake::of("#!/bin/sh\nexec sleep 60\n");
     let (counter, start) = (common::counter(), Instant::now());
-    let options = OpenOptions::new().objects(&[&counter]).create(true).program(fake.folder.file("fake")).limit(LIMIT);
+    let options = OpenOptions::new().objects([&counter]).create(true).program(fake.folder.file("fake")).limit(LIMIT);
     assert!(matches!(options.open(fake.folder.file("new.db")), Err(Error::CannotOpen(_))));
     assert!(start.elapsed() < SOON);
 }

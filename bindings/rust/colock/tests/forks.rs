@@ -60,7 +60,7 @@ fn pipes(store: &SharedStore) -> Vec<PathBuf> {
 }
 
 fn open(folder: &Folder) -> SharedStore {
-    OpenOptions::new().objects(&[&counter()]).create(true).program(program()).open(folder.file("a.db")).unwrap()
+    OpenOptions::new().objects([&counter()]).create(true).program(program()).open(folder.file("a.db")).unwrap()
 }
 
 fn is_told<T>(done: Result<T, Error>) -> bool {
@@ -81,6 +81,7 @@ fn a_fork_is_told_that_it_is_one() {
     let fork = Fork::doing(|| {
         let mut are_told = [is_told(store.begin()), is_told(store.kept(0)), is_told(store.events(0)), is_told(store.committed(common::id("1.0")))].to_vec();
         are_told.push(is_told(store.transact(|turn| turn.expect(0, "inc:1", "ok"))));
+        are_told.extend([is_told(store.extend([&counter()])), is_told(store.find("a"))]);
         // SAFETY: a fork has copies of its own, and doesn't come back to those that the test drops
         let (copy, mut of_t, of_put_off) = unsafe { (std::ptr::read(&store), std::ptr::read(&t), std::ptr::read(&put_off)) };
         are_told.push(is_told(of_t.call(0, "inc:1")));

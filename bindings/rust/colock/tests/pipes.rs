@@ -63,7 +63,7 @@ fn small_pipes_dont_stand_still() {
     for pages in [1, 2] {
         let folder = Folder::new();
         let options = OpenOptions::new().create(true).program(program()).limit(Duration::from_secs(10));
-        let store = options.objects(&[&counter()]).open(folder.file("a.db")).unwrap();
+        let store = options.objects([&counter()]).open(folder.file("a.db")).unwrap();
         count_up(&store).unwrap(); // from now on a begin goes with its call
         shrink_pipes(&store, pages * 4096);
         let failed = asked_at_once(&store);

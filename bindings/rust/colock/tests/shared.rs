@@ -419,7 +419,7 @@ fn owned(store: SharedStore) {
 fn transactions_keep_their_store() {
     let (counter, folder) = (counter(), common::Folder::new());
     owned(SharedStore::new([&counter], 100).unwrap());
-    let options = OpenOptions::new().objects(&[&counter]).create(true).program(common::program());
+    let options = OpenOptions::new().objects([&counter]).create(true).program(common::program());
     owned(options.clone().open(folder.file("a.db")).unwrap());
     let again = options.open(folder.file("a.db")).unwrap();
     assert_eq!((again.kept(0), again.event_count(), again.close()), (Ok(2), Ok(0), Ok(())));
@@ -465,12 +465,6 @@ fn what_a_child_doesnt_do() {
     );
     let followed = store.follow(&[Event::Begin { worker: 0, transaction: 0 }]).unwrap_err();
     assert_eq!((followed.made, followed.error), (0, Error::InMemoryOnly));
-    assert_eq!((store.extend([&counter()]), store.types().len()), (Err(Error::InMemoryOnly), 1));
-    // nor has an object a name
-    let none = Error::NoObjectNamed("a".to_string());
-    assert_eq!((store.kept("a"), store.find("a"), store.name_of(0)), (Err(none.clone()), Err(none.clone()), None));
-    let mut t = store.begin_as(0).unwrap();
-    assert_eq!((t.call("a", "inc:1"), t.begun()), (Err(none), Ok(id("1.0"))));
 }
 
 #[test]

@@ -28,7 +28,7 @@ extern "C" fn is_told(_: i32) {
 /// A client that is told to end in the middle of a transaction, and ends in order.
 fn client() {
     let folder = Folder::new();
-    let store = OpenOptions::new().objects(&[&counter()]).create(true).program(program()).open(folder.file("a.db")).unwrap();
+    let store = OpenOptions::new().objects([&counter()]).create(true).program(program()).open(folder.file("a.db")).unwrap();
     let mut t = store.begin().unwrap();
     t.expect(0, "inc:1", "ok").unwrap();
     // SAFETY: the handler does nothing but store, and the group is that of this process.

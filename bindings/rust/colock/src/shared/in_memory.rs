@@ -1,4 +1,4 @@
-//! What a shared store does in memory only.
+//! What a shared store does in memory, and but for `extend` only there.
 
 use crate::error::{Error, NotFollowed};
 use crate::event::Event;
@@ -94,6 +94,10 @@ impl SharedStore {
     /// Begins anew, as [`SharedStore::renew`], with more objects: they come after those that there are, each in the initial
     /// state of its type. It gives the number of the first of them. They are given as to [`SharedStore::new`].
     ///
+    /// Over a child it waits, and no transaction begins meanwhile, until all that are open have ended, or the
+    /// [`drain`](crate::OpenOptions::drain) is over, which aborts them. It is durable then. Where another thread adds objects, it
+    /// comes after that.
+    ///
     /// ```
     /// # use colock::{Error, Kind, SharedStore, Type};
     /// # let seat = Type::seats(1, Kind::Undo)?;
@@ -106,10 +110,15 @@ impl SharedStore {
     ///
     /// # Errors
     ///
-    /// As of [`Store::extend`](crate::Store::extend), and [`Error::InMemoryOnly`].
+    /// As of [`Store::extend`](crate::Store::extend). Over a child, in place of [`Error::StillOpen`], [`Error::NoObjects`] of an
+    /// extension by none, [`Error::CannotExtend`], and [`Error::ConnectionLost`], after which the file has all of the objects or
+    /// none of them.
     pub fn extend<'t>(&self, objects: impl IntoIterator<Item = impl Into<NewObject<'t>>>) -> Result<u32, Error> {
         // before the lock is taken, which what gives them may ask for
         let objects: Vec<NewObject<'t>> = objects.into_iter().map(Into::into).collect();
+        if let Some(remote) = self.remote() {
+            return self.extend_over_child(remote, objects);
+        }
         let mut guard = self.enter()?;
         let first = guard.memory()?.extend(objects)?;
         guard.stats.extend(self.objects().len());

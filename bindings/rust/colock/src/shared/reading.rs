@@ -45,7 +45,7 @@ impl SharedStore {
         self.objects().type_at(object).ok_or(Error::NoObject)
     }
 
-    /// The number of the object of this name. Over a child no object has a name.
+    /// The number of the object of this name.
     ///
     /// ```
     /// # use colock::{Error, Kind, SharedStore, Type};

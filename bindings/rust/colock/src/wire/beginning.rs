@@ -158,6 +158,15 @@ impl RemoteState {
         Ok(slot)
     }
 
+    /// Asks for something that may be answered late, with a question after it: the answer to that says that it was read.
+    pub(crate) fn send_late(&mut self, request: Request<'_>) -> Result<Arc<Slot>, Error> {
+        self.put_due(Some(thread::current().id()));
+        let slot = self.conversation.put(request);
+        self.conversation.put(Request::Stats);
+        self.conversation.ask_all()?;
+        Ok(slot)
+    }
+
     /// Puts the begins that a thread put off, or all of them, before what comes next.
     fn put_due(&mut self, of: Option<ThreadId>) {
         for PutOff { age, .. } in self.begins.due(of) {

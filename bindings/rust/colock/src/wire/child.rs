@@ -208,6 +208,11 @@ impl Link {
         locked(&self.flight).refusal()
     }
 
+    /// Whether something was read that isn't answered, and what was asked after it is.
+    pub(crate) fn has_late(&self) -> bool {
+        locked(&self.flight).has_late()
+    }
+
     /// An answer that isn't one to what was asked.
     pub(crate) fn broken(&self, line: &str) -> Error {
         self.lose(&format!("no answer to what was asked: {line}"));
@@ -340,11 +345,12 @@ impl Conversation {
         let _ = writeln!(self.lines, "{} {request}", self.tag);
         let form = match request {
             Request::End => Form::End,
+            Request::Extend(_) => Form::Late,
             _ if request.is_list() => Form::List,
             _ => Form::One,
         };
         let slot = Arc::new(Slot::default());
-        let wakes = !matches!(request, Request::Begin | Request::Abort(_));
+        let wakes = !matches!(request, Request::Begin | Request::Abort(_) | Request::Extend(_));
         self.requests.push(Pending { tag: self.tag, form, commits: request.committed(), wakes, is_last, slot: Arc::clone(&slot) });
         slot
     }

@@ -1,6 +1,7 @@
 //! What was asked of a child and isn't answered.
 //!
-//! All that is written is answered before more is written. An answer to a commit waits for the disk, and with it all that
+//! All that is written is answered before more is written, but for what may be answered later than what comes after it: that
+//! was read, once what comes after it is answered. An answer to a commit waits for the disk, and with it all that
 //! was written beside it. So commits let what others ask go first, once: that is answered at once, these threads ask for
 //! their own commits meanwhile, and more commits share a sync.
 
@@ -12,6 +13,9 @@ use std::mem;
 
 /// How many bytes of requests are written at once at most.
 const WRITTEN_AT_ONCE: usize = 32_768;
+
+/// More bytes than the request has that goes with one which may be answered late.
+const NEXT_OF_LATE: usize = 64;
 
 /// Requests that aren't written yet, each with one line.
 #[derive(Debug, Default)]
@@ -30,13 +34,20 @@ impl Batch {
         self.lines.append(lines);
     }
 
-    /// The first of them, of at most this many bytes.
+    /// The first of them, of at most this many bytes, or the very first alone. What may be answered late goes with the next one.
     fn taken(&mut self, most: usize) -> Batch {
         if self.lines.len() <= most {
             return mem::take(self);
         }
-        let end = self.lines[..most].iter().rposition(|byte| *byte == b'\n').map_or(self.lines.len(), |place| place + 1);
-        let count = self.lines[..end].iter().filter(|byte| **byte == b'\n').count();
+        let (mut count, mut end) = (0, 0);
+        for line in self.lines.split_inclusive(|byte| *byte == b'\n') {
+            let goes_with_last = count == 0 || self.requests[count - 1].form == Form::Late;
+            if !goes_with_last && end + line.len() > most {
+                break;
+            }
+            count += 1;
+            end += line.len();
+        }
         let (requests, lines) = (self.requests.split_off(count), self.lines.split_off(end));
         mem::replace(self, Batch { requests, lines })
     }
@@ -47,6 +58,8 @@ impl Batch {
 pub(crate) struct Flight {
     /// What was written, in its order.
     queue: VecDeque<Pending>,
+    /// What is answered later than what came after it.
+    late: Vec<Pending>,
     /// What is written next, in the order in which it was asked.
     next: Batch,
     /// The commits that let it go first, and whether they did so when something was written last.
@@ -69,6 +82,7 @@ impl Flight {
     pub(crate) fn new(first: Pending) -> Flight {
         Flight {
             queue: VecDeque::from([first]),
+            late: Vec::new(),
             next: Batch::default(),
             last: Batch::default(),
             have_let: false,
@@ -119,7 +133,7 @@ impl Flight {
             let mut next = mem::replace(&mut self.next, mem::take(&mut self.last));
             self.next.append(&mut next.requests, &mut next.lines);
         }
-        let batch = self.next.taken(room.min(WRITTEN_AT_ONCE));
+        let batch = self.next.taken(room.saturating_sub(NEXT_OF_LATE).min(WRITTEN_AT_ONCE));
         self.queue.extend(batch.requests);
         batch.lines
     }
@@ -134,6 +148,14 @@ impl Flight {
     /// Takes a line. Where an answer is whole by it, the request is answered.
     pub(crate) fn take<'l>(&mut self, line: &'l [u8], whole: &mut Whole<'l>) -> Result<(), String> {
         let text = line.strip_suffix(b"\n").and_then(|text| std::str::from_utf8(text).ok()).ok_or_else(|| no_line(line))?;
+        while self.queue.front().is_some_and(|head| head.form == Form::Late && head.own(text).is_none()) {
+            self.late.extend(self.queue.pop_front());
+        }
+        let is_own = |(place, pending): (usize, &Pending)| pending.own(text).map(|answer| (place, answer));
+        if let Some((place, answer)) = self.late.iter().enumerate().find_map(is_own) {
+            whole.push((self.late.swap_remove(place), answer));
+            return Ok(());
+        }
         let head = self.queue.front().ok_or_else(|| format!("an answer that nobody asked for: {text}"))?;
         let answer = head.own(text).ok_or_else(|| format!("an answer to another request: {text}"))?;
         if !head.ends_with(answer) {
@@ -159,16 +181,21 @@ impl Flight {
         }
     }
 
+    /// Whether something is known to be answered late.
+    pub(crate) fn has_late(&self) -> bool {
+        !self.late.is_empty()
+    }
+
     /// Whether the end was asked for and all is answered.
     pub(crate) fn is_closed(&self) -> bool {
-        self.is_ending && self.queue.is_empty() && !self.has_lines()
+        self.is_ending && self.queue.is_empty() && self.late.is_empty() && !self.has_lines()
     }
 
     /// Nothing can be asked any more. These aren't answered.
     pub(crate) fn lose(&mut self, words: &str) -> Vec<Pending> {
         self.lost.get_or_insert_with(|| words.to_string());
         let unwritten = mem::take(&mut self.next).requests.into_iter().chain(mem::take(&mut self.last).requests);
-        mem::take(&mut self.queue).into_iter().chain(unwritten).collect()
+        mem::take(&mut self.queue).into_iter().chain(mem::take(&mut self.late)).chain(unwritten).collect()
     }
 }
 
@@ -184,7 +211,7 @@ fn shown(line: &[u8]) -> String {
 
 #[cfg(test)]
 mod tests {
-    use super::{Flight, WRITTEN_AT_ONCE};
+    use super::{Flight, NEXT_OF_LATE, WRITTEN_AT_ONCE};
     use crate::wire::slot::{Form, Pending, Slot};
     use crate::Error;
     use std::sync::Arc;
@@ -273,7 +300,56 @@ mod tests {
         let mut flight = greeted();
         (1..=3).for_each(|tag| asks(&mut flight, tag, false));
         assert!(flight.is_to_write());
-        assert_eq!(flight.taken("1 word\n2 word\n3".len()), b"1 word\n2 word\n");
+        assert_eq!(flight.taken("1 word\n2 word\n3".len() + NEXT_OF_LATE), b"1 word\n2 word\n");
+    }
+
+    /// One that may be answered late, and one that goes with it.
+    fn asks_late(flight: &mut Flight, tag: u64) {
+        let late = Pending { form: Form::Late, ..pending(tag, false) };
+        flight.expect(&mut vec![late, pending(tag + 1, false)], &mut format!("{tag} late\n{} word\n", tag + 1).into_bytes());
+    }
+
+    #[test]
+    fn what_is_answered_late_keeps_nothing_from_being_written() {
+        let mut flight = greeted();
+        asks_late(&mut flight, 1);
+        assert!(flight.is_to_write());
+        assert_eq!(flight.taken(ROOM), b"1 late\n2 word\n");
+        flight.has_written();
+        asks(&mut flight, 3, false);
+        assert!(!flight.is_to_write());
+        let mut whole = Vec::new();
+        flight.take(b"2 ok\n", &mut whole).unwrap();
+        assert_eq!(written(&mut flight), "3 word\n");
+        asks_late(&mut flight, 4);
+        assert!(flight.is_to_write());
+        flight.taken(ROOM);
+        for line in [&b"4 no room\n"[..], b"5 ok\n", b"1 ok 7\n"] {
+            flight.take(line, &mut whole).unwrap();
+        }
+        let told: Vec<(u64, &str)> = whole.iter().map(|(pending, answer)| (pending.tag, *answer)).collect();
+        assert_eq!(told, [(2, "ok"), (4, "no room"), (5, "ok"), (1, "ok 7")]);
+        assert!(flight.take(b"1 ok 7\n", &mut Vec::new()).is_err());
+    }
+
+    #[test]
+    fn what_is_answered_late_is_lost_too() {
+        let mut flight = greeted();
+        asks_late(&mut flight, 1);
+        assert!(flight.is_to_write());
+        flight.taken(ROOM);
+        flight.take(b"2 ok\n", &mut Vec::new()).unwrap();
+        let tags: Vec<u64> = flight.lose("gone").iter().map(|pending| pending.tag).collect();
+        assert_eq!(tags, [1]);
+    }
+
+    #[test]
+    fn what_may_be_answered_late_goes_with_the_next() {
+        let mut flight = greeted();
+        asks(&mut flight, 1, false);
+        asks_late(&mut flight, 2);
+        assert!(flight.is_to_write());
+        assert_eq!(flight.taken("1 word\n2 late\n3".len() + NEXT_OF_LATE), b"1 word\n2 late\n3 word\n");
     }
 
     #[test]

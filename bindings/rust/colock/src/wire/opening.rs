@@ -1,5 +1,7 @@
 use crate::error::Error;
 use crate::failure::Failure;
+use crate::object::NewObject;
+use crate::objects::{Known, Objects, MOST_OBJECTS};
 use crate::operation_id::OperationId;
 use crate::shared::SharedStore;
 use crate::types::bounds::Bounds;
@@ -7,6 +9,7 @@ use crate::types::{Kind, Type};
 use crate::wire::child::{listed, Conversation, Link};
 use crate::wire::creating;
 use crate::wire::ending::{wait_for_end, FileId};
+use crate::wire::extending::Extending;
 use crate::wire::identity::store_id;
 use crate::wire::past::{Archive, Past};
 use crate::wire::program;
@@ -34,9 +37,9 @@ const VERSION: &str = "4";
 ///
 /// let seats = Type::set(&["a1", "a2", "b1"], Kind::Undo)?;
 /// let path = std::env::temp_dir().join("seats.db");
-/// let store = OpenOptions::new().objects(&[&seats]).create(true).open(path)?;
+/// let store = OpenOptions::new().objects([("stalls", &seats)]).create(true).open(path)?;
 /// let mut transaction = store.begin()?;
-/// transaction.expect(0, "insert:a1", "ok")?;
+/// transaction.expect("stalls", "insert:a1", "ok")?;
 /// transaction.commit()?; // it is durable
 /// store.close()?;
 /// # Ok::<(), colock::Error>(())
@@ -54,7 +57,7 @@ const VERSION: &str = "4";
 /// ```
 #[derive(Clone, Debug)]
 pub struct OpenOptions<'t> {
-    objects: Vec<&'t Type>,
+    objects: Vec<NewObject<'t>>,
     creates: bool,
     archive: Option<PathBuf>,
     is_fast: bool,
@@ -75,10 +78,10 @@ impl<'t> OpenOptions<'t> {
         OpenOptions { objects: Vec::new(), creates: false, archive: None, is_fast: false, drain: None, program: None, limit: Duration::from_secs(60) }
     }
 
-    /// The objects, by their types: those of a new file, and those that a file has to have. Where none are given, a
-    /// file may have any.
-    pub fn objects(mut self, objects: &[&'t Type]) -> OpenOptions<'t> {
-        self.objects = objects.to_vec();
+    /// The objects, by their types, or by names and types: those of a new file, and those that a file has to have, with these
+    /// names. Where none are given, a file may have any.
+    pub fn objects(mut self, objects: impl IntoIterator<Item = impl Into<NewObject<'t>>>) -> OpenOptions<'t> {
+        self.objects = objects.into_iter().map(Into::into).collect();
         self
     }
 
@@ -128,8 +131,8 @@ impl<'t> OpenOptions<'t> {
     /// let counter = Type::counter(5, &[1], Kind::Undo)?;
     /// let account = Type::account(5, &[1], Kind::Undo)?;
     /// let path = std::env::temp_dir().join("counter.db");
-    /// OpenOptions::new().objects(&[&counter]).create(true).open(&path)?.close()?;
-    /// let other = OpenOptions::new().objects(&[&account]).open(&path);
+    /// OpenOptions::new().objects([&counter]).create(true).open(&path)?.close()?;
+    /// let other = OpenOptions::new().objects([&account]).open(&path);
     /// assert_eq!(other.err(), Some(Error::OtherObjects));
     /// # Ok::<(), Error>(())
     /// ```
@@ -138,15 +141,20 @@ impl<'t> OpenOptions<'t> {
     ///
     /// [`Error::CannotOpen`], as of a file that isn't there, of another process that has it, of a program that
     /// isn't found or doesn't answer within the limit; [`Error::OtherObjects`]; [`Error::NoObjects`] where a file is
-    /// to be made of none; and what [`Type::read`] says of a type of the file.
+    /// to be made of none; [`Error::BadName`], [`Error::NameTaken`], [`Error::TooManyObjects`]; and what [`Type::read`] says of a
+    /// type of the file.
     pub fn open(self, path: impl AsRef<Path>) -> Result<SharedStore, Error> {
+        let given = Objects::none().checked(self.objects.iter().cloned())?;
+        if given.len() > MOST_OBJECTS {
+            return Err(Error::TooManyObjects);
+        }
         let path = whole(path.as_ref())?;
         wait_for_end(&path, self.limit);
         let archive = self.archive.as_deref().map(whole).transpose()?;
         let program = program::find(self.program.as_deref())?;
         let is_missing = || matches!(fs::symlink_metadata(&path), Err(error) if error.kind() == io::ErrorKind::NotFound);
         if self.creates && is_missing() {
-            creating::create(&program, &path, &self.objects, self.limit)?;
+            creating::create(&program, &path, &given, self.limit)?;
         }
         let mut command = Command::new(&program);
         command.arg("serve").args(self.is_fast.then_some("--fast"));
@@ -158,30 +166,31 @@ impl<'t> OpenOptions<'t> {
         }
         command.arg(&path);
         let (link, greeting) = Link::start(command, self.limit).map_err(Error::CannotOpen)?;
-        let opened = self.greeted(&link, &greeting, &path, archive);
+        let opened = greeted(&link, &greeting, &path, archive, &given, program);
         opened.map_err(|error| {
             link.lose("it wasn't opened");
             as_not_opened(error)
         })
     }
+}
 
-    /// The store of a child that was started, when it has greeted and listed its objects.
-    fn greeted(&self, link: &Arc<Link>, greeting: &Slot, path: &Path, folder: Option<PathBuf>) -> Result<SharedStore, Error> {
-        let life = life_of(&link.answered(greeting)?)?;
-        let archive = folder.map(|folder| store_id(path).map(|store| Archive { folder, store })).transpose()?;
-        let mut conversation = Conversation::new(Arc::clone(link));
-        let objects = objects_of(listed(link, &conversation.ask(Request::Objects)?)?, link)?;
-        let texts = texts_of(listed(link, &conversation.ask(Request::Types)?)?);
-        let made = Made::of(&objects, &texts).map_err(|wrong| wrong.unwrap_or_else(|| link.broken("objects without types")))?;
-        let types: Vec<&Type> = objects.iter().filter_map(|object| made.of_object(object)).collect();
-        if !self.objects.is_empty() && !are_same(&self.objects, &types) {
-            return Err(Error::OtherObjects);
-        }
-        let past = Past { greeted: life, found: link.found(), archive };
-        let types: Vec<Type> = types.into_iter().cloned().collect();
-        let remote = Remote::new(Arc::clone(link), past, FileId::of(path));
-        Ok(SharedStore::of_remote(RemoteState::new(conversation), &types, life, remote))
+/// The store of a child that was started, when it has greeted and listed its objects.
+fn greeted(link: &Arc<Link>, greeting: &Slot, path: &Path, folder: Option<PathBuf>, given: &[Known], program: PathBuf) -> Result<SharedStore, Error> {
+    let life = life_of(&link.answered(greeting)?)?;
+    let archive = folder.map(|folder| store_id(path).map(|store| Archive { folder, store })).transpose()?;
+    let mut conversation = Conversation::new(Arc::clone(link));
+    let lines = conversation.ask(Request::Objects)?;
+    let listed_objects = objects_of(listed(link, &lines)?, link)?;
+    let texts = texts_of(listed(link, &conversation.ask(Request::Types)?)?);
+    let made = Made::of(&listed_objects, &texts).map_err(|wrong| wrong.unwrap_or_else(|| link.broken("objects without types")))?;
+    let found = listed_objects.iter().filter_map(|object| Some((object.name, made.of_object(object)?)));
+    let found = Objects::none().checked(found).map_err(|wrong| link.broken(&wrong.to_string()))?;
+    if !given.is_empty() && !are_same(given, &found) {
+        return Err(Error::OtherObjects);
     }
+    let past = Past { greeted: life, found: link.found(), archive };
+    let remote = Remote::new(Arc::clone(link), past, FileId::of(path), Extending::by(program));
+    Ok(SharedStore::of_remote(RemoteState::new(conversation), found, life, remote))
 }
 
 /// A path that doesn't begin with a hyphen, and means the same whatever the working folder becomes.
@@ -208,16 +217,24 @@ fn life_of(greeting: &str) -> Result<u64, Error> {
     Err(Error::CannotOpen(told.into()))
 }
 
-/// An object as a child lists it: its kind, and the place of its type.
-type ObjectLine = (Kind, usize);
+/// Of which kind an object is, and the place of its type.
+type KindAndPlace = (Kind, usize);
 
-fn objects_of(lines: &str, link: &Link) -> Result<Vec<ObjectLine>, Error> {
+/// An object as a child lists it.
+#[derive(Clone, Copy, Debug, PartialEq, Eq)]
+struct ObjectLine<'l> {
+    of: KindAndPlace,
+    name: Option<&'l str>,
+}
+
+fn objects_of<'l>(lines: &'l str, link: &Link) -> Result<Vec<ObjectLine<'l>>, Error> {
     lines.lines().map(|line| object_of(line).ok_or_else(|| link.broken(line))).collect()
 }
 
-fn object_of(line: &str) -> Option<ObjectLine> {
-    let (kind, place) = line.strip_prefix("object ")?.split_once(' ')?;
-    Some((Kind::of_word(kind)?, place.parse().ok()?))
+fn object_of(line: &str) -> Option<ObjectLine<'_>> {
+    let (kind, rest) = line.strip_prefix("object ")?.split_once(' ')?;
+    let (place, name) = rest.split_once(' ').map_or((rest, None), |(place, name)| (place, Some(name)));
+    Some(ObjectLine { of: (Kind::of_word(kind)?, place.parse().ok()?), name })
 }
 
 /// The texts of types, each of which ends in an empty line.
@@ -236,37 +253,40 @@ fn texts_of(lines: &str) -> Vec<String> {
 }
 
 /// The types of objects, one for each kind and text.
-struct Made(Vec<(ObjectLine, Type)>);
+struct Made(Vec<(KindAndPlace, Type)>);
 
 impl Made {
     /// Makes them. No error is given where a text is missing.
-    fn of(objects: &[ObjectLine], texts: &[String]) -> Result<Made, Option<Error>> {
+    fn of(objects: &[ObjectLine<'_>], texts: &[String]) -> Result<Made, Option<Error>> {
         let mut made = Made(Vec::new());
         for object in objects {
             if made.of_object(object).is_none() {
-                let text = texts.get(object.1).ok_or(None::<Error>)?;
-                made.0.push((*object, Type::read(text, object.0).map_err(Some)?));
+                let (kind, place) = object.of;
+                let text = texts.get(place).ok_or(None::<Error>)?;
+                made.0.push((object.of, Type::read(text, kind).map_err(Some)?));
             }
         }
         Ok(made)
     }
 
-    fn of_object(&self, object: &ObjectLine) -> Option<&Type> {
-        self.0.iter().find(|(of, _)| of == object).map(|(_, made)| made)
+    fn of_object(&self, object: &ObjectLine<'_>) -> Option<&Type> {
+        self.0.iter().find(|(of, _)| *of == object.of).map(|(_, made)| made)
     }
 }
 
-/// Whether objects have the same types.
-fn are_same(given: &[&Type], found: &[&Type]) -> bool {
+/// Whether objects have the same names and types.
+fn are_same(given: &[Known], found: &[Known]) -> bool {
     let mut compared: Vec<(&Type, &Type)> = Vec::new();
-    for (given, found) in given.iter().copied().zip(found.iter().copied()) {
-        let is_known = compared.iter().any(|(one, other)| one.is(given) && other.is(found));
-        if !is_known && !given.is_same(found) {
+    for (one, other) in given.iter().map(Known::of).zip(found.iter().map(Known::of)) {
+        if compared.iter().any(|known| known.0.is(one) && known.1.is(other)) {
+            continue;
+        }
+        if !one.is_same(other) {
             return false;
         }
-        compared.push((given, found));
+        compared.push((one, other));
     }
-    given.len() == found.len()
+    given.iter().map(Known::name).eq(found.iter().map(Known::name))
 }
 
 impl Type {
@@ -293,8 +313,14 @@ impl Type {
 
 #[cfg(test)]
 mod tests {
-    use super::{are_same, life_of, object_of, texts_of};
+    use super::{life_of, object_of, texts_of, ObjectLine};
+    use crate::object::NewObject;
+    use crate::objects::Objects;
     use crate::{Error, Kind, Type};
+
+    fn are_same<'t>(given: impl IntoIterator<Item = impl Into<NewObject<'t>>>, found: impl IntoIterator<Item = impl Into<NewObject<'t>>>) -> bool {
+        super::are_same(&Objects::none().checked(given).unwrap(), &Objects::none().checked(found).unwrap())
+    }
 
     #[test]
     fn greetings_are_read() {
@@ -310,8 +336,13 @@ mod tests {
 
     #[test]
     fn objects_and_texts_are_read() {
-        assert_eq!((object_of("object undo 0"), object_of("object intentions 12")), (Some((Kind::Undo, 0)), Some((Kind::Intentions, 12))));
-        assert_eq!(object_of("object escrow 255"), Some((Kind::Escrow, 255)));
+        for (line, kind, place, name) in [
+            ("object undo 0", Kind::Undo, 0, None),
+            ("object intentions 12", Kind::Intentions, 12, None),
+            ("object escrow 65535 stalls:A12", Kind::Escrow, 65_535, Some("stalls:A12")),
+        ] {
+            assert_eq!(object_of(line), Some(ObjectLine { of: (kind, place), name }));
+        }
         assert_eq!((object_of("object redo 0"), object_of("object undo"), object_of("undo 0")), (None, None, None));
         assert_eq!(texts_of("type a\nend\n\ntype b\nend\n\n"), ["type a\nend\n", "type b\nend\n"]);
     }
@@ -321,23 +352,25 @@ mod tests {
         let make = |cap, kind| Type::counter(cap, &[1], kind).unwrap();
         let (five, again, six, deferred) = (make(5, Kind::Undo), make(5, Kind::Undo), make(6, Kind::Undo), make(5, Kind::Intentions));
         let (escrow, another) = (make(5, Kind::Escrow), make(5, Kind::Escrow));
-        assert!(are_same(&[&five, &five], &[&again, &again]));
-        assert!(!are_same(&[&five], &[&again, &again]));
-        assert!(!are_same(&[&five, &five], &[&again, &six]));
-        assert!(!are_same(&[&five], &[&deferred]) && !are_same(&[&deferred], &[&escrow]));
-        assert!(are_same(&[&escrow], &[&another]) && !are_same(&[&escrow], &[&make(6, Kind::Escrow)]));
+        assert!(are_same([("a", &five), ("b", &five)], [("a", &again), ("b", &again)]));
+        assert!(!are_same([("a", &five)], [("b", &again)]) && !are_same([("a", &five)], [&again]) && !are_same([&five], [("a", &again)]));
+        assert!(are_same([&five, &five], [&again, &again]));
+        assert!(!are_same([&five], [&again, &again]));
+        assert!(!are_same([&five, &five], [&again, &six]));
+        assert!(!are_same([&five], [&deferred]) && !are_same([&deferred], [&escrow]));
+        assert!(are_same([&escrow], [&another]) && !are_same([&escrow], [&make(6, Kind::Escrow)]));
         let large = |take: u32| Type::read(format!("number large\nmax 4294967295\ninitial 7\ntake {take}\nend\n"), Kind::Escrow).unwrap();
-        assert!(are_same(&[&large(5)], &[&large(5)]) && !are_same(&[&large(5)], &[&large(6)]));
+        assert!(are_same([&large(5)], [&large(5)]) && !are_same([&large(5)], [&large(6)]));
         let any = |lines: &str| Type::read(format!("number purse\nmax 100\ninitial 7\n{lines}\nend\n"), Kind::Escrow).unwrap();
-        assert!(are_same(&[&any("take any\nvalue")], &[&any("take any\nvalue")]) && !are_same(&[&any("take any")], &[&any("give any")]));
-        assert!(!are_same(&[&any("take 5\ntake any")], &[&any("take 6\ntake any")]) && !are_same(&[&any("value")], &[&any("take any")]));
+        assert!(are_same([&any("take any\nvalue")], [&any("take any\nvalue")]) && !are_same([&any("take any")], [&any("give any")]));
+        assert!(!are_same([&any("take 5\ntake any")], [&any("take 6\ntake any")]) && !are_same([&any("value")], [&any("take any")]));
         let moved = |step: &str| Type::read(format!("type c\nstates 3\ninitial 0\nop a b\nstep {step}\nend\n"), Kind::Escrow).unwrap();
-        assert!(are_same(&[&moved("0 0 1")], &[&moved("0 0 1")]) && !are_same(&[&moved("0 0 1")], &[&moved("1 0 2")]));
+        assert!(are_same([&moved("0 0 1")], [&moved("0 0 1")]) && !are_same([&moved("0 0 1")], [&moved("1 0 2")]));
         let all = "type c\nstates 2\ninitial 0\nop a b\nstep 0 0 1\nconflict undo 0 0\nend\n";
         let none = all.replace("conflict undo 0 0\n", "");
         let other = all.replace("step 0 0 1", "step 1 0 0");
         let read = |text: &str| Type::read(text, Kind::Undo).unwrap();
-        assert!(are_same(&[&read(all)], &[&read(all)]));
-        assert!(!are_same(&[&read(all)], &[&read(&none)]) && !are_same(&[&read(all)], &[&read(&other)]));
+        assert!(are_same([&read(all)], [&read(all)]));
+        assert!(!are_same([&read(all)], [&read(&none)]) && !are_same([&read(all)], [&read(&other)]));
     }
 }

@@ -153,7 +153,7 @@ impl Past {
 /// The events of the text of a history; nothing where it is none, or isn't whole.
 fn read(text: &str) -> Option<Vec<Event>> {
     let (body, _) = text.split_once("end\n")?;
-    body.lines().filter(|line| !line.starts_with("object ")).map(event).collect()
+    body.lines().skip_while(|line| line.starts_with("object")).map(event).collect()
 }
 
 /// Whether a number was committed or aborted; nothing where no event says.
@@ -210,6 +210,7 @@ mod tests {
     #[test]
     fn histories_are_read() {
         assert_eq!(read("object undo 0\nbegin 0 0\ncommit 0 0\nend\n# kept 0 1\n"), Some(vec![begin(0), commit(0)]));
+        assert_eq!(read("objects 3000\nobject undo 0 A1\nobject undo 0\nbegin 0 0\nend\n"), Some(vec![begin(0)]));
         assert_eq!((read("end\n"), read("begin 0\nend\n"), read("begin 0 0\n")), (Some(Vec::new()), None, None));
     }
 }

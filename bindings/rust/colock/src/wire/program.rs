@@ -43,15 +43,18 @@ pub(crate) fn find(given: Option<&Path>) -> Result<PathBuf, Error> {
 }
 
 /// A name that no other call gets.
-fn fresh_path(what: &str) -> PathBuf {
+fn fresh_name(what: &str) -> String {
     static COUNT: AtomicU64 = AtomicU64::new(0);
     let moment = std::time::SystemTime::UNIX_EPOCH.elapsed().unwrap_or_default().subsec_nanos();
-    env::temp_dir().join(format!("colock-{what}-{}-{}-{moment}", process::id(), COUNT.fetch_add(1, Ordering::Relaxed)))
+    format!("colock-{what}-{}-{}-{moment}", process::id(), COUNT.fetch_add(1, Ordering::Relaxed))
 }
+
+/// Where files may be whose path goes over as a word, if the folder for temporary files isn't such a path.
+const PLACES: [&str; 3] = ["/tmp", "/var/tmp", "/dev/shm"];
 
 /// A file that goes away with the last who has it open.
 pub(crate) fn nameless_file() -> io::Result<File> {
-    let path = fresh_path("said");
+    let path = env::temp_dir().join(fresh_name("said"));
     let file = OpenOptions::new().read(true).append(true).create_new(true).open(&path)?;
     fs::remove_file(&path)?;
     Ok(file)
@@ -63,14 +66,32 @@ pub(crate) struct Room(PathBuf);
 
 impl Room {
     pub(crate) fn new() -> io::Result<Room> {
-        let path = fresh_path("types");
+        Room::in_folder(&env::temp_dir())
+    }
+
+    fn in_folder(folder: &Path) -> io::Result<Room> {
+        let path = folder.join(fresh_name("types"));
         fs::create_dir(&path)?;
         Ok(Room(path))
+    }
+
+    /// One whose path is a word of a request; nothing where there is none.
+    pub(crate) fn for_words() -> Option<Room> {
+        Room::in_first_word([env::temp_dir()].into_iter().chain(PLACES.map(PathBuf::from)))
+    }
+
+    fn in_first_word(folders: impl IntoIterator<Item = PathBuf>) -> Option<Room> {
+        folders.into_iter().filter(|folder| is_word(folder)).find_map(|folder| Room::in_folder(&folder).ok())
     }
 
     pub(crate) fn file(&self, name: &str) -> PathBuf {
         self.0.join(name)
     }
+}
+
+/// Whether a path is a word of a request.
+fn is_word(path: &Path) -> bool {
+    path.to_str().is_some_and(|path| path.bytes().all(|byte| byte.is_ascii_graphic()))
 }
 
 impl Drop for Room {
@@ -155,9 +176,12 @@ fn ended(child: &mut Child, limit: Duration) -> Option<ExitStatus> {
 
 #[cfg(test)]
 mod tests {
-    use super::{found, nameless_file, said_in};
+    use super::{found, is_word, nameless_file, said_in, Room};
     use crate::wire::past::Found;
+    use std::env;
+    use std::fs;
     use std::io::Write;
+    use std::path::{Path, PathBuf};
 
     #[test]
     fn what_was_found_is_read() {
@@ -165,6 +189,17 @@ mod tests {
         for other in ["colock: a.db: in use", "colock: a.db: 1 events, 2 aborted, 3 s", "a.db: 12 events, 3 aborted, 4 ms", ""] {
             assert_eq!(found(other), None, "{other}");
         }
+    }
+
+    #[test]
+    fn paths_are_words() {
+        assert!(is_word(Path::new("/tmp/~a-b")) && ["/tmp/a b", "/tmp/\u{e4}", "/tmp/a\n"].iter().all(|path| !is_word(Path::new(path))));
+        let outer = Room::new().unwrap();
+        let spaced = outer.file("a b");
+        fs::create_dir(&spaced).unwrap();
+        let made = Room::in_first_word([spaced.clone(), PathBuf::from("/nothing/is/there"), env::temp_dir()]).unwrap();
+        assert!(made.file("x").starts_with(env::temp_dir()) && !made.file("x").starts_with(&spaced));
+        assert!(Room::in_first_word([spaced]).is_none());
     }
 
     #[test]

@@ -8,6 +8,7 @@ use crate::wire::beginning::Begins;
 use crate::wire::child::{listed, ok, Conversation, Link};
 use crate::wire::dropped::Dropped;
 use crate::wire::ending::FileId;
+use crate::wire::extending::Extending;
 use crate::wire::past::Past;
 use crate::wire::request::Request;
 use crate::wire::slot::Slot;
@@ -24,11 +25,13 @@ pub(crate) struct Remote {
     pub(crate) commits: AtomicU64,
     /// The commits that may come after what is asked later.
     pub(crate) underway: Underway,
+    /// How it gets more objects.
+    pub(crate) extending: Extending,
 }
 
 impl Remote {
-    pub(crate) fn new(link: Arc<Link>, past: Past, file: Option<FileId>) -> Remote {
-        Remote { link, past, file, commits: AtomicU64::new(0), underway: Underway::new() }
+    pub(crate) fn new(link: Arc<Link>, past: Past, file: Option<FileId>, extending: Extending) -> Remote {
+        Remote { link, past, file, commits: AtomicU64::new(0), underway: Underway::new(), extending }
     }
 
     /// Since when what others let go may be missing in an answer about an object that is asked for now: from this moment

@@ -20,6 +20,8 @@ pub(crate) enum Request<'a> {
     Types,
     Events(u32, u32),
     Stats,
+    /// Files, of objects and of types.
+    Extend(&'a str),
     End,
 }
 
@@ -57,6 +59,7 @@ impl fmt::Display for Request<'_> {
             Request::Types => f.write_str("types"),
             Request::Events(from, count) => write!(f, "events {from} {count}"),
             Request::Stats => f.write_str("stats"),
+            Request::Extend(files) => write!(f, "extend {files}"),
             Request::End => f.write_str("end"),
         }
     }
@@ -69,9 +72,11 @@ pub(crate) enum Answer<'a> {
     Ok(&'a str),
     Reply(&'a str),
     Busy(TransactionId),
-    /// The epoch is full.
+    /// The epoch is full, or others add objects.
     Drain,
     None,
+    /// Why no objects are added.
+    No(&'a str),
     Refused(Error),
 }
 
@@ -84,6 +89,7 @@ pub(crate) fn answer(line: &str) -> Option<Answer<'_>> {
         ("busy", "drain") => Some(Answer::Drain),
         ("busy", id) => id.parse().ok().map(Answer::Busy),
         ("none", "") => Some(Answer::None),
+        ("no", why) if !why.is_empty() => Some(Answer::No(why)),
         ("refused", kind) => refusal(kind).map(Answer::Refused),
         _ => None,
     }
@@ -151,6 +157,7 @@ mod tests {
             (Request::Would(id, 2, "inc:1"), "would 3.14 2 inc:1"),
             (Request::Rollback(id, 4_294_967_295), "rollback 3.14 4294967295"),
             (Request::Events(5, 65_536), "events 5 65536"),
+            (Request::Extend("a b.type"), "extend a b.type"),
         ];
         for (request, line) in rows {
             assert_eq!(request.to_string(), line);
@@ -166,6 +173,8 @@ mod tests {
             ("busy 3.14", Some(Answer::Busy(TransactionId { life: 3, number: 14 }))),
             ("busy drain", Some(Answer::Drain)),
             ("none", Some(Answer::None)),
+            ("no a: cannot read", Some(Answer::No("a: cannot read"))),
+            ("no", None),
             ("refused NotOpen", Some(Answer::Refused(Error::NotOpen))),
             ("refused Else", None),
             ("fault BadTag", None),

@@ -83,6 +83,8 @@ pub(crate) enum Form {
     /// The first line of all, which has no tag.
     Greeting,
     One,
+    /// As `One`, which may come after the answers to what is asked later.
+    Late,
     /// Some lines, and then `ok` or a refusal.
     List,
     /// As `One`, of the last answer of all.
