@@ -8,7 +8,7 @@ import enum
 import threading
 import time
 from dataclasses import dataclass
-from typing import Dict, List, NamedTuple, Optional, Sequence
+from typing import Dict, List, Mapping, NamedTuple, Optional
 
 
 class SeatState(enum.Enum):
@@ -45,7 +45,7 @@ class Turn(NamedTuple):
 class Hold:
     """A guest holds a seat, since a turn and until a time of `time.monotonic`. It is equal to itself alone."""
 
-    seat: int
+    seat: str
     guest: str
     turn: Turn
     until: float
@@ -58,25 +58,25 @@ class Hold:
 class Seen(NamedTuple):
     """The hall as one guest sees it."""
 
-    seats: List[Shown]
-    left: Dict[int, float]
+    seats: Dict[str, Shown]
+    left: Dict[str, float]
     """How many seconds are left of each hold of this guest."""
     sold: int
 
 
 class Board:
-    """The states of all seats after the last durable commits, and the holds. Threads share it."""
+    """The states of all seats, by their names, after the last durable commits, and the holds. Threads share it."""
 
-    def __init__(self, states: Sequence[SeatState], sold: int, hold_seconds: float) -> None:
+    def __init__(self, states: Mapping[str, SeatState], sold: int, hold_seconds: float) -> None:
         """The hall as the store has it while nobody holds a seat. A hold lasts `hold_seconds`, which is above 0."""
         self.hold_seconds = hold_seconds
         self._lock = threading.Lock()
-        self._states = list(states)
-        self._shown = [Turn(0, 0)] * len(self._states)
-        self._holds: Dict[int, Hold] = {}
+        self._states = dict(states)
+        self._shown = dict.fromkeys(states, Turn(0, 0))
+        self._holds: Dict[str, Hold] = {}
         self._sold = sold
 
-    def put(self, seat: int, guest: str, turn: Turn) -> Hold:
+    def put(self, seat: str, guest: str, turn: Turn) -> Hold:
         """A guest is to hold a seat. It is said before the commit, so that who finds the seat held knows by whom."""
         hold = Hold(seat, guest, turn, time.monotonic() + self.hold_seconds)
         with self._lock:
@@ -85,7 +85,7 @@ class Board:
                 self._holds[seat] = hold
         return hold
 
-    def hold_of(self, seat: int) -> Optional[Hold]:
+    def hold_of(self, seat: str) -> Optional[Hold]:
         """The hold that was put last at a seat. Where the seat isn't held, it says nothing."""
         with self._lock:
             return self._holds.get(seat)
@@ -102,7 +102,7 @@ class Board:
         with self._lock:
             return [hold for hold in self._holds.values() if hold.until <= now]
 
-    def show(self, seat: int, state: SeatState, turn: Turn) -> None:
+    def show(self, seat: str, state: SeatState, turn: Turn) -> None:
         """A seat has this state after a turn. It is shown after the durable commit."""
         with self._lock:
             hold = self._holds.get(seat)
@@ -115,7 +115,7 @@ class Board:
     def seen_by(self, guest: str) -> Seen:
         """What a guest is shown."""
         with self._lock:
-            seats = [Shown(state.value) for state in self._states]
+            seats = {seat: Shown(state.value) for seat, state in self._states.items()}
             mine = [hold for hold in self._holds.values() if hold.guest == guest and seats[hold.seat] is Shown.HELD]
             sold = self._sold
         for hold in mine:

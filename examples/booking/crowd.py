@@ -91,11 +91,11 @@ class Crowd:
         while len(statuses) < len(seats):
             asked = self._ask_once(action, {guest: seat for guest, seat in enumerate(seats) if guest not in statuses})
             statuses.update((guest, status) for guest, status in asked.items() if status != LATER)
-        return [Asked(guest, action, seat, statuses[guest]) for guest, seat in enumerate(seats)]
+        return [Asked(guest, action, (seat,), statuses[guest]) for guest, seat in enumerate(seats)]
 
     def _ask_once(self, action: str, seats: Dict[int, str]) -> Dict[int, int]:
         """What each of these guests is answered, who ask at once."""
-        bodies = {guest: json.dumps({"seat": seat}).encode("ascii") for guest, seat in seats.items()}
+        bodies = {guest: json.dumps({"seats": [seat]}).encode("ascii") for guest, seat in seats.items()}
         for guest, body in bodies.items():
             self._guests[guest].ask(action, body)
         self._until({guest: self._guests[guest].is_let_go_on for guest in seats})

@@ -1,22 +1,28 @@
 """The hall: its seats as objects of a store that lasts, and the transactions that hold, book and release them.
 
-Each seat is an object, and one object more counts the bookings. Two bookings of different seats run side by side,
-at the counter too: two ups don't conflict. Two guests at one seat come one after the other.
+Each seat is an object by its name, and one object more counts the bookings. One transaction has some seats, all of them or
+none. Two bookings of different seats run side by side, at the counter too, which is in escrow. Two guests at one seat come one
+after the other.
 """
 import itertools
+import string
 import time
-from typing import Callable, List, Optional, Tuple, TypeVar
+from typing import Callable, Dict, List, Optional, Sequence, Tuple, TypeVar
 
 import colock
 from board import Board, Hold, Seen, SeatState, Turn
 
-ROWS = "ABCDEFGH"
-SEATS_IN_ROW = 12
+LETTERS = string.ascii_uppercase
+ROWS = (*LETTERS, *("A" + letter for letter in LETTERS[:14]))
+"""40 rows: A to Z, then AA to AN."""
+SEATS_IN_ROW = 75
 SEATS = tuple(f"{row}{place}" for row in ROWS for place in range(1, SEATS_IN_ROW + 1))
-NUMBERS = {name: number for number, name in enumerate(SEATS)}
+PLACES = {name: place for place, name in enumerate(SEATS)}
 
-SOLD = len(SEATS)
+SOLD = "sold"
 """The object after those of the seats: how many are booked."""
+MOST_AT_ONCE = 10
+"""How many seats a transaction may have."""
 
 WAIT = 10.0
 """How many seconds a call waits for all who are before it. A transaction here takes milliseconds, and hundreds may be."""
@@ -53,10 +59,10 @@ def seat_step(state: SeatState, operation: Tuple[str, str]) -> Optional[SeatStat
 
 SEAT = colock.Type.from_steps("seat", SeatState.FREE, SEAT_OPERATIONS, seat_step)
 
-# In place (UNDO) two ups don't conflict. By INTENTIONS they would, since there may be room for one of them.
-COUNT = colock.Type.counter(len(SEATS), [1], colock.Kind.UNDO)
+# In escrow two bookings count up side by side: there is room for all that are open, as each has seats of its own.
+COUNT = colock.Type.number(len(SEATS), range(1, MOST_AT_ONCE + 1))
 
-OBJECTS = [SEAT] * len(SEATS) + [COUNT]
+OBJECTS = {**dict.fromkeys(SEATS, SEAT), SOLD: COUNT}
 
 # ---- what isn't done
 
@@ -73,12 +79,16 @@ class Disagree(Exception):
     """The counter of a file isn't the number of its booked seats. No transaction here leaves a file so."""
 
 
-def number_of(name: str) -> int:
-    """The object of a seat. Raises `NoSeat`."""
-    number = NUMBERS.get(name)
-    if number is None:
-        raise NoSeat(f"There is no seat {name[:20]!r}.")
-    return number
+def seats_of(names: Sequence[str]) -> List[str]:
+    """The seats of these names, each once. Raises `NoSeat`.
+
+    They are in the order of the hall, in which each transaction asks for them: so of two that want the same ones neither waits
+    for the other at one seat, and has another for which that one waits.
+    """
+    for name in names:
+        if name not in PLACES:
+            raise NoSeat(f"There is no seat {name[:20]!r}.")
+    return sorted(set(names), key=PLACES.__getitem__)
 
 
 # ---- the transactions
@@ -87,8 +97,8 @@ def number_of(name: str) -> int:
 class Hall:
     """The hall over its store. Threads share it.
 
-    `hold`, `book` and `release` are one transaction each, and come back when it is durable. Where they raise
-    `NoSeat` or `Denied`, nothing was changed. They raise what `Store.retry` does, too: `colock.OutcomeUnknown` and
+    `hold`, `book` and `release` of some seats, at most `MOST_AT_ONCE`, are one transaction each, and come back when it is
+    durable. Where they raise `NoSeat` or `Denied`, nothing was changed at any of them. They raise what `Store.retry` does, too: `colock.OutcomeUnknown` and
     `colock.ConnectionLost` where the store is lost.
     """
 
@@ -100,9 +110,9 @@ class Hall:
         self._store = store
         self._turns = itertools.count(1)
         states = store.retry(_woken, tries=TRIES)
-        sold = store.kept(SOLD)
-        if sold != states.count(SeatState.BOOKED):
-            raise Disagree(f"{states.count(SeatState.BOOKED)} seats are booked, and {sold} were counted")
+        booked, sold = list(states.values()).count(SeatState.BOOKED), store.kept(SOLD)
+        if sold != booked:
+            raise Disagree(f"{booked} seats are booked, and {sold} were counted")
         self._board = Board(states, sold, hold_seconds)
 
     @classmethod
@@ -119,43 +129,45 @@ class Hall:
             store.close()
             raise
 
-    def hold(self, name: str, guest: str) -> Hold:
-        """Holds a seat for a guest for a time. A guest who holds it already goes on to do so, for the same time."""
-        seat = number_of(name)
+    def hold(self, names: Sequence[str], guest: str) -> List[Hold]:
+        """Holds seats for a guest for a time. A guest who holds one already goes on to do so, for the same time."""
+        seats = seats_of(names)
 
-        def holding(t: colock.Transaction) -> Hold:
-            reply, turn = self._turn(t, seat, "hold")
-            return self._board.put(seat, guest, turn) if reply == "ok" else self._own(seat, guest, reply)
+        def holding(t: colock.Transaction) -> List[Hold]:
+            return [self._held(t, seat, guest) for seat in seats]
 
-        hold = self._done(holding)
-        self._board.show(seat, SeatState.HELD, hold.turn)
-        return hold
+        holds = self._done(holding)
+        for hold in holds:
+            self._board.show(hold.seat, SeatState.HELD, hold.turn)
+        return holds
 
-    def book(self, name: str, guest: str) -> None:
-        """Books a seat that the guest holds. The seat and the counter change together, or neither does."""
-        seat = number_of(name)
+    def book(self, names: Sequence[str], guest: str) -> None:
+        """Books seats that the guest holds. All of them and the counter change together, or none does."""
+        seats = seats_of(names)
 
-        def booking(t: colock.Transaction) -> Turn:
-            reply, turn = self._turn(t, seat, "book")
-            self._own(seat, guest, reply)
-            t.call(SOLD, "inc:1", wait=WAIT).executed()
-            return turn
+        def booking(t: colock.Transaction) -> List[Turn]:
+            turns = [self._booked(t, seat, guest) for seat in seats]
+            t.expect(SOLD, f"give:{len(seats)}", "ok", wait=WAIT)
+            return turns
 
-        turn = self._done(booking)
-        self._board.show(seat, SeatState.BOOKED, turn)
+        for seat, turn in zip(seats, self._done(booking)):
+            self._board.show(seat, SeatState.BOOKED, turn)
 
-    def release(self, name: str, guest: str) -> None:
-        """Releases a seat that the guest holds."""
-        hold = self._board.hold_of(number_of(name))
-        if hold is None or hold.guest != guest:
-            raise Denied(f"You don't hold {name}.")
-        self._release(hold)
+    def release(self, names: Sequence[str], guest: str) -> None:
+        """Releases seats that the guest holds."""
+        holds: List[Hold] = []
+        for seat in seats_of(names):
+            hold = self._board.hold_of(seat)
+            if hold is None or hold.guest != guest:
+                raise Denied(f"You don't hold {seat}.")
+            holds.append(hold)
+        self._release(holds)
 
     def sweep(self) -> None:
         """Releases what was held too long, and asks the store whether it is there. Raises as `release` but `Denied`."""
         for hold in self._board.overdue():
             try:
-                self._release(hold)
+                self._release([hold])
             except Denied:
                 self._board.drop(hold)
         self._store.kept(SOLD)
@@ -177,47 +189,61 @@ class Hall:
         """Closes the store in order: it ends its epoch. Raises `colock.ConnectionLost`."""
         self._store.close()
 
-    def _release(self, hold: Hold) -> None:
-        """Releases this hold, and not another one at its seat."""
+    def _held(self, t: colock.Transaction, seat: str, guest: str) -> Hold:
+        """Holds a seat in a transaction."""
+        reply, turn = self._turn(t, seat, "hold")
+        return self._board.put(seat, guest, turn) if reply == "ok" else self._own(seat, guest, reply)
 
-        def releasing(t: colock.Transaction) -> Turn:
-            reply, turn = self._turn(t, hold.seat, "release")
-            if self._own(hold.seat, hold.guest, reply) is not hold:
-                raise Denied(f"{SEATS[hold.seat]} is held anew.")
-            return turn
+    def _booked(self, t: colock.Transaction, seat: str, guest: str) -> Turn:
+        """Books a seat in a transaction."""
+        reply, turn = self._turn(t, seat, "book")
+        self._own(seat, guest, reply)
+        return turn
 
-        turn = self._done(releasing)
-        self._board.show(hold.seat, SeatState.FREE, turn)
+    def _release(self, holds: Sequence[Hold]) -> None:
+        """Releases these holds, and not others at their seats."""
+
+        def releasing(t: colock.Transaction) -> List[Turn]:
+            return [self._released(t, hold) for hold in holds]
+
+        for hold, turn in zip(holds, self._done(releasing)):
+            self._board.show(hold.seat, SeatState.FREE, turn)
+
+    def _released(self, t: colock.Transaction, hold: Hold) -> Turn:
+        reply, turn = self._turn(t, hold.seat, "release")
+        if self._own(hold.seat, hold.guest, reply) is not hold:
+            raise Denied(f"{hold.seat} is held anew.")
+        return turn
 
     def _done(self, f: Callable[[colock.Transaction], T]) -> T:
         """A function as a transaction, which is durable after this."""
         return self._store.retry(f, tries=TRIES)
 
-    def _turn(self, t: colock.Transaction, seat: int, call: str) -> Tuple[str, Turn]:
+    def _turn(self, t: colock.Transaction, seat: str, call: str) -> Tuple[str, Turn]:
         """The reply of a seat, after whoever is there; and the turn, drawn while nobody else can change the seat."""
         reply = t.call(seat, call, wait=WAIT).executed().reply
         return reply, Turn(int(t.id.partition(".")[0]), next(self._turns))
 
-    def _own(self, seat: int, guest: str, reply: str) -> Hold:
+    def _own(self, seat: str, guest: str, reply: str) -> Hold:
         """The guest's hold of a seat that replied so to the transaction. Else raises `Denied`, and it is aborted.
 
         A seat that replied that it is held stays held by the same guest while the transaction is open: a change by
         anybody else conflicts with its operation.
         """
         if reply in ("free", "booked"):
-            raise Denied(f"{SEATS[seat]} is booked." if reply == "booked" else f"Nobody holds {SEATS[seat]}.")
+            raise Denied(f"{seat} is booked." if reply == "booked" else f"Nobody holds {seat}.")
         hold = self._board.hold_of(seat)
         if hold is None or hold.guest != guest:
-            raise Denied(f"Somebody else holds {SEATS[seat]}.")
+            raise Denied(f"Somebody else holds {seat}.")
         return hold
 
 
-def _woken(t: colock.Transaction) -> List[SeatState]:
+def _woken(t: colock.Transaction) -> Dict[str, SeatState]:
     """The states of all seats where a service begins. Who held a seat isn't known any more, so it is released."""
-    return [_woken_seat(t, seat) for seat in range(len(SEATS))]
+    return {seat: _woken_seat(t, seat) for seat in SEATS}
 
 
-def _woken_seat(t: colock.Transaction, seat: int) -> SeatState:
+def _woken_seat(t: colock.Transaction, seat: str) -> SeatState:
     state = SeatState(t.call(seat, "look").executed().reply)
     if state is not SeatState.HELD:
         return state

@@ -1,5 +1,5 @@
 #!/usr/bin/env python3
-"""Guests in threads that hold, book and release seats at random, each as fast as it is answered.
+"""Guests in threads that hold, book and release seats at random, some at once, each as fast as it is answered.
 
 What was answered is kept. A request that gets no answer, since the service was killed, is kept too, and isn't sent
 again: nobody knows whether it was done.
@@ -21,8 +21,9 @@ PATIENCE = 30.0
 LONGEST = 60.0
 # How often a guest who holds a seat goes on with it, and how often that is to book it and not to release it.
 GOES_ON, BOOKS = 0.8, 0.15
-# What a guest asks at a seat that may be anybody's.
+# What a guest asks at seats that may be anybody's, and how many seats it wants at most.
 ANYWHERE = ["hold"] * 8 + ["book", "release"]
+MOST = 3
 
 
 class Asked(NamedTuple):
@@ -30,7 +31,7 @@ class Asked(NamedTuple):
 
     guest: int
     action: str
-    seat: str
+    seats: Tuple[str, ...]
     status: Optional[int]
 
 
@@ -100,25 +101,29 @@ class Guest(threading.Thread):
         finally:
             self._hang_up()
 
-    def _chosen(self, seats: Sequence[str]) -> Tuple[str, str]:
-        """An action and a seat."""
+    def _chosen(self, seats: Sequence[str]) -> Tuple[str, Tuple[str, ...]]:
+        """An action and its seats."""
         source = self._source
         if self._held and source.random() < GOES_ON:
-            return ("book" if source.random() < BOOKS else "release"), source.choice(self._held)
-        return source.choice(ANYWHERE), source.choice(seats)
+            return ("book" if source.random() < BOOKS else "release"), self._drawn(self._held)
+        return source.choice(ANYWHERE), self._drawn(seats)
 
-    def _ask(self, action: str, seat: str) -> None:
+    def _drawn(self, seats: Sequence[str]) -> Tuple[str, ...]:
+        """Some of these seats."""
+        return tuple(self._source.sample(seats, min(len(seats), self._source.randint(1, MOST))))
+
+    def _ask(self, action: str, seats: Tuple[str, ...]) -> None:
         """One request, and what the guest then knows."""
-        status = self._status(action, seat)
-        self.asked.append(Asked(self._number, action, seat, status))
-        if action == "hold" and status == 200 and seat not in self._held:
-            self._held.append(seat)
-        elif action != "hold" and seat in self._held:
-            self._held.remove(seat)
+        status = self._status(action, seats)
+        self.asked.append(Asked(self._number, action, seats, status))
+        if action == "hold" and status == 200:
+            self._held += [seat for seat in seats if seat not in self._held]
+        elif action != "hold":
+            self._held = [seat for seat in self._held if seat not in seats]
 
-    def _status(self, action: str, seat: str) -> Optional[int]:
+    def _status(self, action: str, seats: Tuple[str, ...]) -> Optional[int]:
         connection = self._connected()
-        body = json.dumps({"seat": seat})
+        body = json.dumps({"seats": seats})
         try:
             connection.request("POST", f"/{action}", body, {**self._headers, "Content-Type": "application/json"})
             return self._answered(connection)[0]
@@ -176,9 +181,9 @@ class Guest(threading.Thread):
 def counts(asked: Sequence[Asked]) -> List[str]:
     """What came of the requests, in lines."""
     statuses: Counter[Optional[int]] = collections.Counter(one.status for one in asked)
-    booked = sum(one.action == "book" and one.status == 200 for one in asked)
+    booked = sum(len(one.seats) for one in asked if one.action == "book" and one.status == 200)
     lines = [f"{count} of status {status}" for status, count in sorted((s, n) for s, n in statuses.items() if s is not None)]
-    return [*lines, f"{statuses[None]} without an answer", f"{booked} bookings were answered"]
+    return [*lines, f"{statuses[None]} without an answer", f"{booked} seats were booked"]
 
 
 def main(words: Optional[List[str]] = None) -> int:

@@ -17,7 +17,7 @@ from typing import Any, Callable, Dict, List, NamedTuple, Optional, Tuple, Type
 import colock
 from board import Shown
 from files import allow_files
-from hall import ROWS, SEATS, SEATS_IN_ROW, SOLD, Denied, Disagree, Hall, NoSeat
+from hall import MOST_AT_ONCE, OBJECTS, ROWS, SEATS_IN_ROW, SOLD, Denied, Disagree, Hall, NoSeat
 
 PAGE = os.path.join(os.path.dirname(os.path.abspath(__file__)), "hall.html")
 # The page has its style and its script in itself, and asks nobody else for anything.
@@ -26,8 +26,10 @@ POLICY = (
     "base-uri 'none'; form-action 'none'; frame-ancestors 'none'"
 )
 METHODS = {"/": "GET", "/seats": "GET", "/hold": "POST", "/book": "POST", "/release": "POST"}
-# In bytes; a request has one name of a seat.
+# In bytes; a request has the names of ten seats at most.
 LONGEST_BODY = 200
+# The object that counts bookings.
+COUNTER = list(OBJECTS).index(SOLD)
 # How often holds are looked through that last too long, in seconds; a store that is lost is found out then, too.
 SWEEP = 0.5
 # How many seconds requests that are being answered have where the service ends.
@@ -86,37 +88,37 @@ def later(words: str) -> Answer:
 CLOSING = later("The service is closing. Try again in a moment.")
 
 
-def seat_of(body: bytes) -> str:
-    """The seat that a body names. Raises `BadRequest`."""
+def seats_in(body: bytes) -> List[str]:
+    """The seats that a body names. Raises `BadRequest`."""
     try:
         content = json.loads(body)
     except ValueError:
         raise BadRequest("The body isn't JSON.") from None
-    seat = content.get("seat") if isinstance(content, dict) else None
-    if not isinstance(seat, str):
-        raise BadRequest('The body has to be as {"seat": "C7"}.')
-    return seat
+    names = content.get("seats") if isinstance(content, dict) else None
+    if not (isinstance(names, list) and 1 <= len(names) <= MOST_AT_ONCE and all(isinstance(name, str) for name in names)):
+        raise BadRequest(f'The body has to be as {{"seats": ["C7", "C8"]}}, with at most {MOST_AT_ONCE} seats.')
+    return names
 
 
-def hold(hall: Hall, seat: str, guest: str) -> Json:
-    """Holds a seat; what is answered."""
-    held = hall.hold(seat, guest)
-    return {"seat": seat, "state": Shown.MINE.value, "left": round(held.left(), 1)}
+def hold(hall: Hall, names: List[str], guest: str) -> Json:
+    """Holds seats; what is answered."""
+    holds = hall.hold(names, guest)
+    return {"seats": names, "state": Shown.MINE.value, "left": round(min(hold.left() for hold in holds), 1)}
 
 
-def book(hall: Hall, seat: str, guest: str) -> Json:
-    """Books a seat; what is answered."""
-    hall.book(seat, guest)
-    return {"seat": seat, "state": Shown.BOOKED.value}
+def book(hall: Hall, names: List[str], guest: str) -> Json:
+    """Books seats; what is answered."""
+    hall.book(names, guest)
+    return {"seats": names, "state": Shown.BOOKED.value}
 
 
-def release(hall: Hall, seat: str, guest: str) -> Json:
-    """Releases a seat; what is answered."""
-    hall.release(seat, guest)
-    return {"seat": seat, "state": Shown.FREE.value}
+def release(hall: Hall, names: List[str], guest: str) -> Json:
+    """Releases seats; what is answered."""
+    hall.release(names, guest)
+    return {"seats": names, "state": Shown.FREE.value}
 
 
-ACTIONS: Dict[str, Callable[[Hall, str, str], Json]] = {"/hold": hold, "/book": book, "/release": release}
+ACTIONS: Dict[str, Callable[[Hall, List[str], str], Json]] = {"/hold": hold, "/book": book, "/release": release}
 
 
 def seats(hall: Hall, guest: str) -> Json:
@@ -125,10 +127,11 @@ def seats(hall: Hall, guest: str) -> Json:
     return {
         "rows": ROWS,
         "seats_in_row": SEATS_IN_ROW,
+        "most_at_once": MOST_AT_ONCE,
         "hold_seconds": hall.hold_seconds,
         "sold": seen.sold,
-        "seats": {name: shown.value for name, shown in zip(SEATS, seen.seats)},
-        "left": {SEATS[seat]: round(left, 1) for seat, left in seen.left.items()},
+        "seats": {name: shown.value for name, shown in seen.seats.items()},
+        "left": {name: round(left, 1) for name, left in seen.left.items()},
     }
 
 
@@ -206,7 +209,7 @@ class Server(ThreadingHTTPServer):
                 return self.page
             if path == "/seats":
                 return told(seats(self.hall, guest))
-            return told(ACTIONS[path](self.hall, seat_of(body), guest))
+            return told(ACTIONS[path](self.hall, seats_in(body), guest))
         except BadRequest as error:
             return refused(400, str(error))
         except NoSeat as error:
@@ -241,7 +244,7 @@ class Server(ThreadingHTTPServer):
             self.lost = error
             return
         done = f"{stats.commits} commits, {stats.aborts} aborts, {stats.waits} waits of {stats.waited:.3f} s in all"
-        print(f"service.py: {done}; {stats.busy[SOLD]} times busy at the counter; {self.requests.most} requests at once", file=sys.stderr)
+        print(f"service.py: {done}; {stats.busy[COUNTER]} times busy at the counter; {self.requests.most} requests at once", file=sys.stderr)
 
     def handle_error(self, request: Any, client_address: Any) -> None:
         """A client that went away is no error of the service."""

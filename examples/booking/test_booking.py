@@ -23,7 +23,7 @@ from unittest import mock
 
 import colock
 from crowd import Crowd
-from hall import SEAT_OPERATIONS, SEATS, SOLD, Denied, Hall, NoSeat
+from hall import COUNT, MOST_AT_ONCE, SEAT_OPERATIONS, SEATS, Denied, Hall, NoSeat
 from load import Asked, Load
 from service import LATER, Server
 
@@ -37,6 +37,9 @@ LIMIT = 60.0
 # States are numbered as they are found: from free, "hold ok" leads to the first new one, and "book ok" on to the next.
 HELD, BOOKED = 1, 2
 BOOK_OK = SEAT_OPERATIONS.index(("book", "ok"))
+# The object that counts, and by how many each of its operations does.
+SOLD = len(SEATS)
+COUNTED = {COUNT.operations.index(colock.TypeOperation(f"give:{n}", "ok")): n for n in range(1, MOST_AT_ONCE + 1)}
 
 # ---- the service
 
@@ -153,9 +156,9 @@ class Client:
             assert json.loads(content)["error"], content
         return answer.status
 
-    def post(self, action: str, seat: str) -> int:
-        """The status of an action at a seat."""
-        return self.status("POST", f"/{action}", json.dumps({"seat": seat}).encode())
+    def post(self, action: str, *seats: str) -> int:
+        """The status of an action at seats."""
+        return self.status("POST", f"/{action}", json.dumps({"seats": seats}).encode())
 
     def seats(self) -> Dict[str, Any]:
         """The hall as it is shown."""
@@ -292,8 +295,8 @@ class LoadTest(ServiceTest):
         self.assertEqual(len(asked), REQUESTS)
         statuses = {one.status for one in asked}
         self.assertEqual(statuses - {503}, {200, 409, None}, self.service.said())
-        answered = [one.seat for one in asked if one.action == "book" and one.status == 200]
-        unknown = {one.seat for one in asked if one.action == "book" and one.status in (None, 503)}
+        answered = [seat for one in asked if one.action == "book" and one.status == 200 for seat in one.seats]
+        unknown = {seat for one in asked if one.action == "book" and one.status in (None, 503) for seat in one.seats}
         booked = {name for name, state in zip(SEATS, states) if state == BOOKED}
         self.assertGreater(len(answered), 10)
         self.assertEqual(len(set(answered)), len(answered), "a seat was sold twice")
@@ -317,9 +320,8 @@ class LoadTest(ServiceTest):
         seats: List[int] = []
         for operations in history.committed():
             booked = [x for x, k in operations if x < SOLD and k == BOOK_OK]
-            counted = [x for x, _ in operations if x == SOLD]
-            self.assertLessEqual(len(booked), 1)
-            self.assertEqual(len(counted), len(booked))
+            counted = [COUNTED[k] for x, k in operations if x == SOLD]
+            self.assertEqual(counted, [len(booked)] if booked else [])
             seats += booked
         return seats
 
@@ -351,7 +353,7 @@ class CrowdTest(ServiceTest):
         for asked in held, booked:
             self.assertEqual({one.status for one in asked}, {200, 409})
         # one guest holds each seat that was asked for, and books it
-        winners = [[(one.guest, one.seat) for one in asked if one.status == 200] for asked in (held, booked)]
+        winners = [[(one.guest, *one.seats) for one in asked if one.status == 200] for asked in (held, booked)]
         self.assertEqual(sorted(seat for _, seat in winners[0]), sorted(set(seats)))
         self.assertEqual(winners[1], winners[0])
         self.assertEqual({name for name, state in shown["seats"].items() if state == "booked"}, set(seats))
@@ -386,13 +388,27 @@ class AnswersTest(ServiceTest):
         self.assertEqual(self.service.terminate(), 0)
         self.assertEqual(self.audited()[SOLD], 1)
 
+    def test_several_seats_at_once(self) -> None:
+        ann, bob = Client(self.service), Client(self.service)
+        self.assertEqual((ann.post("hold", "AN75", "A1", "C7"), bob.post("hold", "C6", "C7", "C8")), (200, 409))
+        # of what is denied nothing is done
+        self.assertEqual([bob.seats()["seats"][name] for name in ("C6", "C7", "C8", "A1")], ["free", "held", "free", "held"])
+        self.assertEqual((bob.post("hold", "C8", "C6"), bob.post("book", "C6", "C7"), bob.post("book", "C6", "C8", "C6")), (200, 409, 200))
+        self.assertEqual((ann.post("book", "A1", "C8"), ann.post("release", "AN75", "C8"), ann.post("book", "A1", "AN75", "C7")), (409, 409, 200))
+        shown = ann.seats()
+        self.assertEqual((shown["sold"], {name for name, word in shown["seats"].items() if word == "booked"}), (5, {"A1", "AN75", "C6", "C7", "C8"}))
+        self.assertEqual(self.service.terminate(), 0)
+        self.assertEqual(self.audited()[SOLD], 5)
+
     def test_what_is_no_request(self) -> None:
         ann = Client(self.service)
         for path in "/nothing", "/seats/C7", "/hall.html":
             self.assertEqual((ann.status("GET", path), ann.status("POST", path)), (404, 404))
-        self.assertEqual((ann.post("hold", "C13"), ann.post("book", "c7"), ann.post("release", "")), (404, 404, 404))
-        for body in b"", b"C7", b'{"seat": 7}', b'["C7"]', b'{"chair": "C7"}', b"\xff", b'{"seat": "C7"}' + b" " * 200:
+        self.assertEqual((ann.post("hold", "C76"), ann.post("book", "c7"), ann.post("release", ""), ann.post("hold", "C7", "sold")), (404,) * 4)
+        for body in b"", b"C7", b'{"seats": "C7"}', b'{"seats": []}', b'{"seats": [7]}', b'["C7"]', b'{"chairs": ["C7"]}', b"\xff", b'{"seats": ["C7"]}' + b" " * 200:
             self.assertEqual(ann.status("POST", "/hold", body), 400, body)
+        self.assertEqual((ann.post("hold", *SEATS[:11]), ann.post("hold", *SEATS[:10])), (400, 200))
+        self.assertEqual(ann.post("release", *SEATS[:10]), 200)
         for method, path in ("GET", "/hold"), ("POST", "/seats"), ("POST", "/"):
             answer, _ = ann.sent(method, path)
             self.assertEqual((answer.status, answer.getheader("Allow")), (405, "POST" if method == "GET" else "GET"))
@@ -413,7 +429,7 @@ class ReasonsTest(unittest.TestCase):
         server = Server("127.0.0.1", 0, False)
         self.addCleanup(server.server_close)
         server.hall = mock.Mock(hold=mock.Mock(side_effect=error))
-        answer = server.answer("/hold", b'{"seat": "C7"}', "ann")
+        answer = server.answer("/hold", b'{"seats": ["C7"]}', "ann")
         return answer.status, json.loads(answer.content)["error"], server.stop.is_set()
 
     def test_what_goes_on(self) -> None:
