@@ -10,9 +10,9 @@ import re
 LONGEST, MOST_OPEN, MOST_TOLD = 4_096, 1024, 65_536
 # How many objects a text may have that doesn't say it.
 FEW = 256
-# What comes after each verb: a transaction, a number or a name.
-WORDS = {"begin": "", "call": "txn", "would": "txn", "commit": "t", "abort": "t", "rollback": "tx", "kept": "x",
-         "objects": "", "types": "", "events": "xx", "stats": "", "end": ""}
+# What comes after each verb: a transaction, an object, a number, a name, or the name of an object.
+WORDS = {"begin": "", "call": "ton", "would": "ton", "commit": "t", "abort": "t", "rollback": "tx", "kept": "o",
+         "objects": "", "types": "", "events": "xx", "stats": "", "end": "", "extend": "w*", "find": "m"}
 
 
 # ---- what a line asks
@@ -23,6 +23,17 @@ class Fault(Exception):
 
 def is_name(word):
     return re.fullmatch(r"[a-z0-9_:-]{1,32}", word) is not None
+
+
+def is_object_name(word):
+    return re.fullmatch(r"[a-zA-Z0-9_:./-]{1,64}", word) is not None
+
+
+def object_asked(word):
+    """An object by its number, or by its name, which is a text."""
+    if word.startswith("@") and is_object_name(word[1:]):
+        return word[1:]
+    return number(word)
 
 
 def number(word):
@@ -43,9 +54,14 @@ def asked(words):
     if not words or words[0] not in WORDS:
         raise Fault("UnknownVerb")
     form = WORDS[words[0]]
-    if len(words) != len(form) + 1 or any(f == "n" and not is_name(word) for f, word in zip(form, words[1:])):
+    if form == "w*":
+        if len(words) < 3:
+            raise Fault("BadWords")
+        return words
+    tests = {"n": is_name, "m": is_object_name}
+    if len(words) != len(form) + 1 or any(f in tests and not tests[f](word) for f, word in zip(form, words[1:])):
         raise Fault("BadWords")
-    read = {"t": transaction, "x": number, "n": str}
+    read = {"t": transaction, "x": number, "o": object_asked, "n": str, "m": str}
     return [words[0]] + [read[f](word) for f, word in zip(form, words[1:])]
 
 
@@ -275,15 +291,20 @@ class Seen:
 
 class Model:
     """A store in a file: the states where the epoch began, its whole history, how many of these events are answered as
-    durable, and the number of its life."""
+    durable, and the number of its life. An object is its kind, the place of its type, and where it has one its name."""
 
     def __init__(self, objects, types):
         self.objects, self.types = objects, types
-        self.starts, self.events, self.durable = [types[place].initial for _, place in objects], [], 0
+        self.starts, self.events, self.durable = [types[place].initial for _, place, *_ in objects], [], 0
         self.life = 0
 
     def type_of(self, x):
         return self.types[self.objects[x][1]]
+
+    def number_of(self, x):
+        """The number of an object that is asked for; of a name that none has that of no object."""
+        names = list(map(name_of, self.objects))
+        return x if isinstance(x, int) else names.index(x) if x in names else len(names)
 
     def view(self, s, x, t):
         """What a transaction sees at an object."""
@@ -332,7 +353,7 @@ class Model:
         """Why the store refuses this, or none."""
         if verb == "begin":
             return "TooManyOpen" if len(s.open_ones()) >= MOST_OPEN else None
-        if verb == "kept":
+        if verb in ("kept", "find"):
             return "NoObject" if rest[0] >= len(self.objects) else None
         if verb not in ("call", "would", "commit", "abort", "rollback"):
             return None
@@ -354,7 +375,7 @@ class Model:
     def listed(self, verb, *rest):
         """The lines of an answer of several."""
         if verb == "objects":
-            return [f"object {kind} {place}" for kind, place in self.objects]
+            return list(map(object_line, self.objects))
         if verb == "types":
             return [line for type_ in self.types for line in type_.text.split("\n")]
         return [line_of(event) for event in self.events[rest[0] :][: min(rest[1], MOST_TOLD)]]
@@ -367,6 +388,8 @@ class Model:
             return self.listed(verb, *rest) + ["ok"]
         if verb == "stats":
             return [f"ok events {len(self.events)} begun {s.begun} open {len(s.open_ones())}"]
+        if verb == "find":
+            return [f"ok {rest[0]}"]
         if verb == "kept":
             return [f"ok {self.kept(s, rest[0])}"]
         if verb == "begin":
@@ -388,6 +411,9 @@ class Model:
         if request == ["end"]:
             return [f"{tag} ok\n"]
         s = Seen(self.events)
+        # the words of these verbs are in the places of `WORDS`
+        forms = "-" + WORDS[request[0]]
+        request = [self.number_of(word) if form in "om" else word for form, word in zip(forms, request)]
         refused = self.refusal(s, *request)
         lines = [f"refused {refused}"] if refused else self.done(s, *request)
         return [f"{tag} {line}\n" for line in lines]
@@ -407,6 +433,18 @@ class Model:
         self.starts = [self.kept(s, x) for x in range(len(self.objects))]
         self.events, self.durable, self.life = [], 0, self.life + 1
 
+    def extended(self, objects, types):
+        """Another epoch begins, with more objects, whose places are those of these types: the types that the file has
+        are there once."""
+        self.renewed()
+        places = []
+        for type_ in types:
+            known = [other.text for other in self.types]
+            places.append(known.index(type_.text) if type_.text in known else len(known))
+            self.types += [type_] * (type_.text not in known)
+        self.starts += [types[place].initial for _, place, *_ in objects]
+        self.objects += [(kind, places[place], *name) for kind, place, *name in objects]
+
     def history(self):
         lines = [*object_lines(self.objects), *map(line_of, self.events), "end"]
         return "".join(line + "\n" for line in lines)
@@ -418,14 +456,24 @@ class Model:
 
 
 def size_lines(objects):
-    """How many objects a text of these may have, which it says where that is more than 256."""
-    size = max(len(objects), *(place + 1 for _, place in objects))
-    return [f"objects {size}"] * (size > FEW)
+    """How many objects a text of these may have, which it says where that is more than 256, or one has a name."""
+    size = max(len(objects), *(place + 1 for _, place, *_ in objects))
+    return [f"objects {size}"] * (size > FEW or any(map(name_of, objects)))
+
+
+def name_of(of):
+    """The name of an object, or none."""
+    return of[2] if len(of) > 2 else None
+
+
+def object_line(of):
+    """The line of an object."""
+    return " ".join(["object", *map(str, of)])
 
 
 def object_lines(objects):
     """How a history of these objects begins."""
-    return size_lines(objects) + [f"object {kind} {place}" for kind, place in objects]
+    return size_lines(objects) + list(map(object_line, objects))
 
 
 def line_of(event):

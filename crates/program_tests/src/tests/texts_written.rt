@@ -93,6 +93,7 @@ fn read_again(rt: &(impl Abort + AllocGlobal), count: usize) -> HistoryFile {
     let object = ObjectLine {
         kind: Kind::Undo,
         file: 0,
+        name: None,
     };
     let alloc = rt.alloc();
     let mut objects = Vec::new(alloc);
