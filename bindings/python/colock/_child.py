@@ -4,7 +4,7 @@ import threading
 import time
 from contextlib import suppress
 from functools import partial
-from typing import TYPE_CHECKING, Callable, Collection, Dict, List, NamedTuple, NoReturn, Optional, Sequence, Tuple
+from typing import TYPE_CHECKING, Callable, Collection, Dict, List, NoReturn, Optional, Sequence, Tuple
 from typing import Type as Class
 
 from ._backend import Backend, Finish, Steps
@@ -22,17 +22,15 @@ from ._errors import (
     NoCall,
     NoMemory,
     NoObject,
-    NoObjects,
     NotOpenError,
     OutcomeUnknown,
-    Refused,
     TimedOut,
-    TooManyObjects,
     TooManyOpenError,
 )
 from ._events import Event, read_event
+from ._extensions import Extending, Work, check_addition, refuse_objects
 from ._object_files import room_for_words, write_objects
-from ._objects import MOST_OBJECTS, Given, check_names
+from ._objects import Given
 from ._outcomes import Archive, outcome_in
 from ._replies import Busy, Operation, Reply
 
@@ -52,18 +50,9 @@ REFUSALS: Dict[str, Class[Error]] = {
     "BadRollback": BadRollback,
 }
 STATS = re.compile(rb"ok events ([0-9]+) begun [0-9]+ open ([0-9]+)")
-# That the type of an object isn't accepted.
-NOT_ACCEPTED = re.compile(r"# object [0-9]+ no ([A-Za-z]+)((?: [0-9]+)*)")
 # The most bytes of a request, and how long it is waited before one is made again that was answered `busy drain`.
 LONGEST_REQUEST = 4_096
 SECONDS_OF_DRAIN = 0.01
-
-
-class Extending(NamedTuple):
-    """What an extension needs: the program, which writes texts of types; and how many seconds a command and an epoch may take."""
-
-    program: str
-    limit: float
 
 
 class Child(Backend):
@@ -130,28 +119,20 @@ class Child(Backend):
         self.run(self._check_connection)
         for of, _ in added:
             of._use()
-        work = _Work(partial(self._extend, added))
+        work = Work(partial(self._extend, added))
         work.start()
         return work.result()
 
     def _extend(self, added: List[Given]) -> int:
         """Adds objects, after those that others add."""
         with self._one_extension:
-            self.run(partial(self._check_addition, added))
+            self.run(partial(check_addition, added, self.types, self.numbers))
             with room_for_words() as folder:
                 try:
                     files = write_objects(self._extending.program, folder, added, self._extending.limit)
                 except OSError as error:
                     raise CannotExtend(str(error)) from error
                 return self._extend_by(files, added)
-
-    def _check_addition(self, added: List[Given]) -> None:
-        """That these objects may be added, as far as is known."""
-        check_names(added, self.numbers)
-        if not added:
-            raise NoObjects(NoObjects.__doc__)
-        if len(self.types) + len(added) > MOST_OBJECTS:
-            raise TooManyObjects(TooManyObjects.__doc__)
 
     def _extend_by(self, files: Sequence[str], added: List[Given]) -> int:
         """Adds the objects of these files, which are asked for again where the program adds others, within the limit."""
@@ -183,7 +164,7 @@ class Child(Backend):
         if answer == b"busy drain":
             return None
         if answer.startswith(b"no "):
-            _refuse_objects(answer[3:].decode("ascii", "replace"))
+            refuse_objects(answer[3:].decode("ascii", "replace"))
         first = len(self.types)
         if answer != b"ok %d" % first:
             self._refuse(answer)
@@ -613,37 +594,3 @@ class Child(Backend):
     def __del__(self) -> None:
         if not self._has_finished:
             self._connection.let_go()
-
-
-class _Work(threading.Thread):
-    """What is done by a thread of its own, to its end, also where whoever waits for it is interrupted."""
-
-    def __init__(self, act: Callable[[], int]) -> None:
-        super().__init__(name="colock extension", daemon=True)
-        self._act, self._told = act, 0
-        self._error: Optional[BaseException] = None
-
-    def run(self) -> None:
-        try:
-            self._told = self._act()
-        except BaseException as error:
-            self._error = error
-
-    def result(self) -> int:
-        """What came of it."""
-        self.join()
-        if self._error is not None:
-            raise self._error
-        return self._told
-
-
-def _refuse_objects(why: str) -> NoReturn:
-    """Raises why no objects were added, by the words of the program."""
-    words = NOT_ACCEPTED.fullmatch(why)
-    if words is not None:
-        raise Refused(words[1], tuple(map(int, words[2].split())))
-    if why == "TooLarge":
-        raise TooManyObjects(TooManyObjects.__doc__)
-    if why == "no memory":
-        raise NoMemory(NoMemory.__doc__)
-    raise CannotExtend(why)

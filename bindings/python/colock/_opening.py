@@ -4,9 +4,10 @@ import re
 import tempfile
 from typing import Dict, List, NamedTuple, NoReturn, Optional, Sequence, Set, Tuple
 
-from ._child import Child, Extending
+from ._child import Child
 from ._connection import Connection
 from ._errors import BadText, CannotOpen, ConnectionLost, OtherObjects, Refused, TooManyObjects
+from ._extensions import Extending
 from ._identity import store_id
 from ._library import unsigned
 from ._object_files import write_objects
