@@ -1,11 +1,11 @@
 -- Numbers are accepted, and their files at another value.
-use Rattle.std.proofs.Common.{◌≡◌, ℕ, ◌+◌, ◌-◌, inl, inr, List, [], ◌∷◌, ◌++◌, length, Some, slice_get, refl, sym, ap, subst, ◌∙◌, arith}
+use Rattle.std.proofs.Common.{◌≡◌, ℕ, Bool, ◌+◌, ◌-◌, inl, inr, List, [], ◌∷◌, ◌++◌, length, Some, slice_get, refl, sym, ap, subst, ◌∙◌, arith}
 use Rattle.std.proofs.Math.Seq.{get_or-append_seam}
 use Rattle.std.proofs.lemmas.Bool.{cases_lt}
 use Rattle.std.proofs.lemmas.Option.{slice_get-get_or, slice_get_within}
 use Rattle.std.proofs.lemmas.List.{length-append}
 use Rattle.type_table.proofs.Elements.{slice_get-front}
-use Rattle.type_table.specs.Table.{Table as TableValue}
+use Rattle.type_table.specs.Table.{Table as TableValue, next}
 use Rattle.escrow_laws.specs.Bounds.{AreBounds, bounds_of}
 use Rattle.escrow_laws.specs.declared.bounded.Bounded.{Bounded}
 use Rattle.number_types.specs.Number.{Number, number_at}
@@ -15,6 +15,7 @@ use Rattle.type_table.specs.declared.kind.Kind.{Kind}
 use Rattle.type_table.specs.declared.kind.Kind.TheVariants.{Escrow}
 use Rattle.declared_types.specs.declared.type_file.TypeFile.{TypeFile}
 use Rattle.table_checker.specs.Declarations.{HoldsBounds, NumberIsChecked}
+use Rattle.table_checker.specs.Still.{HoldsStill, is_still_in}
 use Rattle.declared_types.specs.Declarations.{file_of, number_file, declared_at, IsDeclaredFor}
 use Rattle.declared_types.specs.declared.declared_type.Declaration.{Declaration}
 use Rattle.declared_types.specs.declared.declared_type.Declaration.TheVariants.{Table, Number as Numbers}
@@ -52,6 +53,15 @@ declared_for-at kind (Numbers v) s is = is
 pub holds_bounds-at : (kind : Kind) (d : Declaration) (s : ℕ) (bounds : List Bounded) → HoldsBounds kind d bounds → HoldsBounds kind (declared_at d s) bounds
 holds_bounds-at kind (Table file) s bounds holds = λ escrow. holds escrow ∙ sym (bounds-at file.table s)
 holds_bounds-at kind (Numbers v) s bounds holds = λ k b at. ap (λ (bs : List Bounded). slice_get bs k) (bounds-at (number_table v) s) ∙ holds k b at
+
+-- and an operation changes nothing wherever it begins
+pub still-at : (file : TypeFile) (s k : ℕ) → is_still_in (file_at file s) k ≡ is_still_in file k
+unfolding next
+still-at file s k = refl
+
+pub holds_still-at : (kind : Kind) (d : Declaration) (s : ℕ) (still : List Bool) → HoldsStill kind (file_of d) still → HoldsStill kind (file_of (declared_at d s)) still
+holds_still-at kind (Table file) s still holds = λ by_table k below. holds by_table k below ∙ sym (still-at file s k)
+holds_still-at kind (Numbers v) s still holds = λ by_table k below. holds by_table k below ∙ sym (still-at (number_file v) s k)
 
 -- what is held of a table is its bounds
 pub held_of_table : (kind : Kind) (d : Declaration) (bounds : List Bounded) (file : TypeFile) → HoldsBounds kind d bounds → d ≡ Table file → kind ≡ Escrow → bounds ≡ bounds_of file.table

@@ -7,3 +7,4 @@ pub mod Answers
 pub mod BeginsAt
 pub mod Yeses
 pub mod Declared
+pub mod StillScan

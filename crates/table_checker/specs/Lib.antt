@@ -1,5 +1,6 @@
 pub mod Condition
 pub mod Scan
+pub mod Still
 pub mod Reach
 pub mod Checked
 pub mod Refusal

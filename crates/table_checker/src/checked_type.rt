@@ -7,17 +7,19 @@ ghost use Rattle.escrow_laws.specs.Bounds.{AreBounds, bounds_of};
 ghost use Rattle.number_types.specs.Operations.{number_ops, number_table};
 ghost use Rattle.table_checker.specs.Checked.{condition_of};
 ghost use Rattle.table_checker.specs.Declarations.{HoldsBounds};
+ghost use Rattle.table_checker.specs.Still.{is_still_in};
 ghost use Rattle.declared_types.specs.declared.declared_type.Declaration.TheVariants.{Number as Numbers};
 
 use crate::condition::Condition;
 use crate::laws::{at_is_checked, number_is_checked};
 use crate::scan::passes_everywhere;
+use crate::still::still_operations;
 use declared_types::{Declaration, DeclaredType, TypeFile};
 use escrow_laws::{Bounded, OpBounds};
 use number_types::{NumberFile, number_tells_bounds};
 use std::alloc::{AllocError, Global};
 use std::marker::Model;
-use type_table::{ConflictTable, Kind, Op, Operation, TableKind, TypeTable};
+use type_table::{ConflictTable, Kind, MOST_OPS, Op, Operation, TableKind, TypeTable};
 
 /// A type that the checker accepted for a kind of recovery. Only the checker makes one. Contracts see
 /// the kind and a file; of a number that is one of a table which is written nowhere.
@@ -27,18 +29,21 @@ pub struct CheckedType {
     declared: DeclaredType,
     // For escrow those of the type's operations, of a number the first ones, and else those of none.
     bounds: OpBounds,
+    // Of each operation of a table whether it passes the test for those that change nothing; for escrow this says nothing.
+    still: [bool; MOST_OPS],
 }
 
 impl Model for CheckedType {
     ghost use Rattle.table_checker.specs.Checked.{Checked};
     ghost use Rattle.table_checker.specs.Declarations.{IsAccepted};
+    ghost use Rattle.table_checker.specs.Still.{HoldsStill};
     ghost use Rattle.declared_types.specs.Declarations.{file_of};
 
     ghost Value = { Checked };
 
     ghost view = { λ a. record { kind = a.kind; file = file_of a.declared } };
 
-    ghost invariant = { λ a. IsAccepted a.kind a.declared a.bounds };
+    ghost invariant = { λ a. IsAccepted a.kind a.declared a.bounds × HoldsStill a.kind (file_of a.declared) a.still };
 }
 
 impl CheckedType {
@@ -53,10 +58,12 @@ impl CheckedType {
         requires { IsCommuting kind file }
         ensures { result ≡ record { kind = of_table kind; file = file } }
     {
+        let still = still_operations(&file);
         CheckedType {
             kind: kind.into(),
             declared: DeclaredType::table(file),
             bounds: OpBounds::none(),
+            still,
         }
     }
 
@@ -72,6 +79,7 @@ impl CheckedType {
             kind: Kind::Escrow,
             declared: DeclaredType::table(file),
             bounds,
+            still: [false; MOST_OPS],
         }
     }
 
@@ -87,6 +95,7 @@ impl CheckedType {
             kind: Kind::Escrow,
             declared: DeclaredType::number(number),
             bounds,
+            still: [false; MOST_OPS],
         }
     }
 
@@ -110,6 +119,7 @@ impl CheckedType {
             kind: self.kind,
             declared,
             bounds: self.bounds.copy(),
+            still: self.still,
         }))
     }
 
@@ -219,6 +229,17 @@ impl CheckedType {
         // for its clause that the table is square
         conflicts.ops();
         conflicts
+    }
+
+    /// Whether operation k of a table changes nothing by the test of each state of the file's set: it was computed once.
+    pub fn is_still(&self, k: Operation) -> bool
+        requires kind { IsByTable self.now.kind }
+        requires operation { k < length self.now.file.table.ops }
+        ensures { result ≡ is_still_in self.now.file k }
+    {
+        // (read for its clause on what is known of a table)
+        let _states = self.table().states();
+        self.still[usize::from(k.place())]
     }
 
     /// For escrow the bounds of operation k.

@@ -10,6 +10,7 @@ mod parallel;
 mod reach;
 mod refusal;
 mod scan;
+mod still;
 
 pub use checked_type::{CheckedType, condition_of};
 pub use checker::{check, check_number, check_parallel};
