@@ -20,6 +20,7 @@ use Rattle.object_trait.specs.declared.event.EventKind.TheVariants as kind
 use Rattle.object_trait.specs.declared.event.EventKind.TheVariants.{Begin, Op, Busy, Commit, Abort, Rollback}
 use Rattle.object_trait.proofs.Lists.{pairs-weaker}
 use Rattle.object_trait.proofs.Striking.{each-keep_first}
+use Rattle.object_trait.proofs.Sorting.{parts-mine}
 use Rattle.type_table.proofs.Elements.{eqb-sym, filter-none, mine-within, each-append, each-weaker, each-passes}
 use Rattle.type_table.proofs.Legal.{legal-front}
 use Rattle.serial_order.specs.Operations.{is_among, is_by, ops, serial, pending}
@@ -32,7 +33,6 @@ use Rattle.serial_order.specs.declared.entry.Entry.{Entry}
 use Rattle.serial_order.proofs.Facts.{IsLegalAt}
 use Rattle.serial_order.proofs.Lists.{ops-append, is_among-apart}
 use Rattle.serial_order.proofs.Pairs.{each-all, pairs-passes}
-use Rattle.serial_order.proofs.Sorts.{parts-mine}
 use Rattle.serial_order.proofs.Undo.{covers_undo, passes-commute}
 use Rattle.serial_order.proofs.Runs.{in_run, open_is_uncommitted}
 use Rattle.serial_order.proofs.Events.{commits-snoc}

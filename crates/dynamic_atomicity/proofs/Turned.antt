@@ -7,6 +7,7 @@ use Rattle.std.proofs.lemmas.List.Elements.{filter_agree}
 use Rattle.object_trait.specs.Orders.{Pairs, Sorts, same, chain}
 use Rattle.object_trait.specs.Laws.{PartsSort}
 use Rattle.object_trait.proofs.Lists.{pairs-weaker}
+use Rattle.object_trait.proofs.Sorting.{parts-mine}
 use Rattle.type_table.proofs.Elements.{eqb-sym, mine-within}
 use Rattle.serial_order.specs.Operations.{is_among, is_by, of, serial, pending}
 use Rattle.dynamic_atomicity.specs.Dynamic.{comes_first, AreOnce}
@@ -14,7 +15,7 @@ use Rattle.serial_order.specs.declared.entry.Entry.{Entry}
 use Rattle.dynamic_atomicity.proofs.Before.{first-later, first-head}
 use Rattle.serial_order.proofs.Lists.{is_one-apart, both_filters}
 use Rattle.serial_order.proofs.Pairs.{each-all, pairs-passes}
-use Rattle.serial_order.proofs.Sorts.{sorts-behind, parts-mine}
+use Rattle.serial_order.proofs.Sorts.{sorts-behind}
 
 -- a pair is turned where the later one's transaction is first in the order
 abbrev pub IsTurnedFree : (Entry → Entry → Bool) → List ℕ → Entry → Entry → Type 0

@@ -36,7 +36,7 @@ are_in_run = transactions_in_run
 -- ---- who is open
 
 -- the next number is none of some that are all less
-fresh_among : (ts : List ℕ) (n : ℕ) → ((t : ℕ) → is_among ts t ≡ true → t < n) → is_among ts n ≡ false
+pub fresh_among : (ts : List ℕ) (n : ℕ) → ((t : ℕ) → is_among ts t ≡ true → t < n) → is_among ts n ≡ false
 fresh_among ts n less =
     elim (cases_Bool (is_among ts n)) [
       | inl inside ↦ let below = less n inside in absurd (omega (arith, below))

@@ -8,7 +8,7 @@ use Rattle.serial_order.specs.Machine.{AreCovered}
 use Rattle.serial_order.specs.Laws.{AreChecked, Headline, CheckedHeadline}
 
 -- objects of checked types are covered
-checked_covered : CheckedIsCovered → (types : List Checked) → AreChecked types → AreCovered (map object_of types)
+pub checked_covered : CheckedIsCovered → (types : List Checked) → AreChecked types → AreCovered (map object_of types)
 checked_covered covers types checked = λ x o there.
     let found = found-map object_of types x o there in
     subst IsCovered (found.2) ((covers (found.0) (checked x (found.0) (found.1))).0)

@@ -48,7 +48,7 @@ escrow_serial o C V facts = rw facts.reached refl
 -- ---- an operation
 
 -- what each did, with one more operation
-own-more : (C : List ℕ) (V : List Entry) (e : Entry) (u : ℕ) → is_among C e.by ≡ false → with_op (own_at C V) e.by e.op u ≡ own_at C (V ++ e ∷ []) u
+pub own-more : (C : List ℕ) (V : List Entry) (e : Entry) (u : ℕ) → is_among C e.by ≡ false → with_op (own_at C V) e.by e.op u ≡ own_at C (V ++ e ∷ []) u
 own-more C V e u uncommitted =
     elim (cases_Bool (u == e.by)) [
       | inl same ↦

@@ -1,5 +1,5 @@
 -- What comes out of small histories, where it takes more than computing.
-use Rattle.std.proofs.Common.{◌≡◌, false, [], ◌∷◌, Some, refl, below_none, below_more, arith}
+use Rattle.std.proofs.Common.{◌≡◌, false, [], ◌∷◌, Some, refl, below_none, below_more}
 use Rattle.std.specs.Prelude.{take}
 use Rattle.std.proofs.lemmas.Bool.{false≢true}
 use Rattle.type_table.specs.Table.{next}

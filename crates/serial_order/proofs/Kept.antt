@@ -40,7 +40,7 @@ covers_undo_strongly : (o : Object) → IsCoveredStrongly o → o.kind ≡ Undo 
 covers_undo_strongly o covered kind = rw kind at covered
 
 -- neighbours of which the first may pass the second commute backward in both ways, where the yes is strong
-passes_both_ways : (o : Object) → IsCoveredStrongly o → o.kind ≡ Undo → (a b : Entry) → may_pass o a b ≡ true → CommutesBackwardBothWays o.table o.set b.op a.op
+pub passes_both_ways : (o : Object) → IsCoveredStrongly o → o.kind ≡ Undo → (a b : Entry) → may_pass o a b ≡ true → CommutesBackwardBothWays o.table o.set b.op a.op
 passes_both_ways o covered undo a b free =
     (covers_undo_strongly o covered undo).commute b.op a.op (passes_parts o a b free).1
 

@@ -1,4 +1,4 @@
--- Exchanges of neighbours, in lists that grow at either end, are struck, or are of two parts.
+-- Exchanges of neighbours, in lists that grow at either end or are struck.
 use Rattle.std.proofs.Common.{◌≡◌, ℕ, zero, suc, Bool, true, false, not, List, [], ◌∷◌, ◌++◌, filter, inl, inr}
 use Rattle.std.proofs.lemmas.Bool.{cases_Bool}
 use Rattle.type_table.proofs.Elements.{each-weaker, each-passes}
@@ -62,15 +62,3 @@ sorts-keep_first mine apart n V _ same = same
 sorts-keep_first mine apart n _ _ (swap {a} {b} {V} passes) = swap-keep_first mine n a b V passes (apart a b passes)
 sorts-keep_first mine apart n _ _ (under {a} {V} {W} s) = under-keep_first mine n a V W (λ m. sorts-keep_first mine apart m V W s)
 sorts-keep_first mine apart n _ _ (chain {U} {V} {W} s r) = chain (sorts-keep_first mine apart n U V s) (sorts-keep_first mine apart n V W r)
-
--- ---- two parts
-
--- where each that isn't mine may move after each later one of mine, the list is mine, which stay, and the others
-pub parts-mine : {E : Type 0} (free : E → E → Bool) (mine : E → Bool) (V : List E) → Pairs (λ a b. mine a ≡ false → mine b ≡ true → free a b ≡ true) V →
-    SplitsInto free V (filter mine V) (filter (λ x. not (mine x)) V)
-parts-mine free mine [] p = none
-parts-mine free mine (x ∷ V) p =
-    elim (cases_Bool (mine x)) [
-      | inl is ↦ rw is (stay (parts-mine free mine V p.1))
-      | inr isnt ↦ rw isnt (goes (each-passes (λ b. free x b ≡ true) mine V (each-weaker (λ b here. here isnt) V p.0)) (parts-mine free mine V p.1))
-    ]

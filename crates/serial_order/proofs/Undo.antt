@@ -14,6 +14,7 @@ use Rattle.object_trait.specs.Strike.{keep_first}
 use Rattle.object_trait.specs.Laws.{PartsSort, StruckPart, SortsLook}
 use Rattle.object_trait.proofs.Lists.{pairs-weaker, pairs-push}
 use Rattle.object_trait.proofs.Striking.{pairs-keep_first}
+use Rattle.object_trait.proofs.Sorting.{parts-mine}
 use Rattle.serial_order.specs.Operations.{is_among, is_by, ops, of, serial, pending}
 use Rattle.serial_order.specs.Laws.{may_pass}
 use Rattle.serial_order.specs.declared.entry.Entry.{Entry}
@@ -21,7 +22,7 @@ use Rattle.serial_order.proofs.Strikes.{keep_first-behind}
 use Rattle.serial_order.proofs.Lists.{is_one-apart, ops-append, serial-snoc, pending-snoc, serial-apart, pending-more, of-pending, serial-strike, pending-strike}
 use Rattle.serial_order.proofs.Facts.{IsHeldFree, IsLegalAt, held_free-commit, UndoOp, UndoStrike, UndoCommit}
 use Rattle.serial_order.proofs.Pairs.{each-all, pairs-passes}
-use Rattle.serial_order.proofs.Sorts.{sorts-append, sorts-behind, sorts-keep_first, parts-mine}
+use Rattle.serial_order.proofs.Sorts.{sorts-append, sorts-behind, sorts-keep_first}
 
 -- ---- objects of update in place
 
@@ -32,7 +33,7 @@ covers_undo o covered kind = rw kind at covered
 -- ---- what may pass
 
 -- a may pass b where they are of different transactions and don't conflict
-passes_from : (o : Object) (a b : Entry) → (b.by == a.by) ≡ false → o.conflicts b.op a.op ≡ false → may_pass o a b ≡ true
+pub passes_from : (o : Object) (a b : Entry) → (b.by == a.by) ≡ false → o.conflicts b.op a.op ≡ false → may_pass o a b ≡ true
 passes_from o a b apart free =
     and_from (not (b.by == a.by)) (not (o.conflicts b.op a.op)) (not_from_false (b.by == a.by) apart) (not_from_false (o.conflicts b.op a.op) free)
 
@@ -91,7 +92,7 @@ serial-others (u ∷ C) t V uncommitted =
     each-append (λ e. is_by t e ≡ false) (of u V) (serial C V) others (serial-others C t V parts.1)
 
 -- two operations of one transaction aren't exchanged
-exchanged-apart : (o : Object) (t : ℕ) (a b : Entry) → may_pass o a b ≡ true → is_by t a ≡ true → is_by t b ≡ false
+pub exchanged-apart : (o : Object) (t : ℕ) (a b : Entry) → may_pass o a b ≡ true → is_by t a ≡ true → is_by t b ≡ false
 exchanged-apart o t a b passes mine = rw (eqb-true a.by t mine) at (passes_parts o a b passes).0
 
 -- what survives sorts into commit order after a strike of a transaction that isn't committed

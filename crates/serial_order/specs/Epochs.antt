@@ -43,10 +43,13 @@ pub record IsEpoch (types : List Checked) (e : Epoch) : Type 0 where
   pub added : AreChecked e.added
   pub kept : (x : ℕ) (c : Checked) (s : ℕ) → slice_get types x ≡ Some c → slice_get e.kept x ≡ Some s → IsKeptAt c s x e.history
 
--- each epoch begins at the states that were kept at the end of the one before it, with the objects that were added
+-- each of these is such an epoch, and begins at the states that were kept at the end of the one before it, with the objects that were added
+abbrev pub AreInTurn : (List Checked → Epoch → Type 0) → List Checked → List Epoch → Type 0
+AreInTurn E types [] = Unit {0}
+AreInTurn E types (e ∷ es) = E types e × AreInTurn E (types_behind types e) es
+
 abbrev pub AreEpochs : List Checked → List Epoch → Type 0
-AreEpochs types [] = Unit {0}
-AreEpochs types (e ∷ es) = IsEpoch types e × AreEpochs (types_behind types e) es
+AreEpochs types es = AreInTurn IsEpoch types es
 
 -- the types with which the epoch after the last one begins
 abbrev pub types_after : List Checked → List Epoch → List Checked

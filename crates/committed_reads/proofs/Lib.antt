@@ -1,0 +1,5 @@
+pub mod Still
+pub mod StillCalls
+pub mod Shifting
+pub mod InHistory
+pub mod Serial

@@ -1,0 +1,4 @@
+pub mod Still
+pub mod Readers
+pub mod Laws
+pub mod Examples
