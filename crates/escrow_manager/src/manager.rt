@@ -145,6 +145,10 @@ impl Recovery for EscrowManager {
         self.base
     }
 
+    fn committed(&self) -> u32 {
+        self.base
+    }
+
     fn legal(&self, t: u32, k: Operation) -> bool {
         let op = bounded(&self.checked, k);
         let number = self.seen(t);

@@ -92,6 +92,10 @@ impl Recovery for IntentionsManager {
         u32::from(self.base)
     }
 
+    fn committed(&self) -> u32 {
+        u32::from(self.base)
+    }
+
     fn view(&self, t: u32) -> u32 {
         // (after another's commit the kept view may be another state, which is only equieffective)
         u32::from(walked(self.checked.table(), t, self.base, &self.log, 0))

@@ -1,6 +1,7 @@
 pub mod Accepted
 pub mod Alone
 pub mod Amounts
+pub mod Committed
 pub mod Counting
 pub mod Escrow
 pub mod Intentions

@@ -1,12 +1,14 @@
 -- Exchanges of neighbours: what two parts sort into, and where lists of operations lead that are sorted into each other.
-use Rattle.std.proofs.Common.{◌≡◌, ℕ, Bool, true, List, [], ◌∷◌, ◌++◌, map, Option, Some}
+use Rattle.std.proofs.Common.{◌≡◌, ℕ, Bool, true, false, not, List, [], ◌∷◌, ◌++◌, map, filter, Option, Some, inl, inr}
 use Rattle.std.specs.List.{AllByRecursion}
+use Rattle.std.proofs.lemmas.Bool.{cases_Bool}
 use Rattle.type_table.specs.Table.{Table, next}
 use Rattle.type_table.specs.Run.{run, IsLegal, Looks, AreEqui}
 use Rattle.type_table.specs.StateSet.{IsClosed}
 use Rattle.type_table.specs.Laws.{IsExtended, LooksExtends, EquiExtends}
+use Rattle.type_table.proofs.Elements.{each-weaker, each-passes}
 use Rattle.type_table.proofs.Legal.{from_state, is_there, legal_there, legal_here, related_here}
-use Rattle.object_trait.specs.Orders.{Sorts, same, swap, under, chain, SplitsInto, none, stay, goes}
+use Rattle.object_trait.specs.Orders.{Pairs, Sorts, same, swap, under, chain, SplitsInto, none, stay, goes}
 use Rattle.object_trait.specs.Laws.{PartsSort, SortsLook, SortsEqui}
 
 -- ---- two parts
@@ -21,6 +23,16 @@ parts_behind : {E : Type 0} {free : E → E → Bool} (V A B : List E) → Split
 parts_behind _ _ _ none = same
 parts_behind (_ ∷ V) (_ ∷ A) B (stay p) = under (parts_behind V A B p)
 parts_behind (b ∷ V) A (_ ∷ B) (goes each p) = chain (under (parts_behind V A B p)) (sorts_behind b A B each)
+
+-- where each that isn't mine may move after each later one of mine, the list is mine, which stay, and the others
+pub parts-mine : {E : Type 0} (free : E → E → Bool) (mine : E → Bool) (V : List E) → Pairs (λ a b. mine a ≡ false → mine b ≡ true → free a b ≡ true) V →
+    SplitsInto free V (filter mine V) (filter (λ x. not (mine x)) V)
+parts-mine free mine [] p = none
+parts-mine free mine (x ∷ V) p =
+    elim (cases_Bool (mine x)) [
+      | inl is ↦ rw is (stay (parts-mine free mine V p.1))
+      | inr isnt ↦ rw isnt (goes (each-passes (λ b. free x b ≡ true) mine V (each-weaker (λ b here. here isnt) V p.0)) (parts-mine free mine V p.1))
+    ]
 
 -- the law of two parts
 pub parts-sort : {E : Type 0} → PartsSort E

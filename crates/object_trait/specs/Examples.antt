@@ -36,6 +36,10 @@ up_and_down = counter_at Intentions 1 (held 1 0 ∷ held 2 1 ∷ [])
 abbrev pub down_on_up : Meaning
 down_on_up = counter_at Undo 0 (held 1 0 ∷ held 2 1 ∷ [])
 
+-- with update in place, from 0: 1 counted up and is open, and 0 counted up and is done
+abbrev pub up_behind_open : Meaning
+up_behind_open = counter_at Undo 0 (held 1 0 ∷ done_entry 0 0 ∷ [])
+
 -- what an object means whose log has at most one entry, and whose base is the initial state
 abbrev pub of_one_entry : Checked → Option LogEntry → Meaning
 of_one_entry checked entry = record { checked = checked; base = checked.file.table.initial; log = option_to_list entry }

@@ -1,6 +1,6 @@
 -- Statements of laws: exchanges of neighbours, and meanings that stay sound.
 use Rattle.std.specs.Prelude.{◌≡◌, ℕ, ◌-◌, ◌≤◌, Bool, true, false, not, ◌==◌, nat_lt, List, [], ◌++◌, map, filter, take, drop, length, Some}
-use Rattle.std.specs.List.{list_any}
+use Rattle.std.specs.List.{list_any, AllByRecursion}
 use Rattle.type_table.specs.Table.{Table}
 use Rattle.type_table.specs.Run.{run, IsLegal, Looks, AreEqui}
 use Rattle.type_table.specs.StateSet.{IsClosed}
@@ -10,7 +10,8 @@ use Rattle.table_checker.specs.Checked.{Checked, IsChecked, IsStrong}
 use Rattle.object_trait.specs.Object.{IsCovered, IsCoveredStrongly, object_of}
 use Rattle.object_trait.specs.Orders.{Pairs, Sorts, SplitsInto}
 use Rattle.object_trait.specs.Strike.{keep_first}
-use Rattle.object_trait.specs.Meaning.{Meaning, object, log_ops, is_open_of, open_of}
+use Rattle.object_trait.specs.Meaning.{Meaning, object, log_ops, is_open_of, open_of, state_of}
+use Rattle.object_trait.specs.Committed.{committed_of}
 use Rattle.object_trait.specs.Sound.{IsSound}
 use Rattle.object_trait.specs.Steps.{IsFresh, open_transactions, MayApply, applied, IsCommit, Keeps, ShowsTheSame}
 use Rattle.object_trait.specs.declared.log_entry.LogEntry.{LogEntry}
@@ -119,3 +120,19 @@ abbrev pub OpensAreCounted : Type 0
 OpensAreCounted =
     (log : List LogEntry) (ts : List ℕ) → Pairs (λ a b. (b == a) ≡ false) ts → ((t : ℕ) → list_any (λ u. u == t) ts ≡ nat_lt 0 (length (open_of t log)))
     → (length ts ≡ length (open_transactions log)) × (length ts ≤ length log)
+
+-- ---- committed states
+
+-- a sound object has a committed state, which is of its type's set
+abbrev pub SoundHasCommitted : Type 0
+SoundHasCommitted = (m : Meaning) → IsCovered (object m) → IsSound m → (s : ℕ) × (committed_of m ≡ Some s) × ((object m).set s ≡ true)
+
+-- an operation leaves it, and so do a rollback and an abort
+abbrev pub CommittedIsLeft : Type 0
+CommittedIsLeft =
+    ((m : Meaning) (t k : ℕ) → committed_of (applied m t k) ≡ committed_of m)
+    × ((old new : Meaning) (t n : ℕ) → Keeps old t n new → committed_of new ≡ committed_of old)
+
+-- where all entries are done, it is the state
+abbrev pub AllDoneIsCommitted : Type 0
+AllDoneIsCommitted = (m : Meaning) → AllByRecursion (λ e. e.done ≡ true) m.log → committed_of m ≡ state_of m

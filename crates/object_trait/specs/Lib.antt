@@ -3,6 +3,7 @@ pub mod Rows
 pub mod Strike
 pub mod Object
 pub mod Meaning
+pub mod Committed
 pub mod Sound
 pub mod Alone
 pub mod Steps

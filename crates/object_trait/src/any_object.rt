@@ -42,6 +42,10 @@ impl Recovery for AnyObject {
         self.object.state()
     }
 
+    fn committed(&self) -> u32 {
+        self.object.committed()
+    }
+
     fn view(&self, t: u32) -> u32 {
         self.object.view(t)
     }

@@ -1,14 +1,14 @@
 //! Laws of exchanges of neighbours and of meanings: each is a function that does nothing, whose
 //! contract is the law. It calls the laws on which it depends.
 
-ghost use Rattle.object_trait.specs.Laws.{PartsSort, KeepsFirst, KeepsNone, KeepsParts, KeepsOthers, StruckPart, SortsLook, SortsEqui, CheckedIsCovered, StruckLogIsLegal, OpensCommute, FreshIsSound, SoundAfterApply, SoundAfterCommit, SoundAfterStrike, UntouchedStays, UntouchedShowsTheSame, OpensAreCounted};
+ghost use Rattle.object_trait.specs.Laws.{PartsSort, KeepsFirst, KeepsNone, KeepsParts, KeepsOthers, StruckPart, SortsLook, SortsEqui, CheckedIsCovered, StruckLogIsLegal, OpensCommute, FreshIsSound, SoundAfterApply, SoundAfterCommit, SoundAfterStrike, UntouchedStays, UntouchedShowsTheSame, OpensAreCounted, SoundHasCommitted, CommittedIsLeft, AllDoneIsCommitted};
 
 use crate::log_entry::LogEntry;
 use escrow_laws::{
     firm_after_apply, firm_after_commit, firm_after_strike, fresh_is_firm, nothing_keeps,
 };
 use table_checker::{strong_yes_covers, yes_covers};
-use type_table::{ends_inside, equi_extends, lists_forward, looks_extends, runs_along};
+use type_table::{ends_inside, equi_extends, legal_ends, lists_forward, looks_extends, runs_along};
 
 /// In a list of two parts, of which the elements of one may each move after those of the other that
 /// come after it, the first part can be moved to the end, neighbour by neighbour.
@@ -140,4 +140,27 @@ pub fn untouched_shows_the_same()
 /// open transactions, and no longer than the log.
 pub fn opens_are_counted()
     ensures { OpensAreCounted }
+{}
+
+/// A sound object has a committed state. Under update in place the open entries move behind the done ones,
+/// by exchanges of neighbours that commute backward (Weihl 1989), and are left out.
+pub fn sound_has_committed()
+    ensures { SoundHasCommitted }
+{
+    ends_inside();
+    legal_ends();
+    parts_sort::<LogEntry>();
+    sorts_look::<LogEntry>();
+}
+
+/// An operation, a rollback and an abort leave it.
+pub fn committed_is_left()
+    ensures { CommittedIsLeft }
+{
+    runs_along();
+}
+
+/// Where all entries are done, it is the state.
+pub fn all_done_is_committed()
+    ensures { AllDoneIsCommitted }
 {}

@@ -4,6 +4,7 @@ ghost use Rattle.std.specs.Prelude.{◌≡◌, ◌↔◌, ◌<◌, ◌≤◌, �
 ghost use Rattle.table_checker.specs.Checked.{IsChecked};
 ghost use Rattle.declared_types.specs.Declarations.{file_of, IsDeclaredFor};
 ghost use Rattle.object_trait.specs.Meaning.{Meaning, state_of, view_of, open_of};
+ghost use Rattle.object_trait.specs.Committed.{committed_of};
 ghost use Rattle.object_trait.specs.Steps.{IsLegalFor, TellsKept, open_transactions, IsFresh, stopper, MayApply, applied, IsCommit, IsStrike, IsAbort};
 
 use declared_types::DeclaredType;
@@ -31,6 +32,11 @@ pub trait Recovery: Send + Drop {
     /// is 3.
     fn state(&self) -> u32
         ensures exact { state_of (meaning self.now) ≡ Some result };
+
+    /// The state of the committed transactions alone: with update in place that after the done entries of the log, in their
+    /// order, with deferred update and in escrow the object's state.
+    fn committed(&self) -> u32
+        ensures exact { committed_of (meaning self.now) ≡ Some result };
 
     /// The state that transaction t sees: with update in place that after the whole log, with deferred
     /// update and in escrow that after its own open operations, on the state of the committed ones.

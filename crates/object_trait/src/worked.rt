@@ -5,9 +5,10 @@ ghost use Rattle.std.specs.Prelude.{◌≡◌, nat_lt, [], ◌∷◌, Some};
 ghost use Rattle.type_table.specs.Run.{AreEqui};
 ghost use Rattle.object_trait.specs.Strike.{keep_first};
 ghost use Rattle.object_trait.specs.Meaning.{state_of, view_of};
+ghost use Rattle.object_trait.specs.Committed.{committed_of};
 ghost use Rattle.object_trait.specs.Sound.{IsSound};
 ghost use Rattle.object_trait.specs.Steps.{IsLegalFor, open_transactions, MayApply, IsCommit, IsStrike, IsAbort, IsIntentionsCommit, ShowsTheSame};
-ghost use Rattle.object_trait.specs.Examples.{held, done_entry, counter_at, two_ups, up_and_down, down_on_up, two_alike};
+ghost use Rattle.object_trait.specs.Examples.{held, done_entry, counter_at, two_ups, up_and_down, down_on_up, up_behind_open, two_alike};
 
 use crate::laws::untouched_shows_the_same;
 use type_table::Kind;
@@ -37,6 +38,14 @@ pub fn deferred_update_shows_the_own_entries()
     ensures up { view_of up_and_down 1 ≡ Some 2 }
     ensures down { view_of up_and_down 2 ≡ Some 0 }
     ensures other { view_of up_and_down 3 ≡ Some 1 }
+{}
+
+/// What is open is left out of the committed state, wherever it is in the log.
+pub fn an_open_entry_is_left_out()
+    ensures state { state_of up_behind_open ≡ Some 2 }
+    ensures in_place { committed_of up_behind_open ≡ Some 1 }
+    ensures none { committed_of two_ups ≡ Some 0 }
+    ensures deferred { committed_of up_and_down ≡ Some 1 }
 {}
 
 /// With deferred update from 1, who counted up can't do it again and who counted down can't either,

@@ -86,6 +86,14 @@ impl Recovery for Object {
         }
     }
 
+    fn committed(&self) -> u32 {
+        match self {
+            Object::Undo(manager) => manager.committed(),
+            Object::Intentions(manager) => manager.committed(),
+            Object::Escrow(manager) => manager.committed(),
+        }
+    }
+
     #[inline(always)]
     fn legal(&self, t: u32, k: Operation) -> bool {
         match self {

@@ -4,6 +4,7 @@ use Rattle.type_table.specs.declared.kind.Kind.{Kind}
 use Rattle.type_table.specs.declared.kind.Kind.TheVariants.{Undo, Intentions, Escrow}
 use Rattle.object_trait.specs.Object.{Object}
 use Rattle.object_trait.specs.Meaning.{run_log, state_by, view_by}
+use Rattle.object_trait.specs.Committed.{done_of, committed_state_by}
 use Rattle.object_trait.specs.Sound.{IsSoundUndo, IsSoundBy}
 use Rattle.object_trait.specs.Steps.{IsUndoCommit, IsCommitBy, IsUndoStrike, IsStrikeBy}
 use Rattle.object_trait.specs.declared.log_entry.LogEntry.{LogEntry}
@@ -14,7 +15,13 @@ state_in Undo e o base log = refl
 state_in Intentions e o base log = absurd (cc)
 state_in Escrow e o base log = absurd (cc)
 
--- and so is what each transaction sees
+-- the committed state is that after the done entries
+pub committed_in : (kind : Kind) → kind ≡ Undo → (o : Object) (base : ℕ) (log : List LogEntry) → committed_state_by kind o base log ≡ run_log o base (done_of log)
+committed_in Undo e o base log = refl
+committed_in Intentions e o base log = absurd (cc)
+committed_in Escrow e o base log = absurd (cc)
+
+-- what each transaction sees is the state
 pub view_in : (kind : Kind) → kind ≡ Undo → (o : Object) (base : ℕ) (log : List LogEntry) (t : ℕ) → view_by kind o base log t ≡ run_log o base log
 view_in Undo e o base log t = refl
 view_in Intentions e o base log t = absurd (cc)

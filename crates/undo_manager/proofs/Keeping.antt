@@ -4,15 +4,16 @@ use Rattle.std.proofs.lemmas.Bool.{cases_Bool, eqb-true}
 use Rattle.std.proofs.lemmas.List.{length-map}
 use Rattle.std.proofs.lemmas.List.Filters.{length-filter_both}
 use Rattle.type_table.specs.Table.{Table, IsTable, next}
-use Rattle.type_table.specs.Run.{IsLegal}
+use Rattle.type_table.specs.Run.{run, IsLegal}
 use Rattle.type_table.specs.Laws.{EndsWithin}
 use Rattle.type_table.specs.declared.kind.Kind.TheVariants.{Undo}
 use Rattle.table_checker.specs.Checked.{Checked, IsChecked}
 use Rattle.object_trait.specs.Object.{IsCovered, object_of}
 use Rattle.object_trait.specs.Meaning.{Meaning, log_ops, is_open_of, open_of, state_of, view_of}
+use Rattle.object_trait.specs.Committed.{done_of, committed_of}
 use Rattle.object_trait.specs.Sound.{IsSoundUndo}
 use Rattle.object_trait.specs.Steps.{IsLegalFor}
-use Rattle.object_trait.specs.Laws.{CheckedIsCovered, FreshIsSound, OpensAreCounted}
+use Rattle.object_trait.specs.Laws.{CheckedIsCovered, FreshIsSound, OpensAreCounted, SoundHasCommitted}
 use Rattle.object_trait.specs.declared.log_entry.LogEntry.{LogEntry}
 use Rattle.undo_manager.specs.Kept.{IsKeptInPlace}
 use Rattle.undo_manager.specs.Log.{entries, LeadsTo, start_of, unsettled}
@@ -20,7 +21,7 @@ use Rattle.undo_manager.specs.Opened.{count_of, HasCounts, IsRecounted}
 use Rattle.undo_manager.specs.declared.opened.Opened.{Opened}
 use Rattle.undo_manager.specs.declared.undo_entry.UndoEntry.{UndoEntry}
 use Rattle.undo_manager.proofs.Counting.{counts-length}
-use Rattle.undo_manager.proofs.InPlace.{state_in, view_in, sound_out}
+use Rattle.undo_manager.proofs.InPlace.{state_in, committed_in, view_in, sound_in, sound_out}
 use Rattle.undo_manager.proofs.Running.{steps-run}
 use Rattle.undo_manager.proofs.Settling.{unsettled-begins, unsettled-length, unsettled-steps, unsettled-settled, unsettled-opens}
 
@@ -35,7 +36,20 @@ pub state-is : (c : Checked) (base state : ℕ) (log : List UndoEntry) (counts :
 state-is c base state log counts kept =
     state_in c.kind kept.in_place (object_of c) base (entries log) ∙ steps-run c.file.table base log state kept.steps
 
--- and each transaction sees it
+-- the done entries alone are legal
+pub done-legal : SoundHasCommitted → (c : Checked) (base state : ℕ) (log : List UndoEntry) (counts : List Opened) → IsKeptInPlace c base state log counts →
+    IsLegal c.file.table (Some base) (log_ops (done_of (entries log)))
+done-legal has c base state log counts kept =
+    let found = has (meaning_of c base log) kept.covered (sound_in c.kind kept.in_place (object_of c) base (entries log) kept.sound) in
+    let reached : run c.file.table (Some base) (log_ops (done_of (entries log))) ≡ Some found.0 = sym (committed_in c.kind kept.in_place (object_of c) base (entries log)) ∙ found.1 in
+    rw reached refl
+
+-- and the committed state is that after them
+pub committed-is : (c : Checked) (base state : ℕ) (log : List UndoEntry) (counts : List Opened) (s : ℕ) → IsKeptInPlace c base state log counts →
+    run c.file.table (Some base) (log_ops (done_of (entries log))) ≡ Some s → committed_of (meaning_of c base log) ≡ Some s
+committed-is c base state log counts s kept reached = committed_in c.kind kept.in_place (object_of c) base (entries log) ∙ reached
+
+-- each transaction sees the state
 pub view-is : (c : Checked) (base state : ℕ) (log : List UndoEntry) (counts : List Opened) (t : ℕ) → IsKeptInPlace c base state log counts → view_of (meaning_of c base log) t ≡ Some state
 view-is c base state log counts t kept =
     view_in c.kind kept.in_place (object_of c) base (entries log) t ∙ steps-run c.file.table base log state kept.steps

@@ -1,6 +1,7 @@
 pub mod Accepted
 pub mod Blocking
 pub mod Running
+pub mod Folding
 pub mod Settling
 pub mod Counting
 pub mod Recounting

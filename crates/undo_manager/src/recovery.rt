@@ -5,14 +5,14 @@ ghost use Rattle.object_trait.specs.Meaning.{open_of};
 
 use crate::log::{append, mark, place_of, settle, state_before};
 use crate::opened::{count_of, leave_count};
-use crate::stepping::{next_state, rerun};
+use crate::stepping::{committed_after, next_state, rerun};
 use crate::undo_entry::UndoEntry;
 use crate::undo_manager::UndoManager;
 use declared_types::DeclaredType;
 use object_trait::{
     LogEntry, Recovery, Renew, keeps_first, keeps_none, keeps_others, keeps_parts,
     opens_are_counted, sound_after_apply, sound_after_commit, sound_after_strike,
-    struck_log_is_legal,
+    sound_has_committed, struck_log_is_legal,
 };
 use std::alloc::{AllocError, Global};
 use std::sync::Arc;
@@ -37,6 +37,12 @@ impl Recovery for UndoManager {
 
     fn state(&self) -> u32 {
         u32::from(self.state)
+    }
+
+    fn committed(&self) -> u32 {
+        sound_has_committed();
+        let state = committed_after(self.checked.table(), self.base, &self.log);
+        u32::from(state)
     }
 
     fn view(&self, _t: u32) -> u32 {

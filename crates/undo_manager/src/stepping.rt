@@ -1,9 +1,10 @@
-//! Steps of a table, and the run of what a strike leaves.
+//! Steps of a table, the run of what a strike leaves, and that of the done entries alone.
 
 ghost use Rattle.std.specs.Prelude.{◌≡◌, ◌≤◌, Some, IsSome, length, drop, filter};
 ghost use Rattle.type_table.specs.Table.{IsTable, next};
-ghost use Rattle.type_table.specs.Run.{IsLegal};
+ghost use Rattle.type_table.specs.Run.{run, IsLegal};
 ghost use Rattle.object_trait.specs.Meaning.{log_ops};
+ghost use Rattle.object_trait.specs.Committed.{done_of};
 ghost use Rattle.undo_manager.specs.Log.{entries, stays_in_log};
 ghost use Rattle.undo_manager.specs.Rerun.{IsRerun};
 
@@ -51,5 +52,20 @@ pub fn rerun(
         }
     }
     log.truncate(kept);
+    state
+}
+
+/// The state after the done entries of a log alone.
+pub fn committed_after(table: &TypeTable, base: u16, log: &[UndoEntry]) -> u16
+    requires table { IsTable table.now }
+    requires legal { IsLegal table.now (Some base) (log_ops (done_of (entries log.now))) }
+    ensures { run table.now (Some base) (log_ops (done_of (entries log.now))) ≡ Some result }
+{
+    let mut state = base;
+    for one in log {
+        if one.entry.done {
+            state = next_state(table, state, one.entry.op);
+        }
+    }
     state
 }
