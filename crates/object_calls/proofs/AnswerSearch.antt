@@ -45,6 +45,11 @@ word_bits-is : word_bits ≡ 64
 unfolding word_bits
 word_bits-is = refl
 
+-- where nothing is mapped there is nothing
+none-mapped : {A B : Type 0} (f : A → B) (found : Option A) → None ≡ option_map f found → found ≡ None
+none-mapped f None is = refl
+none-mapped f (Some a) is = absurd (cc)
+
 -- ---- places of the word, and operations of the call
 
 -- a later place is a greater number
@@ -171,6 +176,17 @@ module _ (m : Meaning) (t : ℕ) (asked : Call) where
           searched_next false found illegal (not_free m t asked place illegal)
           (h.first ∙ ap (option_map (beside asked.first)) (sym (found_or_false (first_below h.done (is_legal_at m t asked)) place)))
 
+      -- it is legal, and nothing was found before
+      pub found_replies : IsLegalFor m t k → found ≡ None → AreLookedAt m.checked.file.table asked → (c : ℕ) → IsAskedCall m t c asked
+          → Some k ≡ first_below (length m.checked.file.table.ops) (is_call_reply m t c)
+      found_replies legal nothing inside c asks =
+          let there : is_legal_at m t asked place ≡ true = legal_at m t asked place has (subst (λ q. IsLegalFor m t q) k_is legal) in
+          let none_before : first_below place (is_legal_at m t asked) ≡ None =
+          legal_before ∙ none-mapped (beside asked.first) (first_below h.done (is_legal_at m t asked)) (sym nothing ∙ h.first) in
+          let found_first : first_below word_bits (is_legal_at m t asked) ≡ Some place =
+          first_below-found (is_legal_at m t asked) place word_bits none_before there (omega (arith, takes.within, word_bits-is)) in
+          sym (first_reply m t asked inside c asks ∙ ap (option_map (beside asked.first)) found_first ∙ ap Some (sym k_is))
+
       module _ (legal : IsLegalFor m t k) (who : Option ℕ) (who_is : who ≡ stopper m t k) where
         legal_there : is_legal_at m t asked place ≡ true
         legal_there = legal_at m t asked place has (subst (λ q. IsLegalFor m t q) k_is legal)
@@ -232,6 +248,10 @@ module _ (m : Meaning) (t : ℕ) (asked : Call) where
 
       first_found : first_below (length m.checked.file.table.ops) (is_call_reply m t c) ≡ found
       first_found = first_reply m t asked inside c asks ∙ sym first_of_all
+
+      -- so where none was found, none is legal
+      pub none_replies : found ≡ None → None ≡ first_below (length m.checked.file.table.ops) (is_call_reply m t c)
+      none_replies nothing = sym (first_found ∙ nothing)
 
       -- `Busy` with who blocks the first legal one
       pub busy_answers : (k : ℕ) → found ≡ Some k → busy_answer (stopper m t k) ≡ answer_of m t c

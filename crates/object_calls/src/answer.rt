@@ -86,7 +86,7 @@ fn asked_at<R: Recovery>(object: &R, t: u32, call: Call) -> Call
 }
 
 /// The operation at another place with the same amount.
-fn beside(operation: Operation, place: u8) -> Operation
+pub(crate) fn beside(operation: Operation, place: u8) -> Operation
     ensures { result ≡ beside operation place }
 {
     match operation.amount() {

@@ -9,6 +9,7 @@ mod end;
 mod lowest;
 mod number_calls;
 mod place_counts;
+mod reply;
 mod strike;
 mod unreplied;
 
@@ -17,6 +18,7 @@ pub use call::{Call, NamedCall};
 pub use call_table::CallTable;
 pub use end::{End, end_at};
 pub use place_counts::PlaceCounts;
+pub use reply::reply_at;
 pub use strike::strike_at;
 pub use unreplied::call_unreplied;
 

@@ -132,18 +132,33 @@ call-least least o call is = least o (call_of o.table call.first) call.first is.
 
 -- ---- room for its event
 
--- what the test of room said
+-- what the test of room for so many events said
+pub room-tested_for : RowsAreCounted → (ms : List Meaning) (rows : List (Option Row)) (past Hm K : List Event) (forgotten opened further : ℕ) (limits : Limits) (has said : Bool)
+    → IsKept (keeping ms rows) (past ++ Hm) → opened ≡ count_open rows → forgotten ≡ length past → K ≡ Hm → has ≡ nat_le (forgotten + length K + opened + further) limits.events → has ≡ said
+    → is_history_full limits (past ++ Hm) further ≡ not said
+room-tested_for counted ms rows past Hm K forgotten opened further limits has said kept exact many same test says =
+    let H = past ++ Hm in
+    let counts : opened ≡ open_count (summary H) = exact ∙ sym (counted (keeping ms rows) H kept) in
+    let told : nat_le (length H + opened + further) limits.events ≡ said = past-test past K Hm forgotten opened further limits.events has said many test same says in
+    elim said as (λ b. nat_le (length H + opened + further) limits.events ≡ b → is_history_full limits H further ≡ not b) [
+      | true ↦ full-else H opened further limits counts
+      | false ↦ full-then H opened further limits counts
+    ] told
+
+-- and of that for one
 pub room-tested : RowsAreCounted → (ms : List Meaning) (rows : List (Option Row)) (past Hm K : List Event) (forgotten opened : ℕ) (limits : Limits) (has said : Bool)
     → IsKept (keeping ms rows) (past ++ Hm) → opened ≡ count_open rows → forgotten ≡ length past → K ≡ Hm → has ≡ nat_le (forgotten + length K + opened + 1) limits.events → has ≡ said
     → is_history_full limits (past ++ Hm) 1 ≡ not said
-room-tested counted ms rows past Hm K forgotten opened limits has said kept exact many same test says =
-    let H = past ++ Hm in
-    let counts : opened ≡ open_count (summary H) = exact ∙ sym (counted (keeping ms rows) H kept) in
-    let told : nat_le (length H + opened + 1) limits.events ≡ said = past-test past K Hm forgotten opened 1 limits.events has said many test same says in
-    elim said as (λ b. nat_le (length H + opened + 1) limits.events ≡ b → is_history_full limits H 1 ≡ not b) [
-      | true ↦ full-else H opened 1 limits counts
-      | false ↦ full-then H opened 1 limits counts
-    ] told
+room-tested counted ms rows past Hm K forgotten opened limits has said = room-tested_for counted ms rows past Hm K forgotten opened 1 limits has said
+
+-- and so of the store as its callers see it
+pub room-told : RowsAreCounted → (ms : List Meaning) (rows : List (Option Row)) (past Hm K : List Event) (forgotten opened further : ℕ) (limits : Limits) (has said : Bool) (s : Stored)
+    → shown (keeping ms rows) (past ++ Hm) limits forgotten ≡ s
+    → IsKept (keeping ms rows) (past ++ Hm) → opened ≡ count_open rows → forgotten ≡ length past → K ≡ Hm → has ≡ nat_le (forgotten + length K + opened + further) limits.events → has ≡ said
+    → is_history_full s.limits s.history further ≡ not said
+room-told counted ms rows past Hm K forgotten opened further limits has said s is kept exact many same test says =
+    subst (λ (z : Stored). is_history_full z.limits z.history further ≡ not said) is
+    (room-tested_for counted ms rows past Hm K forgotten opened further limits has said kept exact many same test says)
 
 -- where it isn't full there is room
 pub room-left : (H : List Event) (limits : Limits) → is_history_full limits H 1 ≡ false → length H + open_count (summary H) + 1 ≤ limits.events

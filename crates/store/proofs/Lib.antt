@@ -6,6 +6,8 @@ pub mod Opens
 pub mod Closings
 pub mod Beginnings
 pub mod KeptStates
+pub mod CommittedStates
+pub mod Peeking
 pub mod Endings
 pub mod Rollbacks
 pub mod Known
@@ -13,6 +15,7 @@ pub mod Calls
 pub mod Executed
 pub mod Answered
 pub mod Pasts
+pub mod Commits
 pub mod OpCalls
 pub mod OneAnswer
 pub mod Renewals

@@ -1,8 +1,11 @@
 pub mod Whole
 pub mod Executed
 pub mod Calls
+pub mod Room
 pub mod Ends
 pub mod KeptState
+pub mod CommittedStates
+pub mod Peeks
 pub mod Renews
 pub mod Renewals
 pub mod Follows

@@ -2,6 +2,8 @@
 #![tactic(auto)]
 
 mod call;
+mod commit_count;
+mod committed;
 mod conditional_call;
 mod current_answer;
 mod event_replay;
@@ -9,15 +11,17 @@ mod execution;
 mod held_parts;
 mod laws;
 mod past;
+mod peek;
 mod refusals;
 mod renewed_objects;
 mod room;
 mod store;
 
+pub use committed::Snapshot;
 pub use event_replay::{ReplayFault, Stray, follow, replay};
 pub use laws::{renewals_are_serial, steps_are_followed};
 pub use object_calls::Answer;
-pub use refusals::{ExtendRefusal, NewRefusal, RenewRefusal};
+pub use refusals::{ExtendRefusal, NewRefusal, PeekRefusal, RenewRefusal};
 pub use store::Store;
 
 pub mod worked;

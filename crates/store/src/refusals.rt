@@ -58,3 +58,21 @@ impl fmt::Display for ExtendRefusal {
         fmt::Debug::fmt(self, f)
     }
 }
+
+/// Why a call isn't answered to a transaction that only reads.
+#[derive(Clone, Copy, Debug, PartialEq, Eq, Error)]
+pub enum PeekRefusal {
+    /// There is no object at this place.
+    NoObject,
+    /// The object has no call with this name.
+    NoCall,
+    /// Some operation of the call changes something.
+    Changes,
+}
+
+/// Writes the variant's name.
+impl fmt::Display for PeekRefusal {
+    fn fmt<W: fmt::Write>(&self, f: &mut fmt::Formatter<W>) -> fmt::Result {
+        fmt::Debug::fmt(self, f)
+    }
+}

@@ -1,8 +1,45 @@
 //! Room in the history, for events and for the end of each open transaction.
 
 ghost use Rattle.std.specs.Prelude.{◌≡◌, ◌+◌, length, nat_le};
+ghost use Rattle.store.specs.Room.{MakesRoom};
 
-use object_trait::Event;
+use crate::store::Store;
+use object_trait::{Event, Recovery};
+use serial_order::Refusal;
+use store_laws::rows_are_counted;
+
+impl<R: Recovery> Store<R> {
+    /// Makes room in memory for this many further events and the end of each open transaction, where the
+    /// limit leaves it. It is no event.
+    ///
+    /// # Errors
+    ///
+    /// `HistoryFull`, or `NoMemory`. The store is as it was in any case.
+    pub fn make_room(&mut self, further: u32) -> Result<(), Refusal>
+        ensures same { self.new ≡ self.old }
+        ensures made { MakesRoom self.old further result }
+    {
+        rows_are_counted();
+        let opened = self.transactions.open_count();
+        if !has_room(
+            self.forgotten,
+            &self.history,
+            opened,
+            further,
+            self.limits.events,
+        ) {
+            return Err(Refusal::HistoryFull);
+        }
+        if self
+            .history
+            .reserve(opened as usize + further as usize)
+            .is_err()
+        {
+            return Err(Refusal::NoMemory);
+        }
+        Ok(())
+    }
+}
 
 /// Whether the limit leaves room for this many further events and the end of each open transaction.
 pub(crate) fn has_room(

@@ -17,6 +17,7 @@ ghost use Rattle.serial_order.specs.Operations.{is_among};
 ghost use Rattle.store.specs.Renews.{Extends, RefusesExtend, RefusesRenew, Renews};
 ghost use Rattle.serial_order.specs.declared.command.Command.TheVariants as command;
 
+use crate::commit_count::commits_of;
 use crate::held_parts::{HeldParts, are_fresh, held_for};
 use crate::past::Past;
 use crate::refusals::{ExtendRefusal, NewRefusal, RenewRefusal};
@@ -57,6 +58,8 @@ pub struct Store<R: Recovery> {
     pub(crate) forgotten: u32,
     // The events since.
     pub(crate) history: Vec<Event>,
+    // How many of all events are commits.
+    pub(crate) committed: u32,
     pub(crate) limits: Limits,
     // Room for the places of a transaction that ends.
     pub(crate) counts: PlaceCounts,
@@ -64,6 +67,7 @@ pub struct Store<R: Recovery> {
 
 impl<R: Recovery> Model for Store<R> {
     ghost use Rattle.std.specs.Prelude.{◌≡◌, ◌+◌, ◌++◌, map, length, vec_capacity};
+    ghost use Rattle.serial_order.specs.History.{commits};
     ghost use Rattle.store_laws.specs.Stored.{Stored, types_of};
     ghost use Rattle.store.specs.Whole.{IsWholeStore};
 
@@ -76,7 +80,7 @@ impl<R: Recovery> Model for Store<R> {
       forgotten = s.forgotten;
     } };
 
-    ghost invariant = { λ s. (s.forgotten ≡ length s.past.items) × IsWholeStore (map R.meaning s.objects.items) s.calls.items s.transactions.rows (s.past.items ++ s.history.items) (s.forgotten + vec_capacity s.history) s.limits s.counts };
+    ghost invariant = { λ s. (s.forgotten ≡ length s.past.items) × IsWholeStore (map R.meaning s.objects.items) s.calls.items s.transactions.rows (s.past.items ++ s.history.items) (s.forgotten + vec_capacity s.history) s.limits s.counts × (s.committed ≡ length (commits (s.past.items ++ s.history.items))) };
 }
 
 impl<R: Recovery> Store<R> {
@@ -149,6 +153,7 @@ impl<R: Recovery> Store<R> {
             past: Past::new(),
             forgotten: 0,
             history: Vec::new(alloc),
+            committed: 0,
             limits,
             counts,
         })
@@ -363,6 +368,9 @@ impl<R: Recovery> Store<R> {
         let places = self.transactions.places(t);
         end_at(&mut self.objects, &mut self.counts, places, t, how);
         self.transactions.end(t);
+        // (read for its range, which the count is within)
+        let _most = self.limits.events;
+        self.committed += commits_of(how);
         let kind = kind_of_end(how, t);
         self.history.push_reserved(Event { worker: w, kind });
         Ok(())
@@ -385,6 +393,7 @@ impl<R: Recovery> Store<R> {
             past: _,
             forgotten: _,
             history,
+            committed: _,
             limits: _,
             counts: _,
         } = self;

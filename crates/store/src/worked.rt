@@ -10,6 +10,7 @@ ghost use Rattle.type_table.specs.Limits.{longest_history, most_events};
 ghost use Rattle.store.specs.Calls.{NotesAnswer, CallsIf, Would, unnumbered};
 ghost use Rattle.store.specs.Ends.{closing, RefusesNew, IsHandedOut};
 ghost use Rattle.store.specs.KeptState.{IsKeptState};
+ghost use Rattle.store.specs.Room.{MakesRoom};
 ghost use Rattle.store.specs.Examples.{event_by, roomy, two_left_open, up_beside_another, up_in_place};
 ghost use Rattle.store.specs.Follows.{Follows, IsMade};
 ghost use Rattle.store.specs.Replays.{Replays};
@@ -101,6 +102,14 @@ pub fn a_call_is_made_if_it_has_the_answer()
     ensures has_not { CallsIf (stored (take 1 one_up)) 7 0 1 (codes "inc:1") 0 Answer.None (Ok false) (stored (take 1 one_up)) }
     ensures refused { CallsIf (stored one_up) 7 0 1 (codes "inc:1") 0 (Answer.Reply 0) (Err Refusal.NotOpen) (stored one_up) }
     ensures not_without_it { CallsIf (stored (take 1 one_up)) 7 0 1 (codes "inc:1") 0 (Answer.Reply 0) (Ok false) (stored (take 1 one_up)) → ⊥ }
+{}
+
+/// Room is made for as many events as the limit leaves beside the ends of open transactions.
+pub fn room_is_made_within_the_limit()
+    ensures made { MakesRoom (stored (take 1 one_up)) 2 (Ok tt) }
+    ensures full { MakesRoom (stored (take 1 one_up)) 3 (Err Refusal.HistoryFull) }
+    ensures not_beyond_it { MakesRoom (stored (take 1 one_up)) 3 (Ok tt) → ⊥ }
+    ensures not_refused_within { MakesRoom (stored (take 1 one_up)) 2 (Err Refusal.HistoryFull) → ⊥ }
 {}
 
 /// No epoch begins where an open transaction has an operation, nor with an event, nor at a state that wasn't kept.

@@ -1,4 +1,4 @@
-use Rattle.std.proofs.Common.{◌≡◌, ℕ, ◌+◌, ◌≤◌, true, false, [], ◌∷◌, ◌++◌, length, map, vec_len, vec_capacity, Some, sym, ap, ◌∙◌, inl, arith}
+use Rattle.std.proofs.Common.{◌≡◌, ℕ, ◌+◌, ◌≤◌, true, false, [], ◌∷◌, ◌++◌, length, map, vec_len, vec_capacity, Some, refl, sym, ap, ◌∙◌, inl, arith}
 use Rattle.object_trait.specs.declared.event.EventKind.TheVariants.{Begin}
 use Rattle.serial_order.specs.History.{summary}
 use Rattle.serial_order.specs.Replay.{open_count}
@@ -9,6 +9,7 @@ use Rattle.store_laws.specs.Kept.{Keeping, keeping, objects_of}
 use Rattle.store.proofs.Stored.{refused-shown, memory_refused-shown}
 use Rattle.store.proofs.Rooms.{succeeded, rows-fit, room-is}
 use Rattle.store.proofs.Pasts.{past-more, past-length, past-test}
+use Rattle.store.proofs.Commits.{not-counted}
 use Rattle.store.proofs.Begins.{begin-many, begin-full, begin-unrefused, begin-whole, begin-shown}
 use Rattle.store.proofs.store.Store.begin.Goals as goal
 
@@ -80,6 +81,10 @@ invariant_of-self-2 g c =
           (c.push_reserved.ensures.items ∙ ap (λ K. K ++ (record { worker = c.args.w; kind = Begin c.begin-t.result }) ∷ []) c.reserve.ensures.items))
           c.stays_kept.ensures c.room_after.ensures c.types_stay.ensures c.rows_are_counted.ensures inside.calls.items opened (inside.forgotten + vec_capacity inside.history) (inside.forgotten + vec_capacity c.push_reserved.new.self) inside.limits c.self.invariant.1 c.open_count-opened.ensures.exact
           (omega arith) (omega (arith, long, made, c.reserve.ensures.len, c.push_reserved.ensures.capacity, inside.history.ok.0)) limited,
+      not-counted H (inside.past.items ++ c.push_reserved.new.self.items) (record { worker = c.args.w; kind = Begin c.begin-t.result }) inside.committed
+          (past-more inside.past.items inside.history.items c.push_reserved.new.self.items (record { worker = c.args.w; kind = Begin c.begin-t.result })
+          (c.push_reserved.ensures.items ∙ ap (λ K. K ++ (record { worker = c.args.w; kind = Begin c.begin-t.result }) ∷ []) c.reserve.ensures.items))
+          c.self.invariant.2 refl,
     )
 
 pub returns-clause-step : goal.returns-clause-step

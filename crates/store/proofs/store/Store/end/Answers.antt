@@ -11,6 +11,7 @@ use Rattle.store.specs.Ends.{end_command}
 use Rattle.store.proofs.Stored.{refused-shown}
 use Rattle.store.proofs.Opens.{open-alike, places-inside, places-few}
 use Rattle.store.proofs.Pasts.{past-more, past-length}
+use Rattle.store.proofs.Commits.{counted-on, commits-within}
 use Rattle.store.proofs.Endings.{end-refusal, end-room, end-whole, end-shown}
 use Rattle.store.proofs.store.Store.end.Goals as goal
 
@@ -59,6 +60,14 @@ push_reserved-requires g c =
     let long = past-length inside.past.items inside.history.items inside.forgotten c.self.invariant.0 in
     omega (arith, long, room.0, inside.history.ok.0)
 
+pub overflow_add-self : goal.overflow_add-self
+overflow_add-self g c =
+    let inside = c.self.inside in
+    let H = inside.past.items ++ inside.history.items in
+    let room = end-room c.rows_are_counted.ensures (map g.R.Recovery.meaning inside.objects.items) inside.transactions.rows H (inside.forgotten + vec_capacity inside.history) inside.limits (count_open c.end.new.self.rows)
+    c.self.invariant.1.store c.end.ensures.count in
+    omega (arith, room.1, c.self.invariant.2, commits-within H, c.commits_of.ensures.within)
+
 pub invariant_of-self : goal.invariant_of-self
 invariant_of-self g c =
     let inside = c.self.inside in
@@ -74,6 +83,10 @@ invariant_of-self g c =
           c.stays_kept.ensures c.room_after.ensures c.types_stay.ensures c.rows_are_counted.ensures
           inside.calls.items (inside.forgotten + vec_capacity inside.history) (inside.forgotten + vec_capacity c.push_reserved.new.self) inside.limits c.self.invariant.1
           (omega (arith, c.push_reserved.ensures.capacity)) (omega arith) c.end.ensures.count),
+      ap (λ k. inside.committed + k) (c.commits_of.ensures.exact c.args.t)
+          ∙ counted-on H (inside.past.items ++ c.push_reserved.new.self.items) event inside.committed
+          (past-more inside.past.items inside.history.items c.push_reserved.new.self.items event (event-last inside.history.items c.push_reserved.new.self.items c.args.w _ _ c.push_reserved.ensures.items c.kind_of_end-kind.ensures))
+          c.self.invariant.2,
     )
 
 pub returns : goal.returns

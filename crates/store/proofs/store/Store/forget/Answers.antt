@@ -1,4 +1,5 @@
-use Rattle.std.proofs.Common.{◌≡◌, ◌+◌, ◌≤◌, ◌++◌, map, length, min, vec_capacity, arith}
+use Rattle.std.proofs.Common.{◌≡◌, ◌∙◌, ◌+◌, ◌≤◌, ◌++◌, map, length, min, vec_capacity, sym, ap, arith}
+use Rattle.serial_order.specs.History.{commits}
 use Rattle.store_laws.specs.Stored.{types_of}
 use Rattle.store.proofs.Pasts.{past-length, gone-same, gone-many, same-whole, gone-shown}
 use Rattle.store.proofs.store.Store.forget.Goals as goal
@@ -14,6 +15,8 @@ invariant_of-self g c =
       same-whole (map g.R.Recovery.meaning s.objects.items) s.calls.items s.transactions.rows (s.past.items ++ s.history.items)
           (c.add.new.self.items ++ c.remove_front.new.history.items) _ _ s.limits s.counts c.self.invariant.1
           (gone-same s.past.items s.history.items c.deref.result.now c.add.new.self.items c.remove_front.new.history.items n c.add.ensures c.deref.ensures.value c.remove_front.ensures.items) wider,
+      c.self.invariant.2
+          ∙ ap (λ H. length (commits H)) (sym (gone-same s.past.items s.history.items c.deref.result.now c.add.new.self.items c.remove_front.new.history.items n c.add.ensures c.deref.ensures.value c.remove_front.ensures.items)),
     )
 
 pub returns : goal.returns

@@ -6,6 +6,7 @@ use Rattle.store_laws.specs.Words.{as_event}
 use Rattle.store.specs.Executed.{ExecutesAnswer}
 use Rattle.store.proofs.Rooms.{succeeded}
 use Rattle.store.proofs.Pasts.{past-more, past-length}
+use Rattle.store.proofs.Commits.{not-counted, answers-commit-none}
 use Rattle.store.proofs.Executed.{failed}
 use Rattle.store.proofs.Answered.{IsGiven, called-inside, given-at, given, still-open, room-tested, answer-follows, answer-last, reply-may, answer-whole, answer-comes, full-comes, memory_refused-comes}
 use Rattle.store.proofs.store.Store.give.Given.{Over}
@@ -109,6 +110,8 @@ invariant_of-self-2 g c =
           c.open_count-opened.result c.self.invariant.1 (answer-follows (called g c).1 c.answers_are_known.ensures.least c.answers_are_known.ensures.follows c.args.w)
           c.open_count-opened.ensures.exact (omega arith)
           (omega (arith, long, made, c.reserve.ensures.len, c.push_reserved.ensures.capacity, inside.history.ok.0)) (roomy g c),
+      not-counted H (inside.past.items ++ c.push_reserved.new.self.items) (record { worker = c.args.w; kind = as_event c.args.t c.args.x c.args.call.now.first c.args.answer.now }) inside.committed (appended g c)
+          c.self.invariant.2 (answers-commit-none c.args.t c.args.x c.args.call.now.first c.args.answer.now),
     )
 
 pub returns : goal.returns

@@ -6,6 +6,7 @@ use Rattle.serial_order.specs.declared.refusal.Refusal.TheVariants.{NotOpen, Bad
 use Rattle.store_laws.specs.Kept.{Keeping, keeping}
 use Rattle.store.proofs.Stored.{refused-shown, memory_refused-shown}
 use Rattle.store.proofs.Rooms.{succeeded, room-is}
+use Rattle.store.proofs.Commits.{not-counted}
 use Rattle.store.proofs.Pasts.{past-more, past-length, past-test}
 use Rattle.store.proofs.Opens.{places-few, struck-inside, struck-last}
 use Rattle.store.proofs.Rollbacks.{rollback-closed, rollback-bad, rollback-full, rollback-unrefused, rollback-may, rollback-whole, rollback-shown, places-from}
@@ -112,6 +113,10 @@ invariant_of-self-2 g c =
           c.self.invariant.1.store.kept going c.places-places.ensures c.args.w (omega arith) (omega arith))
           inside.calls.items opened (inside.forgotten + vec_capacity inside.history) (inside.forgotten + vec_capacity c.push_reserved.new.self) inside.limits c.self.invariant.1 c.open_count-opened.ensures.exact
           (omega arith) (omega (arith, long, made, c.reserve.ensures.len, c.push_reserved.ensures.capacity, inside.history.ok.0)) limited),
+      not-counted H (inside.past.items ++ c.push_reserved.new.self.items) (record { worker = c.args.w; kind = Rollback c.args.t c.args.n }) inside.committed
+          (past-more inside.past.items inside.history.items c.push_reserved.new.self.items (record { worker = c.args.w; kind = Rollback c.args.t c.args.n })
+          (c.push_reserved.ensures.items ∙ ap (λ K. K ++ (record { worker = c.args.w; kind = Rollback c.args.t c.args.n }) ∷ []) c.reserve.ensures.items))
+          c.self.invariant.2 refl,
     )
 
 pub returns : goal.returns
