@@ -7,6 +7,7 @@ pub mod Found
 pub mod Growths
 mod Followed
 mod Stepped
+mod Attempted
 pub mod New
 pub mod NameSets
 pub mod NameIndexes

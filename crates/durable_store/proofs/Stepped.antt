@@ -28,7 +28,7 @@ appends H None None = ([], sym (append-nil H))
 appends H None (Some kind) = (kind ∷ [], refl)
 
 -- a store that has more events than the journal
-behind-more : {S : Type 0} (g : Ghosts S) (d : Durable S) (s : Stored) (count : ℕ) (more : List EventKind) → IsDurable g d → count ≡ length d.store.history → d.store.forgotten ≤ count
+pub behind-more : {S : Type 0} (g : Ghosts S) (d : Durable S) (s : Stored) (count : ℕ) (more : List EventKind) → IsDurable g d → count ≡ length d.store.history → d.store.forgotten ≤ count
     → s ≡ record d.store { history = d.store.history ++ events_of_kinds more } → IsOwnHistory s → IsBehind g (record { store = s; journal = d.journal; names = d.names }) count
 behind-more g d s count more sound is remembered now own =
     let events = events_of_kinds more in

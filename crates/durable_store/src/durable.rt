@@ -14,11 +14,14 @@ ghost use Rattle.store_laws.specs.Stored.{MayStep, objects, Steps};
 ghost use Rattle.store.specs.Calls.{NotesAnswer};
 ghost use Rattle.serial_order.specs.Operations.{is_among};
 ghost use Rattle.store.specs.Ends.{closing, closing_but};
+ghost use Rattle.attempts.specs.Commands.{attempt_commands, asked_calls, is_memory_refused_at, commands_replayed};
+ghost use Rattle.attempts.specs.Answers.{AttemptAnswers};
 ghost use Rattle.durable_store.specs.Names.{find_named};
 ghost use Rattle.durable_store.specs.Recovered.{Recovers, recovered_but};
 ghost use Rattle.serial_order.specs.declared.command.Command.TheVariants as command;
 
 use crate::object_names::ObjectNames;
+use attempts::{Attempt, AttemptCall, attempt};
 use journal::{FirstState, Header, Journal, JournalError, TypeText};
 use object_calls::Answer;
 use object_name::ObjectName;
@@ -202,6 +205,31 @@ impl<S: Alter> Durable<S> {
         let rolled_back = self.store.rollback(0, t, n);
         self.write_since(count)?;
         Ok(rolled_back)
+    }
+
+    /// A whole transaction, as `attempts::attempt`: it makes these calls in their order and commits, or aborts at the
+    /// first that isn't replied to. Its events are written, and a crash may still take them away: the client is
+    /// answered after `settle` only.
+    ///
+    /// # Errors
+    ///
+    /// As `begin`. Why no transaction began is inside, and nothing has changed.
+    pub fn attempt(&mut self, alloc: Global, calls: &[AttemptCall]) -> Result<Attempt, JournalError>
+        requires { IsDurable S.Store self.old }
+        ensures sound { OnOk result (IsDurable S.Store self.new) }
+        ensures replays { IfOk result (λ came. self.new.store ≡ commands_replayed self.old.store (is_memory_refused_at came) 0 (attempt_commands (begins self.old.store.history) (asked_calls calls.now) came)) }
+        ensures answers { IfOk result (λ came. AttemptAnswers self.old.store 0 (asked_calls calls.now) came self.new.store) }
+        ensures life { self.new.journal.header ≡ self.old.journal.header }
+        ensures written { OnOk result (WritesSince S.Store self.old self.new) }
+        ensures settled { OnOk result (KeepsSettled S.Store self.old self.new) }
+        ensures clean { Clean S.Store self.new.journal → Clean S.Store self.old.journal }
+        ensures crash { OutcomesStay S.Store self.old self.new }
+    {
+        steps_are_followed();
+        let count = self.store.event_count();
+        let came = attempt(&mut self.store, alloc, 0, calls);
+        self.write_since(count)?;
+        Ok(came)
     }
 
     /// Aborts each open transaction, in the order in which they began. The events are written, and a crash may still

@@ -1,0 +1,4 @@
+pub mod Commands
+pub mod Answers
+pub mod Made
+pub mod Examples
