@@ -7,9 +7,11 @@ mod closed;
 mod followed;
 mod limits;
 mod made;
+mod peeks;
 mod run_scripts;
 pub mod scripts;
 mod shared;
+mod whole_transactions;
 
 use crate::tests::checked_types::{Sort, checked_of};
 use object_trait::{Event, Renew};

@@ -116,6 +116,13 @@ impl Recovery for OneEntry {
         u32::from(self.state)
     }
 
+    fn committed(&self) -> u32 {
+        match &self.entry {
+            Some(entry) if entry.done => u32::from(self.state),
+            _ => u32::from(self.checked.table().initial()),
+        }
+    }
+
     fn view(&self, _t: u32) -> u32 {
         u32::from(self.state)
     }
