@@ -1,3 +1,4 @@
 pub mod Numbers
 pub mod Shapes
+pub mod Calls
 pub mod Requests

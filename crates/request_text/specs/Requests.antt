@@ -1,13 +1,16 @@
 -- What a line asks.
-use Rattle.std.specs.Prelude.{ℕ, Bool, ◌&&◌, nat_le, List, [], ◌∷◌, drop, length, ◌==◌, if◌then◌else◌, Option, Some, None, Result, Ok, Err, codes}
+use Rattle.std.specs.Prelude.{ℕ, Bool, ◌&&◌, nat_le, List, [], ◌∷◌, drop, length, ◌==◌, if◌then◌else◌, Some, None, Result, Ok, Err, codes}
 use Rattle.std.specs.List.{list_all, slice_split}
 use Rattle.type_table.specs.Name.{is_name}
 use Rattle.request_text.specs.Shapes.{◌>>=◌, has_words, has_words_from, request_name_at, number_at, object_at, asked_name_at, transaction_at, is_verb}
+use Rattle.request_text.specs.Calls.{calls_said, has_calls, has_objects, objects_said}
 use Rattle.request_text.specs.declared.fault.RequestFault.{RequestFault}
 use Rattle.request_text.specs.declared.fault.RequestFault.TheVariants.{TooLong, NotAscii, BadTag, UnknownVerb}
 use Rattle.request_text.specs.declared.request.Asked.{Asked}
+use Rattle.request_text.specs.declared.request.AskedCall.{AskedCall}
+use Rattle.request_text.specs.declared.request.ObjectWord.{ObjectWord}
 use Rattle.request_text.specs.declared.request.Request.{Request}
-use Rattle.request_text.specs.declared.request.Request.TheVariants.{Begin, Call, Would, Commit, Abort, Rollback, Kept, Find, Objects, Types, Events, Stats, Extend, End}
+use Rattle.request_text.specs.declared.request.Request.TheVariants.{Begin, Call, Would, Commit, Abort, Rollback, Kept, Peek, Committed, Do, Find, Objects, Types, Events, Stats, Extend, End}
 
 -- ---- a request
 
@@ -77,17 +80,31 @@ extend_request_of words = do
   done ← has_words_from words 3
   Ok Extend
 
+-- one to 64 calls, each an object and a name
+unfoldable pub calls_request_of : List (List ℕ) → Request → Result Request RequestFault
+calls_request_of words request = do
+  done ← has_calls words
+  Ok request
+
+-- one to 64 objects
+unfoldable pub objects_request_of : List (List ℕ) → Result Request RequestFault
+objects_request_of words = do
+  done ← has_objects words
+  Ok Committed
+
 -- by the verb, of those that change nothing
 unfoldable pub question_of : List (List ℕ) → Result Request RequestFault
 question_of words =
     if is_verb words (codes "kept") then kept_of words
+    else (if is_verb words (codes "peek") then calls_request_of words Peek
+    else (if is_verb words (codes "committed") then objects_request_of words
     else (if is_verb words (codes "find") then find_of words
     else (if is_verb words (codes "objects") then alone words Objects
     else (if is_verb words (codes "types") then alone words Types
     else (if is_verb words (codes "events") then events_request_of words
     else (if is_verb words (codes "stats") then alone words Stats
     else (if is_verb words (codes "end") then alone words End
-    else Err UnknownVerb))))))
+    else Err UnknownVerb))))))))
 
 -- by the verb
 unfoldable pub request_of : List (List ℕ) → Result Request RequestFault
@@ -99,7 +116,8 @@ request_of words =
     else (if is_verb words (codes "abort") then abort_request_of words
     else (if is_verb words (codes "rollback") then rollback_request_of words
     else (if is_verb words (codes "extend") then extend_request_of words
-    else question_of words))))))
+    else (if is_verb words (codes "do") then calls_request_of words Do
+    else question_of words)))))))
 
 -- ---- a line
 
@@ -114,6 +132,14 @@ words_between line = slice_split (λ b. b == 32) line
 -- those behind the tag and the verb
 abbrev pub file_words : List ℕ → List (List ℕ)
 file_words line = drop 2 (words_between line)
+
+-- the calls behind the verb
+abbrev pub calls_asked : List ℕ → List AskedCall
+calls_asked line = calls_said (file_words line)
+
+-- the objects behind the verb
+abbrev pub objects_asked : List ℕ → List ObjectWord
+objects_asked line = objects_said (file_words line)
 
 -- 32 to 126
 abbrev pub is_ascii : ℕ → Bool

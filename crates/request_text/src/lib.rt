@@ -1,6 +1,7 @@
 //! Lines that a client of a store sends: a tag and a request each.
 #![tactic(auto)]
 
+mod calls;
 mod fault;
 mod line;
 mod number;
@@ -9,7 +10,8 @@ mod request;
 mod shapes;
 
 pub use fault::RequestFault;
-pub use reading::{LONGEST_LINE, file_words, read_line};
-pub use request::{Asked, ObjectWord, Request, TransactionName};
+pub use reading::{LONGEST_LINE, calls_asked, file_words, objects_asked, read_line};
+pub use request::{Asked, AskedCall, ObjectWord, Request, TransactionName};
 
+pub mod laws;
 pub mod worked;

@@ -1,8 +1,9 @@
 //! The requests, by their verbs.
 
 ghost use Rattle.std.specs.Prelude.{◌≡◌, map};
-ghost use Rattle.request_text.specs.Requests.{request_of, question_of, alone, call_request_of, would_of, commit_request_of, abort_request_of, rollback_request_of, extend_request_of, kept_of, find_of, events_request_of};
+ghost use Rattle.request_text.specs.Requests.{request_of, question_of, alone, call_request_of, would_of, commit_request_of, abort_request_of, rollback_request_of, extend_request_of, calls_request_of, objects_request_of, kept_of, find_of, events_request_of};
 
+use crate::calls::{has_calls, has_objects};
 use crate::fault::RequestFault;
 use crate::request::Request;
 use crate::shapes::{
@@ -28,6 +29,8 @@ pub fn request_of(words: &[&[u8]]) -> Result<Request, RequestFault>
         rollback_of(words)
     } else if is_verb(words, "extend") {
         extend_of(words)
+    } else if is_verb(words, "do") {
+        calls_of(words, Request::Do)
     } else {
         question_of(words)
     }
@@ -40,6 +43,10 @@ fn question_of(words: &[&[u8]]) -> Result<Request, RequestFault>
 {
     if is_verb(words, "kept") {
         kept_of(words)
+    } else if is_verb(words, "peek") {
+        calls_of(words, Request::Peek)
+    } else if is_verb(words, "committed") {
+        objects_of(words)
     } else if is_verb(words, "find") {
         find_of(words)
     } else if is_verb(words, "objects") {
@@ -121,6 +128,22 @@ fn extend_of(words: &[&[u8]]) -> Result<Request, RequestFault>
 {
     at_least(words, 3)?;
     Ok(Request::Extend)
+}
+
+#[tactic(auto, unfolding(crate::specs::Requests::calls_request_of))]
+fn calls_of(words: &[&[u8]], request: Request) -> Result<Request, RequestFault>
+    ensures { result ≡ calls_request_of (map (λ w. w.now) words.now) request }
+{
+    has_calls(words)?;
+    Ok(request)
+}
+
+#[tactic(auto, unfolding(crate::specs::Requests::objects_request_of))]
+fn objects_of(words: &[&[u8]]) -> Result<Request, RequestFault>
+    ensures { result ≡ objects_request_of (map (λ w. w.now) words.now) }
+{
+    has_objects(words)?;
+    Ok(Request::Committed)
 }
 
 #[tactic(auto, unfolding(crate::specs::Requests::kept_of))]

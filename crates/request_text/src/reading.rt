@@ -2,11 +2,12 @@
 
 ghost use Rattle.std.specs.Prelude.{◌≡◌, map, IfOk, OnOk};
 ghost use Rattle.std.specs.List.{list_all};
-ghost use Rattle.request_text.specs.Requests.{asked_by, file_words, is_ascii, tagged_of, untagged, words_between};
+ghost use Rattle.request_text.specs.Requests.{asked_by, calls_asked, objects_asked, file_words, is_ascii, tagged_of, untagged, words_between};
 
+use crate::calls::{calls_said, objects_said};
 use crate::fault::RequestFault;
 use crate::line::request_of;
-use crate::request::Asked;
+use crate::request::{Asked, AskedCall, ObjectWord};
 use std::alloc::{AllocError, Global};
 use type_table::Name;
 
@@ -44,6 +45,30 @@ pub fn file_words(alloc: Global, line: &[u8]) -> Result<Vec<&[u8]>, AllocError>
         [_tag, _verb, files @ ..] => Vec::from_slice(alloc, files),
         _ => Ok(Vec::new(alloc)),
     }
+}
+
+/// The calls behind the tag and the verb of a line, of `peek` and of `do`.
+///
+/// # Errors
+///
+/// Memory was refused.
+pub fn calls_asked(alloc: Global, line: &[u8]) -> Result<Vec<AskedCall>, AllocError>
+    ensures { IfOk result (λ calls. calls.items ≡ calls_asked line.now) }
+{
+    let words = file_words(alloc, line)?;
+    calls_said(alloc, &words)
+}
+
+/// The objects behind them, of `committed`.
+///
+/// # Errors
+///
+/// Memory was refused.
+pub fn objects_asked(alloc: Global, line: &[u8]) -> Result<Vec<ObjectWord>, AllocError>
+    ensures { IfOk result (λ objects. objects.items ≡ objects_asked line.now) }
+{
+    let words = file_words(alloc, line)?;
+    objects_said(alloc, &words)
 }
 
 /// What the words of a line ask.

@@ -17,6 +17,13 @@ pub enum ObjectWord {
     Name { name: ObjectName },
 }
 
+/// A call at an object, of a request that asks for several.
+#[derive(Clone, Copy)]
+pub struct AskedCall {
+    pub x: ObjectWord,
+    pub call: Name,
+}
+
 /// What a client asks of a store.
 #[derive(Clone, Copy)]
 pub enum Request {
@@ -44,6 +51,12 @@ pub enum Request {
     Kept {
         x: ObjectWord,
     },
+    /// Calls are asked of a transaction that only reads: `calls_asked` are they.
+    Peek,
+    /// States are asked for: `objects_asked` are the objects.
+    Committed,
+    /// A whole transaction is asked for: `calls_asked` are its calls.
+    Do,
     /// The number is asked of the object that has this name.
     Find {
         name: ObjectName,

@@ -72,7 +72,7 @@ pub fn object_at(words: &[&[u8]], position: usize) -> Result<ObjectWord, Request
 }
 
 /// The object that a word says.
-fn object_word(word: &[u8]) -> Result<ObjectWord, RequestFault>
+pub fn object_word(word: &[u8]) -> Result<ObjectWord, RequestFault>
     ensures { result ≡ object_word word.now }
 {
     match word {

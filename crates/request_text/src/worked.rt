@@ -2,9 +2,9 @@
 
 ghost use Rattle.std.specs.Prelude.{◌≡◌, ◌∷◌, [], codes, Some, None, Ok, Err};
 ghost use Rattle.request_text.specs.Numbers.{request_number, transaction_of};
-ghost use Rattle.request_text.specs.Requests.{asked_by, file_words, untagged, words_between};
+ghost use Rattle.request_text.specs.Requests.{asked_by, calls_asked, objects_asked, file_words, untagged, words_between};
 ghost use Rattle.request_text.specs.declared.fault.RequestFault.TheVariants.{NotAscii, BadTag, UnknownVerb, BadWords, BadNumber};
-ghost use Rattle.request_text.specs.declared.request.Request.TheVariants.{Begin, Call, Kept, Find, Extend};
+ghost use Rattle.request_text.specs.declared.request.Request.TheVariants.{Begin, Call, Kept, Peek, Committed, Do, Find, Extend};
 ghost use Rattle.request_text.specs.declared.request.ObjectWord.TheVariants.{Number, Name};
 
 pub fn numbers_are_read()
@@ -36,6 +36,25 @@ pub fn words_behind_the_verb()
 pub fn lines_that_ask_for_more_objects()
     ensures extend { asked_by (codes "e1 extend more.history ctr2.type") ≡ record { tag = Some (codes "e1"); request = Ok Extend } }
     ensures no_type { asked_by (codes "e1 extend more.history") ≡ record { tag = Some (codes "e1"); request = Err BadWords } }
+{}
+
+/// `peek`, `do` and `committed` ask for several at once.
+pub fn lines_that_ask_for_several()
+    ensures peek { asked_by (codes "7 peek 0 get @A12 size") ≡ record { tag = Some (codes "7"); request = Ok Peek } }
+    ensures whole { asked_by (codes "7 do 0 inc:1") ≡ record { tag = Some (codes "7"); request = Ok Do } }
+    ensures committed { asked_by (codes "7 committed 1 @A12 1") ≡ record { tag = Some (codes "7"); request = Ok Committed } }
+    ensures nothing { asked_by (codes "7 peek") ≡ record { tag = Some (codes "7"); request = Err BadWords } }
+    ensures no_object { asked_by (codes "7 committed") ≡ record { tag = Some (codes "7"); request = Err BadWords } }
+    ensures half_a_call { asked_by (codes "7 do 0 get 1") ≡ record { tag = Some (codes "7"); request = Err BadWords } }
+    ensures names_before_numbers { asked_by (codes "7 do x get 1 GET") ≡ record { tag = Some (codes "7"); request = Err BadWords } }
+    ensures bad_number { asked_by (codes "7 do 0 get x get") ≡ record { tag = Some (codes "7"); request = Err BadNumber } }
+    ensures bad_object { asked_by (codes "7 committed 0 @") ≡ record { tag = Some (codes "7"); request = Err BadNumber } }
+{}
+
+/// What they ask for, in its order.
+pub fn several_are_read()
+    ensures calls { calls_asked (codes "7 do 0 inc:1 @A12 size") ≡ record { x = Number 0; call = codes "inc:1" } ∷ record { x = Name (codes "A12"); call = codes "size" } ∷ [] }
+    ensures objects { objects_asked (codes "7 committed 1 @A12 1") ≡ Number 1 ∷ Name (codes "A12") ∷ Number 1 ∷ [] }
 {}
 
 /// An object is said by its number, or by `@` and its name.

@@ -46,6 +46,17 @@ kept-more n half b = elim (shorter-or-not n (length half)) [
 too-long : (line : List ℕ) → 4095 < length line → asked_by line ≡ untagged TooLong
 too-long line long = let test : nat_le (length line) 4095 ≡ false = lt-leb _ _ long in rw test
 
+-- lines that ask the same: they are one, or both are too long
+abbrev pub AskSame : List ℕ → List ℕ → Type 0
+AskSame kept half = (kept ≡ half) ⊎ ((asked_by kept ≡ untagged TooLong) × (asked_by half ≡ untagged TooLong))
+
+-- as a line and its first 4096 bytes
+pub same-kept : (half : List ℕ) → AskSame (take 4096 half) half
+same-kept half = elim (shorter-or-not 4096 (length half)) [
+  | inl short ↦ inl (take_all 4096 half (omega arith))
+  | inr long ↦ inr (too-long (take 4096 half) (omega (arith, length-take-le 4096 half long)), too-long half (omega arith))
+]
+
 -- the first 4096 bytes of a line say what it asks
 pub asked-kept : (half : List ℕ) → asked_by (take 4096 half) ≡ asked_by half
 asked-kept half = elim (shorter-or-not 4096 (length half)) [

@@ -1,5 +1,5 @@
 -- An epoch is closed: what is open is aborted, and its history is kept.
-use Rattle.std.proofs.Common.{◌≡◌, ◌∙◌, ◌⊎◌, inl, inr, ℕ, ◌≤◌, Option, Some, List, [], ◌∷◌, length, take, drop, sym, ap, ap₂, subst, arith}
+use Rattle.std.proofs.Common.{◌≡◌, ◌∙◌, inl, inr, ℕ, ◌≤◌, Option, Some, List, [], ◌∷◌, length, take, drop, sym, ap, ap₂, subst, arith}
 use Rattle.std.proofs.Math.Seq.{drop-append_seam}
 use Rattle.std.proofs.lemmas.List.{length-map, take_all}
 use Rattle.sqlite_trees.specs.declared.store.Store.{Ghosts}

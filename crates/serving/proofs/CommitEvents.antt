@@ -21,19 +21,27 @@ use Rattle.serial_order.specs.declared.refusal.Refusal.TheVariants.{NoObject, No
 use Rattle.store_laws.specs.Stored.{MayStep, Steps, Stored, stored_after, objects, refusal_of}
 use Rattle.store.specs.Ends.{closing}
 use Rattle.store.specs.KeptState.{IsKeptState}
+use Rattle.attempts.specs.declared.outcome.Attempt.{Attempt}
+use Rattle.attempts.specs.declared.outcome.Attempt.TheVariants as attempt
+use Rattle.attempts.specs.declared.outcome.Ending.{Ending}
+use Rattle.attempts.specs.declared.outcome.Ending.TheVariants as ending
+use Rattle.attempts.specs.Commands.{CallAt}
+use Rattle.attempts.specs.Answers.{AttemptAnswers}
 use Rattle.store_text.specs.declared.line.ObjectLine.{ObjectLine}
 use Rattle.journal.specs.Contents.{Contents}
 use Rattle.durable_store.specs.declared.durable.Durable.{Durable}
 use Rattle.durable_store.specs.Durable.{events_of_kinds, kinds}
 use Rattle.durable_store.specs.Recovered.{IsStoreOf}
-use Rattle.request_text.specs.Requests.{asked_by}
+use Rattle.request_text.specs.Requests.{asked_by, calls_asked, objects_asked}
 use Rattle.request_text.specs.declared.fault.RequestFault.{RequestFault}
 use Rattle.request_text.specs.declared.request.Asked.{Asked}
+use Rattle.request_text.specs.declared.request.AskedCall.{AskedCall}
+use Rattle.request_text.specs.declared.request.ObjectWord.{ObjectWord}
 use Rattle.request_text.specs.declared.request.Request.{Request}
 use Rattle.request_text.specs.declared.request.Request.TheVariants as request
 use Rattle.request_text.specs.declared.request.TransactionName.{TransactionName}
 use Rattle.serving.specs.declared.answer_line.AnswerLine.{AnswerLine}
-use Rattle.serving.specs.declared.answer_line.AnswerLine.TheVariants.{Committed, Done, Events, Extended, Fault, NotAdded, Objects, Refused, State, Types}
+use Rattle.serving.specs.declared.answer_line.AnswerLine.TheVariants.{Committed, Completed, Done, Events, Extended, Fault, NotAdded, Nothing, NothingSeen, Objects, Refused, Seen, SeenStates, State, Types, Unseen}
 use Rattle.serving.specs.declared.answer_line.Answered.{Answered}
 use Rattle.serving.specs.declared.extension.Extension.{Extension}
 use Rattle.serving.specs.Archives.{life_in}
@@ -45,6 +53,7 @@ use Rattle.serving.specs.Lines.{AreLines, is_taken, may_wait}
 use Rattle.serving.specs.NextEpoch.{MayWait, answers_in, is_not_added, late_answer, limit_while}
 use Rattle.serving.specs.Requests.{DoesRequest, LetsGo, found_answer, TellsEvents, TellsObjects, TellsTypes, events_from}
 use Rattle.serving.specs.Served.{IsAnswered, Serves}
+use Rattle.serving.specs.Several.{DoesCommitted, DoesPeek, TellsAttempt, TellsReplies, ended_answer, replies_of}
 use Rattle.serving.specs.Told.{has_lasting, is_lasting}
 use Rattle.serving.proofs.FirstLines.{either-lines}
 use Rattle.serving.proofs.NextEpochs.{next-headers, raised}
@@ -192,26 +201,55 @@ turn-found : (found : Option ℕ) → comes_late (found_answer found) ≡ false
 turn-found None = refl
 turn-found (Some x) = refl
 
-does-turn : (clean : Type 0) (most life : ℕ) (c : Contents) (old : Stored) (r : Request) (answer : AnswerLine) (new : Stored) → DoesRequest clean most life c old r answer new → comes_late answer ≡ false
-does-turn clean most life c old request.Begin answer new does = either (is_epoch_full most old) does (λ p. ap comes_late p.0) (λ p. ap comes_late p.2 ∙ turn-begin life p.0)
-does-turn clean most life c old (request.Call t x name) answer new does = either (t.life == life) does.2 (λ p. ap comes_late p.2 ∙ turn-call new life does.0 p.0) (λ p. ap comes_late p.0)
-does-turn clean most life c old (request.Would t x name) answer new does = either (t.life == life) does.2 (λ p. ap comes_late p.2 ∙ turn-call old life does.0 p.0) (λ p. ap comes_late p.0)
-does-turn clean most life c old (request.Commit t) answer new does = either (t.life == life) does (λ p. ap comes_late p.2 ∙ turn-committed p.0) (λ p. ap comes_late p.0)
-does-turn clean most life c old (request.Abort t) answer new does = either (t.life == life) does (λ p. ap comes_late p.2 ∙ turn-done p.0) (λ p. ap comes_late p.0)
-does-turn clean most life c old (request.Rollback t count) answer new does = either (t.life == life) does (λ p. ap comes_late p.2 ∙ turn-done p.0) (λ p. ap comes_late p.0)
-does-turn clean most life c old (request.Kept x) answer new does = turn-kept (slice_get (objects old) does.0) old does.0 answer does.2.1
-does-turn clean most life c old (request.Find name) answer new does = ap comes_late does.2 ∙ turn-found does.1
-does-turn clean most life c old request.Objects answer new does = turn-objects clean answer c.objects does.0
-does-turn clean most life c old request.Types answer new does = turn-types clean answer c.types does.0
-does-turn clean most life c old (request.Events from count) answer new does = turn-events clean answer (events_from old from count) does.0
-does-turn clean most life c old request.Stats answer new does = ap comes_late does.0
-does-turn clean most life c old request.Extend answer new does = ap comes_late does.0
-does-turn clean most life c old request.End answer new does = ap comes_late does.0
+turn-peek : (clean : Type 0) (answer : AnswerLine) (life : ℕ) (lines : List ObjectLine) (old : Stored) (calls : List AskedCall) (new : Stored) → DoesPeek clean life lines old calls answer new → comes_late answer ≡ false
+turn-peek clean (Seen moment replies) life lines old calls new does = refl
+turn-peek clean (NothingSeen at) life lines old calls new does = refl
+turn-peek clean (Unseen refusal) life lines old calls new does = refl
+turn-peek clean answer life lines old calls new does = absurd does
+
+turn-states : (clean : Type 0) (answer : AnswerLine) (life : ℕ) (lines : List ObjectLine) (old : Stored) (xs : List ObjectWord) (new : Stored) → DoesCommitted clean life lines old xs answer new → comes_late answer ≡ false
+turn-states clean (SeenStates moment states) life lines old xs new does = refl
+turn-states clean (Refused NoObject) life lines old xs new does = refl
+turn-states clean answer life lines old xs new does = absurd does
+
+turn-replies : (replies : List (Option (List ℕ))) (answer : AnswerLine) → TellsReplies replies answer → comes_late answer ≡ false
+turn-replies replies (Completed told) tells = refl
+turn-replies replies Nothing tells = refl
+turn-replies replies answer tells = absurd tells
+
+turn-ended : (life at : ℕ) (how : Ending) → comes_late (ended_answer life at how) ≡ false
+turn-ended life at (ending.Busy u) = refl
+turn-ended life at ending.None = refl
+turn-ended life at (ending.Refused refusal) = refl
+
+turn-attempt : (s : Stored) (life : ℕ) (calls : List CallAt) (came : Attempt) (answer : AnswerLine) → TellsAttempt s life calls came answer → comes_late answer ≡ false
+turn-attempt s life calls (attempt.Done ks) answer tells = turn-replies (replies_of s calls ks.items) answer tells
+turn-attempt s life calls (attempt.Ended at how) answer tells = ap comes_late tells ∙ turn-ended life at how
+turn-attempt s life calls (attempt.NotBegun refusal) answer tells = ap comes_late tells
+
+does-turn : (clean : Type 0) (most life : ℕ) (c : Contents) (line : List ℕ) (old : Stored) (r : Request) (answer : AnswerLine) (new : Stored) → DoesRequest clean most life c line old r answer new → comes_late answer ≡ false
+does-turn clean most life c line old request.Begin answer new does = either (is_epoch_full most old) does (λ p. ap comes_late p.0) (λ p. ap comes_late p.2 ∙ turn-begin life p.0)
+does-turn clean most life c line old (request.Call t x name) answer new does = either (t.life == life) does.2 (λ p. ap comes_late p.2 ∙ turn-call new life does.0 p.0) (λ p. ap comes_late p.0)
+does-turn clean most life c line old (request.Would t x name) answer new does = either (t.life == life) does.2 (λ p. ap comes_late p.2 ∙ turn-call old life does.0 p.0) (λ p. ap comes_late p.0)
+does-turn clean most life c line old (request.Commit t) answer new does = either (t.life == life) does (λ p. ap comes_late p.2 ∙ turn-committed p.0) (λ p. ap comes_late p.0)
+does-turn clean most life c line old (request.Abort t) answer new does = either (t.life == life) does (λ p. ap comes_late p.2 ∙ turn-done p.0) (λ p. ap comes_late p.0)
+does-turn clean most life c line old (request.Rollback t count) answer new does = either (t.life == life) does (λ p. ap comes_late p.2 ∙ turn-done p.0) (λ p. ap comes_late p.0)
+does-turn clean most life c line old (request.Kept x) answer new does = turn-kept (slice_get (objects old) does.0) old does.0 answer does.2.1
+does-turn clean most life c line old request.Peek answer new does = turn-peek clean answer life c.objects old (calls_asked line) new does
+does-turn clean most life c line old request.Committed answer new does = turn-states clean answer life c.objects old (objects_asked line) new does
+does-turn clean most life c line old request.Do answer new does = either (is_epoch_full most old) does (λ p. ap comes_late p.0) (λ it. turn-attempt new life it.made it.came answer it.tells)
+does-turn clean most life c line old (request.Find name) answer new does = ap comes_late does.2 ∙ turn-found does.1
+does-turn clean most life c line old request.Objects answer new does = turn-objects clean answer c.objects does.0
+does-turn clean most life c line old request.Types answer new does = turn-types clean answer c.types does.0
+does-turn clean most life c line old (request.Events from count) answer new does = turn-events clean answer (events_from old from count) does.0
+does-turn clean most life c line old request.Stats answer new does = ap comes_late does.0
+does-turn clean most life c line old request.Extend answer new does = ap comes_late does.0
+does-turn clean most life c line old request.End answer new does = ap comes_late does.0
 
 answered-turn : (clean : Type 0) (most life : ℕ) (c : Contents) (line : List ℕ) (old : Stored) (a : Answered) (new : Stored) → IsAnswered clean most life c line old a new → comes_late a.answer ≡ false
 answered-turn clean most life c line old a new answered =
-    elim (asked_by line).request as (λ (q : Result Request RequestFault). MatchResult q (λ r. DoesRequest clean most life c old r a.answer new) (λ fault. (a.answer ≡ Fault fault) × (new ≡ old)) → comes_late a.answer ≡ false) [
-      | Ok r ↦ λ does. does-turn clean most life c old r a.answer new does
+    elim (asked_by line).request as (λ (q : Result Request RequestFault). MatchResult q (λ r. DoesRequest clean most life c line old r a.answer new) (λ fault. (a.answer ≡ Fault fault) × (new ≡ old)) → comes_late a.answer ≡ false) [
+      | Ok r ↦ λ does. does-turn clean most life c line old r a.answer new does
       | Err fault ↦ λ told. ap comes_late told.0
     ] answered.request
 
@@ -272,26 +310,45 @@ steps-grow old w c r new steps = subst (λ (s : Stored). Grows old s) (sym steps
 may-grow : {T : Type 0} (old : Stored) (w : ℕ) (c : Command) (r : Result T Refusal) (new : Stored) → MayStep old w c r new → Grows old new
 may-grow old w c r new may = elim may [ inl steps ↦ steps-grow old w c r new steps | inr none ↦ same-grows old new none.2 ]
 
-does-grow : (clean : Type 0) (most life : ℕ) (c : Contents) (old : Stored) (r : Request) (answer : AnswerLine) (new : Stored) → DoesRequest clean most life c old r answer new → Grows old new
-does-grow clean most life c old request.Begin answer new does = either (is_epoch_full most old) does (λ p. same-grows old new p.1) (λ p. may-grow old 0 command.Begin p.0 new p.1)
-does-grow clean most life c old (request.Call t x name) answer new does = either (t.life == life) does.2 (λ p. may-grow old 0 (command.Call t.number does.0 name) p.0 new p.1) (λ p. same-grows old new p.1)
-does-grow clean most life c old (request.Would t x name) answer new does = either (t.life == life) does.2 (λ p. same-grows old new p.3) (λ p. same-grows old new p.1)
-does-grow clean most life c old (request.Commit t) answer new does = either (t.life == life) does (λ p. steps-grow old 0 (command.Commit t.number) p.0 new p.1) (λ p. same-grows old new p.1)
-does-grow clean most life c old (request.Abort t) answer new does = either (t.life == life) does (λ p. steps-grow old 0 (command.Abort t.number) p.0 new p.1) (λ p. same-grows old new p.1)
-does-grow clean most life c old (request.Rollback t count) answer new does = either (t.life == life) does (λ p. may-grow old 0 (command.Rollback t.number count) p.0 new p.1) (λ p. same-grows old new p.1)
-does-grow clean most life c old (request.Kept x) answer new does = same-grows old new does.2.0
-does-grow clean most life c old (request.Find name) answer new does = same-grows old new does.0
-does-grow clean most life c old request.Objects answer new does = lets-grow old new does.1
-does-grow clean most life c old request.Types answer new does = lets-grow old new does.1
-does-grow clean most life c old (request.Events from count) answer new does = lets-grow old new does.1
-does-grow clean most life c old request.Stats answer new does = same-grows old new does.1
-does-grow clean most life c old request.Extend answer new does = same-grows old new does.1
-does-grow clean most life c old request.End answer new does = same-grows old new does.1
+peek-same : (clean : Type 0) (answer : AnswerLine) (life : ℕ) (lines : List ObjectLine) (old : Stored) (calls : List AskedCall) (new : Stored) → DoesPeek clean life lines old calls answer new → new ≡ old
+peek-same clean (Seen moment replies) life lines old calls new does = does.0
+peek-same clean (NothingSeen at) life lines old calls new does = does.0
+peek-same clean (Unseen refusal) life lines old calls new does = does.0
+peek-same clean answer life lines old calls new does = absurd does
+
+states-same : (clean : Type 0) (answer : AnswerLine) (life : ℕ) (lines : List ObjectLine) (old : Stored) (xs : List ObjectWord) (new : Stored) → DoesCommitted clean life lines old xs answer new → new ≡ old
+states-same clean (SeenStates moment states) life lines old xs new does = does.0
+states-same clean (Refused NoObject) life lines old xs new does = does.0
+states-same clean answer life lines old xs new does = absurd does
+
+attempt-grows : (old : Stored) (calls : List CallAt) (came : Attempt) (new : Stored) → AttemptAnswers old 0 calls came new → Grows old new
+attempt-grows old calls (attempt.Done ks) new done = (_, ap (λ (s : Stored). s.history) done.events, ap (λ (s : Stored). s.types) done.events)
+attempt-grows old calls (attempt.Ended at how) new ended = (_, ap (λ (s : Stored). s.history) ended.events, ap (λ (s : Stored). s.types) ended.events)
+attempt-grows old calls (attempt.NotBegun refusal) new none = same-grows old new none.1
+
+does-grow : (clean : Type 0) (most life : ℕ) (c : Contents) (line : List ℕ) (old : Stored) (r : Request) (answer : AnswerLine) (new : Stored) → DoesRequest clean most life c line old r answer new → Grows old new
+does-grow clean most life c line old request.Begin answer new does = either (is_epoch_full most old) does (λ p. same-grows old new p.1) (λ p. may-grow old 0 command.Begin p.0 new p.1)
+does-grow clean most life c line old (request.Call t x name) answer new does = either (t.life == life) does.2 (λ p. may-grow old 0 (command.Call t.number does.0 name) p.0 new p.1) (λ p. same-grows old new p.1)
+does-grow clean most life c line old (request.Would t x name) answer new does = either (t.life == life) does.2 (λ p. same-grows old new p.3) (λ p. same-grows old new p.1)
+does-grow clean most life c line old (request.Commit t) answer new does = either (t.life == life) does (λ p. steps-grow old 0 (command.Commit t.number) p.0 new p.1) (λ p. same-grows old new p.1)
+does-grow clean most life c line old (request.Abort t) answer new does = either (t.life == life) does (λ p. steps-grow old 0 (command.Abort t.number) p.0 new p.1) (λ p. same-grows old new p.1)
+does-grow clean most life c line old (request.Rollback t count) answer new does = either (t.life == life) does (λ p. may-grow old 0 (command.Rollback t.number count) p.0 new p.1) (λ p. same-grows old new p.1)
+does-grow clean most life c line old (request.Kept x) answer new does = same-grows old new does.2.0
+does-grow clean most life c line old request.Peek answer new does = same-grows old new (peek-same clean answer life c.objects old (calls_asked line) new does)
+does-grow clean most life c line old request.Committed answer new does = same-grows old new (states-same clean answer life c.objects old (objects_asked line) new does)
+does-grow clean most life c line old request.Do answer new does = either (is_epoch_full most old) does (λ p. same-grows old new p.1) (λ it. attempt-grows old it.made it.came new it.answers)
+does-grow clean most life c line old (request.Find name) answer new does = same-grows old new does.0
+does-grow clean most life c line old request.Objects answer new does = lets-grow old new does.1
+does-grow clean most life c line old request.Types answer new does = lets-grow old new does.1
+does-grow clean most life c line old (request.Events from count) answer new does = lets-grow old new does.1
+does-grow clean most life c line old request.Stats answer new does = same-grows old new does.1
+does-grow clean most life c line old request.Extend answer new does = same-grows old new does.1
+does-grow clean most life c line old request.End answer new does = same-grows old new does.1
 
 answered-grows : (clean : Type 0) (most life : ℕ) (c : Contents) (line : List ℕ) (old : Stored) (a : Answered) (new : Stored) → IsAnswered clean most life c line old a new → Grows old new
 answered-grows clean most life c line old a new answered =
-    elim (asked_by line).request as (λ (q : Result Request RequestFault). MatchResult q (λ r. DoesRequest clean most life c old r a.answer new) (λ fault. (a.answer ≡ Fault fault) × (new ≡ old)) → Grows old new) [
-      | Ok r ↦ λ does. does-grow clean most life c old r a.answer new does
+    elim (asked_by line).request as (λ (q : Result Request RequestFault). MatchResult q (λ r. DoesRequest clean most life c line old r a.answer new) (λ fault. (a.answer ≡ Fault fault) × (new ≡ old)) → Grows old new) [
+      | Ok r ↦ λ does. does-grow clean most life c line old r a.answer new does
       | Err fault ↦ λ told. same-grows old new told.1
     ] answered.request
 
@@ -320,7 +377,7 @@ commit-answered : (clean : Type 0) (most life : ℕ) (c : Contents) (line : List
     → (t.life ≡ life) × (new.history ≡ old.history ++ commit_of t.number ∷ [])
 commit-answered clean most life c line old a new t commits answered =
     commit-done life old t a.answer new commits.1
-    (subst (λ (q : Result Request RequestFault). MatchResult q (λ r. DoesRequest clean most life c old r a.answer new) (λ fault. (a.answer ≡ Fault fault) × (new ≡ old))) commits.0 answered.request)
+    (subst (λ (q : Result Request RequestFault). MatchResult q (λ r. DoesRequest clean most life c line old r a.answer new) (λ fault. (a.answer ≡ Fault fault) × (new ≡ old))) commits.0 answered.request)
 
 kinds-append : (H more : List Event) → kinds (H ++ more) ≡ kinds H ++ kinds more
 kinds-append H more = map-append (λ (e : Event). e.kind) H more

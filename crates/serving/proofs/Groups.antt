@@ -1,5 +1,5 @@
 -- What was answered, group by group.
-use Rattle.std.proofs.Common.{◌≡◌, ◌∙◌, ℕ, ◌+◌, List, [], ◌++◌, length, take, drop, refl, sym, ap, subst, Option, None, arith}
+use Rattle.std.proofs.Common.{◌≡◌, ◌∙◌, ℕ, List, [], ◌++◌, take, drop, refl, sym, ap, subst, Option, None, arith}
 use Rattle.std.proofs.lemmas.List.{append_assoc, append-nil, take-append-drop, drop_all}
 use Rattle.std.proofs.KnownBytes.{Appends-nil, Appends-trans, Consumes-nil, Consumes-trans, Keeps-refl}
 use Rattle.std.specs.Io.KnownBytes.{Appends, Consumes}

@@ -1,5 +1,5 @@
 -- What a crash leaves of lines that were done.
-use Rattle.std.proofs.Common.{◌≡◌, ◌∙◌, ◌⊎◌, inl, inr, ℕ, zero, suc, ◌+◌, ◌<◌, ◌≤◌, get_or, true, false, ◌||◌, ◌==◌, Option, None, List, [], ◌∷◌, ◌++◌, length, take, drop, refl, sym, ap, ap₂, subst, IsTrue, arith}
+use Rattle.std.proofs.Common.{◌≡◌, ◌∙◌, ◌⊎◌, inl, inr, ℕ, zero, suc, ◌+◌, ◌<◌, get_or, true, false, ◌||◌, ◌==◌, Option, None, List, [], ◌∷◌, ◌++◌, length, take, drop, refl, sym, ap, ap₂, subst, IsTrue, arith}
 use Rattle.std.proofs.Math.Seq.{take-append_seam}
 use Rattle.std.proofs.lemmas.Bool.{or_parts}
 use Rattle.std.proofs.lemmas.List.{append_assoc, append-nil, drop_all, length-append, take-append-drop, take-append-le, take_more}
@@ -8,11 +8,10 @@ use Rattle.std.specs.Prelude.{MatchBool}
 use Rattle.sqlite_trees.specs.declared.store.Store.{Ghosts}
 use Rattle.sqlite_trees.specs.Tree.{Trees}
 use Rattle.store_laws.specs.Stored.{Stored}
-use Rattle.store.specs.Ends.{closing}
 use Rattle.journal.specs.Contents.{Contents, IsFile, contents_of}
 use Rattle.journal.specs.Journal.{Clean, ShowsCommit, may_leave, written}
 use Rattle.durable_store.specs.declared.durable.Durable.{Durable}
-use Rattle.durable_store.specs.Durable.{IsDurable, events_of_kinds, kinds, with_all}
+use Rattle.durable_store.specs.Durable.{IsDurable}
 use Rattle.durable_store.specs.Recovered.{IsStoreOf}
 use Rattle.request_text.specs.declared.request.Asked.{Asked}
 use Rattle.serving.specs.declared.answer_line.Answered.{Answered}
@@ -20,10 +19,9 @@ use Rattle.serving.specs.declared.extension.Extension.{Extension}
 use Rattle.serving.specs.declared.session.Session.{Session}
 use Rattle.serving.specs.declared.server.Server.{Server}
 use Rattle.serving.specs.Does.{is_epoch_full}
-use Rattle.serving.specs.EpochEnd.{BeginsAnew, IsEpochOver, LeavesClosed, LeavesEnd}
-use Rattle.serving.specs.Epochs.{aborted}
+use Rattle.serving.specs.EpochEnd.{BeginsAnew, IsEpochOver, LeavesEnd}
 use Rattle.serving.specs.Follows.{LeavesWritten}
-use Rattle.serving.specs.Left.{AreFirstAnswers, IsFileAfter, IsStoreFile, IsInLife, IsLeftAfter, LeavesLines, Survives, Began, began_at}
+use Rattle.serving.specs.Left.{AreFirstAnswers, IsStoreFile, IsLeftAfter, LeavesLines, Survives, Began, began_at}
 use Rattle.serving.specs.Lines.{AreLines, asks_end}
 use Rattle.serving.specs.NextEpoch.{limit_while}
 use Rattle.serving.specs.Served.{Serves}

@@ -1,12 +1,17 @@
 pub mod Results
+pub mod InTurn
+pub mod Peeked
+pub mod ToldReplies
 pub mod MoreEvents
 pub mod Premises
+pub mod Attempts
 pub mod ByteByByte
 pub mod KeptEpochs
 pub mod NextEpochs
 pub mod TextParts
 pub mod LaterEpochs
 pub mod ServedBytes
+pub mod DoneLines
 pub mod Listed
 pub mod ClosedEpochs
 pub mod Groups

@@ -1,5 +1,5 @@
 -- What begins where an epoch is over.
-use Rattle.std.proofs.Common.{◌≡◌, ◌∙◌, ℕ, Option, None, Some, List, [], ◌++◌, map, length, refl, ap, subst}
+use Rattle.std.proofs.Common.{◌≡◌, ◌∙◌, ℕ, Option, None, Some, List, ◌++◌, map, length, refl, ap, subst}
 use Rattle.journal.specs.declared.header.Header.{Header}
 use Rattle.journal.specs.Contents.{Contents}
 use Rattle.store_laws.specs.Stored.{Stored}

@@ -1,17 +1,20 @@
 -- What was answered holds under a stronger premise too.
-use Rattle.std.proofs.Common.{◌≡◌, ◌∙◌, ℕ, List, Option, Result, Ok, Err, refl, ap, subst}
-use Rattle.std.specs.Prelude.{MatchResult}
+use Rattle.std.proofs.Common.{◌≡◌, ◌∙◌, inl, inr, ℕ, Bool, true, false, List, [], ◌∷◌, take, Option, Some, None, Result, Ok, Err, refl, sym, ap, subst}
+use Rattle.std.specs.Prelude.{MatchBool, MatchResult}
 use Rattle.object_trait.specs.declared.event.EventKind.{EventKind}
 use Rattle.store_laws.specs.Stored.{Stored}
 use Rattle.store_text.specs.declared.line.ObjectLine.{ObjectLine}
 use Rattle.journal.specs.Contents.{Contents}
-use Rattle.request_text.specs.Requests.{asked_by}
+use Rattle.serial_order.specs.declared.refusal.Refusal.TheVariants.{NoObject}
+use Rattle.store.specs.declared.refusals.PeekRefusal.{PeekRefusal}
+use Rattle.request_text.specs.Requests.{asked_by, calls_asked, objects_asked}
 use Rattle.request_text.specs.declared.fault.RequestFault.{RequestFault}
 use Rattle.request_text.specs.declared.request.Asked.{Asked}
+use Rattle.request_text.specs.declared.request.AskedCall.{AskedCall}
 use Rattle.request_text.specs.declared.request.Request.{Request}
 use Rattle.request_text.specs.declared.request.Request.TheVariants as request
 use Rattle.serving.specs.declared.answer_line.AnswerLine.{AnswerLine}
-use Rattle.serving.specs.declared.answer_line.AnswerLine.TheVariants.{Fault, Objects, Types, Events}
+use Rattle.serving.specs.declared.answer_line.AnswerLine.TheVariants.{Fault, Objects, Types, Events, Draining, Seen, SeenStates, NothingSeen, Unseen, Refused}
 use Rattle.serving.specs.declared.answer_line.Answered.{Answered}
 use Rattle.serving.specs.declared.extension.Extension.{Extension}
 use Rattle.serving.specs.NextEpoch.{limit_while}
@@ -19,8 +22,12 @@ use Rattle.std.specs.Prelude.{length, unwrap_or}
 use Rattle.durable_store.specs.Names.{find_named}
 use Rattle.request_text.specs.declared.request.ObjectWord.{ObjectWord}
 use Rattle.request_text.specs.declared.request.ObjectWord.TheVariants.{Number, Name}
-use Rattle.serving.specs.Requests.{DoesRequest, Means, TellsEvents, TellsObjects, TellsTypes}
+use Rattle.serving.specs.Does.{is_epoch_full}
+use Rattle.serving.specs.Means.{Means}
+use Rattle.serving.specs.Several.{Attempts, DoesCommitted, DoesPeek, InTurn, IsAnsweredThere, IsFirstWithout, IsRepliedThere}
+use Rattle.serving.specs.Requests.{DoesRequest, TellsEvents, TellsObjects, TellsTypes}
 use Rattle.serving.specs.Served.{IsAnswered, Serves}
+use Rattle.serving.proofs.ByteByByte.{AskSame}
 
 module _ {clean clean' : Type 0} (sure : clean' → clean) where
   -- ---- what is read of a file that says the same
@@ -41,39 +48,96 @@ module _ {clean clean' : Type 0} (sure : clean' → clean) where
   means-before (Number x) n was now same means = means
   means-before (Name w) n was now same means = λ c. means (sure c) ∙ ap (λ os. unwrap_or (find_named os w) (length os)) (same c)
 
+  -- ---- several at once
+
+  in-turn : {A B : Type 0} {P Q : A → B → Type 0} → ((x : A) (y : B) → P x y → Q x y) → (xs : List A) (ys : List B) → InTurn P xs ys → InTurn Q xs ys
+  in-turn weaker [] [] all = all
+  in-turn weaker (x ∷ xs) (y ∷ ys) all = (weaker x y all.0, in-turn weaker xs ys all.1)
+  in-turn weaker [] (y ∷ ys) all = absurd all
+  in-turn weaker (x ∷ xs) [] all = absurd all
+
+  replied-before : (was now : List ObjectLine) (s : Stored) → (clean' → was ≡ now) → (call : AskedCall) (reply : Option (List ℕ)) → IsRepliedThere clean was s call reply → IsRepliedThere clean' now s call reply
+  replied-before was now s same call reply it = record { x = it.x; means = means-before call.x it.x was now same it.means; found = it.found; peeked = it.peeked; told = it.told }
+
+  there-before : (was now : List ObjectLine) (s : Stored) → (clean' → was ≡ now) → (call : AskedCall) (why : Result (Option (List ℕ)) PeekRefusal) → IsAnsweredThere clean was s call why → IsAnsweredThere clean' now s call why
+  there-before was now s same call (Ok reply) it = replied-before was now s same call reply it
+  there-before was now s same call (Err refusal) it = (it.0, means-before call.x it.0 was now same it.1, it.2)
+
+  first-before : (was now : List ObjectLine) (s : Stored) → (clean' → was ≡ now) → (calls : List AskedCall) (at : ℕ) (why : Result (Option (List ℕ)) PeekRefusal) → IsFirstWithout clean was s calls at why → IsFirstWithout clean' now s calls at why
+  first-before was now s same calls at why it = record {
+    call = it.call;
+    there = it.there;
+    replies = it.replies;
+    before = in-turn (λ call reply. replied-before was now s same call (Some reply)) (take at calls) it.replies it.before;
+    comes = there-before was now s same it.call why it.comes;
+  }
+
+  peeks-before : (answer : AnswerLine) (life : ℕ) (was now : List ObjectLine) (old : Stored) (calls : List AskedCall) (new : Stored) → (clean' → was ≡ now) → DoesPeek clean life was old calls answer new → DoesPeek clean' life now old calls answer new
+  peeks-before (Seen moment replies) life was now old calls new same does = (does.0, does.1, in-turn (λ call reply. replied-before was now old same call (Some reply)) calls replies.items does.2)
+  peeks-before (NothingSeen at) life was now old calls new same does = (does.0, first-before was now old same calls at (Ok None) does.1)
+  peeks-before (Unseen refusal) life was now old calls new same does = (does.0, does.1, first-before was now old same calls does.1 (Err refusal) does.2)
+  peeks-before answer life was now old calls new same does = absurd does
+
+  states-before : (answer : AnswerLine) (life : ℕ) (was now : List ObjectLine) (old : Stored) (xs : List ObjectWord) (new : Stored) → (clean' → was ≡ now) → DoesCommitted clean life was old xs answer new → DoesCommitted clean' life now old xs answer new
+  states-before (SeenStates moment states) life was now old xs new same does = (does.0, does.1, in-turn (λ x state it. (it.0, means-before x it.0 was now same it.1, it.2)) xs states.items does.2)
+  states-before (Refused NoObject) life was now old xs new same does = (does.0, does.1, does.2, does.3, means-before does.1 does.3 was now same does.4, does.5)
+  states-before answer life was now old xs new same does = absurd does
+
+  pub attempts-before : (answer : AnswerLine) (life : ℕ) (was now : List ObjectLine) (old : Stored) (calls : List AskedCall) (new : Stored) → (clean' → was ≡ now) → Attempts clean life was old calls answer new → Attempts clean' life now old calls answer new
+  attempts-before answer life was now old calls new same it = record {
+    made = it.made;
+    are_made = in-turn (λ call at is. (means-before call.x at.0 was now same is.0, is.1)) calls it.made it.are_made;
+    came = it.came;
+    replays = it.replays;
+    answers = it.answers;
+    tells = it.tells;
+  }
+
+  whole-before : (full : Bool) (answer : AnswerLine) (life : ℕ) (was now : List ObjectLine) (old : Stored) (calls : List AskedCall) (new : Stored) → (clean' → was ≡ now)
+      → MatchBool full ((answer ≡ Draining) × (new ≡ old)) (Attempts clean life was old calls answer new) → MatchBool full ((answer ≡ Draining) × (new ≡ old)) (Attempts clean' life now old calls answer new)
+  whole-before true answer life was now old calls new same does = does
+  whole-before false answer life was now old calls new same does = attempts-before answer life was now old calls new same does
+
   -- ---- requests
 
   -- over a file with the same objects and types
-  done-before : (most life : ℕ) (c d : Contents) (old : Stored) (r : Request) (answer : AnswerLine) (new : Stored) → (clean' → (d.objects ≡ c.objects) × (d.types ≡ c.types))
-      → DoesRequest clean most life d old r answer new → DoesRequest clean' most life c old r answer new
-  done-before most life c d old request.Begin answer new same does = does
-  done-before most life c d old (request.Call t x name) answer new same does = (does.0, means-before x does.0 d.objects c.objects (λ now. (same now).0) does.1, does.2)
-  done-before most life c d old (request.Would t x name) answer new same does = (does.0, means-before x does.0 d.objects c.objects (λ now. (same now).0) does.1, does.2)
-  done-before most life c d old (request.Commit t) answer new same does = does
-  done-before most life c d old (request.Abort t) answer new same does = does
-  done-before most life c d old (request.Rollback t count) answer new same does = does
-  done-before most life c d old (request.Kept x) answer new same does = (does.0, means-before x does.0 d.objects c.objects (λ now. (same now).0) does.1, does.2)
-  done-before most life c d old (request.Find name) answer new same does = (does.0, does.1, does.2, λ now. does.3 (sure now) ∙ ap (λ os. find_named os name) (same now).0)
-  done-before most life c d old request.Objects answer new same does = (tells-objects answer d.objects c.objects (λ now. (same now).0) does.0, does.1)
-  done-before most life c d old request.Types answer new same does = (tells-types answer d.types c.types (λ now. (same now).1) does.0, does.1)
-  done-before most life c d old (request.Events from count) answer new same does = (tells-events answer _ does.0, does.1)
-  done-before most life c d old request.Stats answer new same does = does
-  done-before most life c d old request.Extend answer new same does = does
-  done-before most life c d old request.End answer new same does = does
+  done-before : (most life : ℕ) (c d : Contents) (line : List ℕ) (old : Stored) (r : Request) (answer : AnswerLine) (new : Stored) → (clean' → (d.objects ≡ c.objects) × (d.types ≡ c.types))
+      → DoesRequest clean most life d line old r answer new → DoesRequest clean' most life c line old r answer new
+  done-before most life c d line old request.Begin answer new same does = does
+  done-before most life c d line old (request.Call t x name) answer new same does = (does.0, means-before x does.0 d.objects c.objects (λ now. (same now).0) does.1, does.2)
+  done-before most life c d line old (request.Would t x name) answer new same does = (does.0, means-before x does.0 d.objects c.objects (λ now. (same now).0) does.1, does.2)
+  done-before most life c d line old (request.Commit t) answer new same does = does
+  done-before most life c d line old (request.Abort t) answer new same does = does
+  done-before most life c d line old (request.Rollback t count) answer new same does = does
+  done-before most life c d line old (request.Kept x) answer new same does = (does.0, means-before x does.0 d.objects c.objects (λ now. (same now).0) does.1, does.2)
+  done-before most life c d line old request.Peek answer new same does = peeks-before answer life d.objects c.objects old (calls_asked line) new (λ now. (same now).0) does
+  done-before most life c d line old request.Committed answer new same does = states-before answer life d.objects c.objects old (objects_asked line) new (λ now. (same now).0) does
+  done-before most life c d line old request.Do answer new same does = whole-before (is_epoch_full most old) answer life d.objects c.objects old (calls_asked line) new (λ now. (same now).0) does
+  done-before most life c d line old (request.Find name) answer new same does = (does.0, does.1, does.2, λ now. does.3 (sure now) ∙ ap (λ os. find_named os name) (same now).0)
+  done-before most life c d line old request.Objects answer new same does = (tells-objects answer d.objects c.objects (λ now. (same now).0) does.0, does.1)
+  done-before most life c d line old request.Types answer new same does = (tells-types answer d.types c.types (λ now. (same now).1) does.0, does.1)
+  done-before most life c d line old (request.Events from count) answer new same does = (tells-events answer _ does.0, does.1)
+  done-before most life c d line old request.Stats answer new same does = does
+  done-before most life c d line old request.Extend answer new same does = does
+  done-before most life c d line old request.End answer new same does = does
 
   -- a line that asks the same
   pub answered-before : (most life : ℕ) (c d : Contents) (kept half : List ℕ) (old : Stored) (a : Answered) (new : Stored) → (clean' → (d.objects ≡ c.objects) × (d.types ≡ c.types))
-      → asked_by kept ≡ asked_by half → IsAnswered clean most life d kept old a new → IsAnswered clean' most life c half old a new
-  answered-before most life c d kept half old a new files same answered = record {
-    tag = answered.tag ∙ ap (λ (x : Asked). x.tag) same;
+      → AskSame kept half → IsAnswered clean most life d kept old a new → IsAnswered clean' most life c half old a new
+  answered-before most life c d kept half old a new files (inl same) answered = subst (λ line. IsAnswered clean' most life c line old a new) same (record {
+    tag = answered.tag;
     request =
-        let before : MatchResult (asked_by kept).request (λ r. DoesRequest clean' most life c old r a.answer new) (λ fault. (a.answer ≡ Fault fault) × (new ≡ old)) =
-        elim (asked_by kept).request as (λ (q : Result Request RequestFault). MatchResult q (λ r. DoesRequest clean most life d old r a.answer new) (λ fault. (a.answer ≡ Fault fault) × (new ≡ old))
-        → MatchResult q (λ r. DoesRequest clean' most life c old r a.answer new) (λ fault. (a.answer ≡ Fault fault) × (new ≡ old))) [
-          | Ok r ↦ λ does. done-before most life c d old r a.answer new files does
+        elim (asked_by kept).request as (λ (q : Result Request RequestFault). MatchResult q (λ r. DoesRequest clean most life d kept old r a.answer new) (λ fault. (a.answer ≡ Fault fault) × (new ≡ old))
+        → MatchResult q (λ r. DoesRequest clean' most life c kept old r a.answer new) (λ fault. (a.answer ≡ Fault fault) × (new ≡ old))) [
+          | Ok r ↦ λ does. done-before most life c d kept old r a.answer new files does
           | Err fault ↦ λ told. told
-        ] answered.request in
-        subst (λ (x : Asked). MatchResult x.request (λ r. DoesRequest clean' most life c old r a.answer new) (λ fault. (a.answer ≡ Fault fault) × (new ≡ old))) same before;
+        ] answered.request;
+  })
+  answered-before most life c d kept half old a new files (inr (first, second)) answered = record {
+    tag = answered.tag ∙ ap (λ (x : Asked). x.tag) (first ∙ sym second);
+    request =
+        subst (λ (x : Asked). MatchResult x.request (λ r. DoesRequest clean' most life c half old r a.answer new) (λ fault. (a.answer ≡ Fault fault) × (new ≡ old))) (sym second)
+        (subst (λ (x : Asked). MatchResult x.request (λ r. DoesRequest clean most life d kept old r a.answer new) (λ fault. (a.answer ≡ Fault fault) × (new ≡ old))) first answered.request);
   }
 
   -- ---- lines
@@ -83,7 +147,7 @@ module _ {clean clean' : Type 0} (sure : clean' → clean) where
   serves-weaker (Serves.none s) = Serves.none s
   serves-weaker {most} (Serves.line lines asked old mid new answers a life said waits before other may answered) =
       Serves.line lines asked old mid new answers a life said waits (serves-weaker before) other may
-      (answered-before (limit_while waits most) life said said asked asked mid a new (λ now. (refl, refl)) refl answered)
+      (answered-before (limit_while waits most) life said said asked asked mid a new (λ now. (refl, refl)) (inl refl) answered)
   serves-weaker (Serves.more lines asked old new answers a life said waits before may more) = Serves.more lines asked old new answers a life said waits (serves-weaker before) may more
   serves-weaker (Serves.end lines asked old new answers life said waits before ends) = Serves.end lines asked old new answers life said waits (serves-weaker before) ends
   serves-weaker (Serves.forget lines old mid answers life n said ended waits before) = Serves.forget lines old mid answers life n said ended waits (serves-weaker before)

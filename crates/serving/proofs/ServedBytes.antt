@@ -22,7 +22,7 @@ use Rattle.serving.proofs.MoreEvents.{follows-none, leaves-then, writes-then}
 use Rattle.serving.proofs.NextEpochs.{more-same, says-then}
 use Rattle.serving.proofs.LaterEpochs.{lasts-stays}
 use Rattle.serving.proofs.Premises.{answered-before, serves-weaker}
-use Rattle.serving.proofs.ByteByByte.{asked-kept, byte-more, kept-more, line-more}
+use Rattle.serving.proofs.ByteByByte.{AskSame, same-kept, asked-kept, byte-more, kept-more, line-more}
 
 pub stays-then : {S : Type 0} {g : Ghosts S} {old mid new : Session S} → StaysInEpoch g old mid → StaysInEpoch g mid new → StaysInEpoch g old new
 stays-then {g = g} {old} {mid} {new} first second = record {
@@ -86,7 +86,7 @@ line-answered {S} {g} {began} {told} {bytes} {old} {new} b a is none ended clear
           (subst (λ e. Serves (Clean g old.session.store.journal) most file began.life served.lines began.store.store (told ++ old.answers.items) old.session.life served.said old.session.store.store e old.session.waiting) none served.serves) in
           let answered : IsAnswered (Clean g new.session.store.journal) limit old.session.life served.said served.half old.session.store.store a new.session.store.store =
           answered-before (λ now. now) limit old.session.life served.said (written g old.session.store.journal) old.line.items served.half old.session.store.store a new.session.store.store
-          (λ now. served.says (stays.clean now)) same
+          (λ now. served.says (stays.clean now)) (subst (λ line. AskSame line served.half) (sym served.kept) (same-kept served.half))
           (subst (λ n. IsAnswered (Clean g new.session.store.journal) (limit_while old.session.waiting n) old.session.life (written g old.session.store.journal) old.line.items old.session.store.store a new.session.store.store) served.lasts.most does) in
           let ends : asks_end served.half ≡ false = ap (λ (x : Asked). is_end x.request) (sym same) ∙ other in
           let taken : may_wait old.session.waiting served.half ≡ false = ap (λ (x : Asked). is_taken old.session.waiting x.request) (sym same) ∙ may in
@@ -212,13 +212,13 @@ asked-stays {S} {g} old line a new sound does =
 -- a line that doesn't wait, as a session answers it
 pub asked-answered : {S : Type 0} (g : Ghosts S) (old : Session S) (line : List ℕ) (asked : Asked) (a : Answered) (new : Session S) → asked ≡ asked_by line → is_taken old.waiting asked.request ≡ false
     → StaysInEpoch g old new → new.waiting ≡ old.waiting → a.tag ≡ asked.tag
-    → MatchResult asked.request (λ r. DoesRequest (Clean g new.store.journal) (limit_while old.waiting old.most_events) old.life (written g old.store.journal) old.store.store r a.answer new.store.store)
+    → MatchResult asked.request (λ r. DoesRequest (Clean g new.store.journal) (limit_while old.waiting old.most_events) old.life (written g old.store.journal) line old.store.store r a.answer new.store.store)
     (λ fault. (a.answer ≡ Fault fault) × (new.store.store ≡ old.store.store)) → DoesAsked g old line a new
 asked-answered {S} g old line asked a new is other stays waits tag does =
     let answered : IsAnswered (Clean g new.store.journal) (limit_while old.waiting old.most_events) old.life (written g old.store.journal) line old.store.store a new.store.store = record {
       tag = tag ∙ ap (λ (x : Asked). x.tag) is;
       request =
-          subst (λ (x : Asked). MatchResult x.request (λ r. DoesRequest (Clean g new.store.journal) (limit_while old.waiting old.most_events) old.life (written g old.store.journal) old.store.store r a.answer new.store.store)
+          subst (λ (x : Asked). MatchResult x.request (λ r. DoesRequest (Clean g new.store.journal) (limit_while old.waiting old.most_events) old.life (written g old.store.journal) line old.store.store r a.answer new.store.store)
           (λ fault. (a.answer ≡ Fault fault) × (new.store.store ≡ old.store.store))) is does;
     } in
     let test : false ≡ may_wait old.waiting line = sym other ∙ ap (λ (x : Asked). is_taken old.waiting x.request) is in

@@ -8,11 +8,14 @@ use Rattle.object_trait.specs.declared.event.EventKind.{EventKind}
 use Rattle.store_text.specs.declared.line.ObjectLine.{ObjectLine}
 use Rattle.history_text.specs.Canonical.{words_of, object_line, event_line}
 use Rattle.script_run.specs.Lines.{refusal_name}
+use Rattle.store.specs.declared.refusals.PeekRefusal.{PeekRefusal}
+use Rattle.store.specs.declared.refusals.PeekRefusal.TheVariants as peek
 use Rattle.request_text.specs.declared.fault.RequestFault.{RequestFault}
 use Rattle.request_text.specs.declared.fault.RequestFault.TheVariants.{TooLong, NotAscii, BadTag, UnknownVerb, BadWords, BadNumber}
 use Rattle.request_text.specs.declared.request.TransactionName.{TransactionName}
 use Rattle.serving.specs.declared.answer_line.AnswerLine.{AnswerLine}
-use Rattle.serving.specs.declared.answer_line.AnswerLine.TheVariants.{Done, Committed, Begun, State, Reply, Busy, Draining, Nothing, Counts, Objects, Types, Events, Extended, Found, NotAdded, Waiting, Refused, Fault}
+use Rattle.serving.specs.declared.answer_line.Moment.{Moment}
+use Rattle.serving.specs.declared.answer_line.AnswerLine.TheVariants.{Done, Committed, Begun, State, Reply, Busy, Draining, Nothing, Counts, Objects, Types, Events, Extended, Found, Seen, SeenStates, NothingSeen, Unseen, Completed, BusyAt, NothingAt, RefusedAt, NotAdded, Waiting, Refused, Fault}
 
 -- the tag, or `-` where a line has none
 abbrev pub tag_text : Option (List ℕ) → List ℕ
@@ -27,6 +30,12 @@ fault_name BadTag = codes "BadTag"
 fault_name UnknownVerb = codes "UnknownVerb"
 fault_name BadWords = codes "BadWords"
 fault_name BadNumber = codes "BadNumber"
+
+-- the name of a reason why a call isn't answered to a transaction that only reads
+abbrev pub peek_refusal_name : PeekRefusal → List ℕ
+peek_refusal_name peek.NoObject = codes "NoObject"
+peek_refusal_name peek.NoCall = codes "NoCall"
+peek_refusal_name peek.Changes = codes "Changes"
 
 -- pieces one after another
 abbrev pub pieces_text : List (List ℕ) → List ℕ
@@ -58,6 +67,30 @@ word_text tag words word = pieces_text (tag ∷ words ∷ word ∷ (10 ∷ []) �
 abbrev pub counts_text : List ℕ → ℕ → ℕ → ℕ → List ℕ
 counts_text tag events begun open_ones =
     pieces_text (tag ∷ codes " ok events " ∷ decimal events ∷ codes " begun " ∷ decimal begun ∷ codes " open " ∷ decimal open_ones ∷ (10 ∷ []) ∷ [])
+
+-- words, each after a space
+abbrev pub after_space : List ℕ → List ℕ
+after_space word = (32 ∷ []) ++ word
+
+-- a number, after a space
+abbrev pub number_after_space : ℕ → List ℕ
+number_after_space number = (32 ∷ []) ++ decimal number
+
+-- a tag, and the moment of what was seen: a life, and how many commits of its epoch, with a point between
+abbrev pub seen_text : List ℕ → Moment → List ℕ
+seen_text tag moment = pieces_text (tag ∷ codes " seen " ∷ decimal moment.life ∷ codes "." ∷ decimal moment.commits ∷ [])
+
+-- a tag, a word, and a place
+abbrev pub place_text : List ℕ → List ℕ → ℕ → List ℕ
+place_text tag words at = pieces_text (tag ∷ words ∷ decimal at ∷ (10 ∷ []) ∷ [])
+
+-- a tag, a place, and the transaction that is in the way there
+abbrev pub busy_text : List ℕ → ℕ → TransactionName → List ℕ
+busy_text tag at t = pieces_text (tag ∷ codes " busy " ∷ decimal at ∷ codes " " ∷ decimal t.life ∷ codes "." ∷ decimal t.number ∷ (10 ∷ []) ∷ [])
+
+-- a tag, a place, and why the call there was refused
+abbrev pub refused_text : List ℕ → ℕ → List ℕ → List ℕ
+refused_text tag at why = pieces_text (tag ∷ codes " refused " ∷ decimal at ∷ codes " " ∷ why ∷ (10 ∷ []) ∷ [])
 
 -- ---- several lines, each after the tag
 
@@ -95,6 +128,14 @@ answer_text tag (Types texts) = flat_map (answer_lines (tag_text tag)) texts.ite
 answer_text tag (Events events) = flat_map (event_text (tag_text tag)) events.items ++ done_text (tag_text tag)
 answer_text tag (Extended first) = number_text (tag_text tag) first
 answer_text tag (Found x) = number_text (tag_text tag) x
+answer_text tag (Seen moment replies) = seen_text (tag_text tag) moment ++ (flat_map after_space replies.items ++ (10 ∷ []))
+answer_text tag (SeenStates moment states) = seen_text (tag_text tag) moment ++ (flat_map number_after_space states.items ++ (10 ∷ []))
+answer_text tag (NothingSeen at) = place_text (tag_text tag) (codes " none ") at
+answer_text tag (Unseen refusal) = word_text (tag_text tag) (codes " refused ") (peek_refusal_name refusal)
+answer_text tag (Completed replies) = (tag_text tag ++ codes " done") ++ (flat_map after_space replies.items ++ (10 ∷ []))
+answer_text tag (BusyAt at blocker) = busy_text (tag_text tag) at blocker
+answer_text tag (NothingAt at) = place_text (tag_text tag) (codes " none ") at
+answer_text tag (RefusedAt at refusal) = refused_text (tag_text tag) at (refusal_name refusal)
 answer_text tag (NotAdded why) = word_text (tag_text tag) (codes " no ") why.items
 answer_text tag Waiting = []
 answer_text tag (Refused refusal) = word_text (tag_text tag) (codes " refused ") (refusal_name refusal)

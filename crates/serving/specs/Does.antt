@@ -1,5 +1,5 @@
 -- What a request does to a store, and what it is answered.
-use Rattle.std.specs.Prelude.{◌≡◌, ℕ, Bool, ◌==◌, nat_le, List, length, MatchBool, MatchOption, Option, Some, None, slice_get, option_and_then, if◌then◌else◌, Result, Ok, Err}
+use Rattle.std.specs.Prelude.{◌≡◌, ℕ, Bool, ◌==◌, nat_le, List, length, MatchBool, MatchOption, Option, Some, None, slice_get, option_and_then, Result, Ok, Err}
 use Rattle.type_table.specs.Table.{op_of}
 use Rattle.type_table.specs.declared.op.Op.{Op}
 use Rattle.object_trait.specs.Object.{Object}

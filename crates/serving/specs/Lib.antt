@@ -5,6 +5,8 @@ pub mod Follows
 pub mod NextEpoch
 pub mod Archives
 pub mod Epochs
+pub mod Means
+pub mod Several
 pub mod Requests
 pub mod Lines
 pub mod Served

@@ -1,5 +1,5 @@
 -- What each request does, and what it is answered.
-use Rattle.std.specs.Prelude.{◌≡◌, ℕ, min, List, take, drop, length, Option, Some, None, unwrap_or}
+use Rattle.std.specs.Prelude.{◌≡◌, ℕ, min, List, take, drop, Option, Some, None}
 use Rattle.object_trait.specs.declared.event.EventKind.{EventKind}
 use Rattle.store_laws.specs.Stored.{Stored}
 use Rattle.store_text.specs.declared.line.ObjectLine.{ObjectLine}
@@ -8,11 +8,12 @@ use Rattle.durable_store.specs.Durable.{kinds}
 use Rattle.durable_store.specs.Names.{find_named}
 use Rattle.request_text.specs.declared.request.Request.{Request}
 use Rattle.request_text.specs.declared.request.Request.TheVariants as request
-use Rattle.request_text.specs.declared.request.ObjectWord.{ObjectWord}
-use Rattle.request_text.specs.declared.request.ObjectWord.TheVariants.{Number, Name}
 use Rattle.serial_order.specs.declared.refusal.Refusal.TheVariants.{NoObject}
 use Rattle.serving.specs.declared.answer_line.AnswerLine.{AnswerLine}
 use Rattle.serving.specs.declared.answer_line.AnswerLine.TheVariants.{Done, Draining, Objects, Types, Events, Found, Refused}
+use Rattle.request_text.specs.Requests.{calls_asked, objects_asked}
+use Rattle.serving.specs.Means.{Means}
+use Rattle.serving.specs.Several.{DoesCommitted, DoesDo, DoesPeek}
 use Rattle.serving.specs.Does.{DoesAbort, DoesBegin, DoesCall, DoesCommit, DoesKept, DoesRollback, DoesStats, DoesWould}
 
 -- ---- what is read from the file: so if no wrong answer of the disk was taken as true
@@ -31,11 +32,6 @@ TellsTypes clean answer texts = ⊥
 abbrev pub TellsEvents : Type 0 → AnswerLine → List EventKind → Type 0
 TellsEvents clean (Events told) events = clean → told.items ≡ events
 TellsEvents clean answer events = ⊥
-
--- the number that a word says: its own, or that of the object of these that has its name, if clean; a name that none has says a number that none has
-abbrev pub Means : Type 0 → List ObjectLine → ObjectWord → ℕ → Type 0
-Means clean objects (Number x) n = n ≡ x
-Means clean objects (Name w) n = clean → n ≡ unwrap_or (find_named objects w) (length objects)
 
 -- the number of the object of a name
 abbrev pub found_answer : Option ℕ → AnswerLine
@@ -56,20 +52,23 @@ LetsGo old new = new ≡ record old { forgotten = new.forgotten }
 
 -- ---- each request
 
--- a request to a store in this life over a file that says this, whose epochs are full with this many events; only what is read from the file
+-- a request of this line to a store in this life over a file that says this, whose epochs are full with this many events; only what is read from the file
 -- needs a clean disk. To this store no objects are added: that is asked of the epoch after it
-abbrev pub DoesRequest : Type 0 → ℕ → ℕ → Contents → Stored → Request → AnswerLine → Stored → Type 0
-DoesRequest clean most life c old request.Begin answer new = DoesBegin most life old answer new
-DoesRequest clean most life c old (request.Call t x name) answer new = (n : ℕ) × Means clean c.objects x n × DoesCall life old t n name answer new
-DoesRequest clean most life c old (request.Would t x name) answer new = (n : ℕ) × Means clean c.objects x n × DoesWould life old t n name answer new
-DoesRequest clean most life c old (request.Commit t) answer new = DoesCommit life old t answer new
-DoesRequest clean most life c old (request.Abort t) answer new = DoesAbort life old t answer new
-DoesRequest clean most life c old (request.Rollback t count) answer new = DoesRollback life old t count answer new
-DoesRequest clean most life c old (request.Kept x) answer new = (n : ℕ) × Means clean c.objects x n × DoesKept old n answer new
-DoesRequest clean most life c old (request.Find name) answer new = (new ≡ old) × (found : Option ℕ) × (answer ≡ found_answer found) × (clean → found ≡ find_named c.objects name)
-DoesRequest clean most life c old request.Objects answer new = TellsObjects clean answer c.objects × LetsGo old new
-DoesRequest clean most life c old request.Types answer new = TellsTypes clean answer c.types × LetsGo old new
-DoesRequest clean most life c old (request.Events from count) answer new = TellsEvents clean answer (events_from old from count) × LetsGo old new
-DoesRequest clean most life c old request.Stats answer new = DoesStats old answer new
-DoesRequest clean most life c old request.Extend answer new = (answer ≡ Draining) × (new ≡ old)
-DoesRequest clean most life c old request.End answer new = (answer ≡ Done) × (new ≡ old)
+abbrev pub DoesRequest : Type 0 → ℕ → ℕ → Contents → List ℕ → Stored → Request → AnswerLine → Stored → Type 0
+DoesRequest clean most life c line old request.Begin answer new = DoesBegin most life old answer new
+DoesRequest clean most life c line old (request.Call t x name) answer new = (n : ℕ) × Means clean c.objects x n × DoesCall life old t n name answer new
+DoesRequest clean most life c line old (request.Would t x name) answer new = (n : ℕ) × Means clean c.objects x n × DoesWould life old t n name answer new
+DoesRequest clean most life c line old (request.Commit t) answer new = DoesCommit life old t answer new
+DoesRequest clean most life c line old (request.Abort t) answer new = DoesAbort life old t answer new
+DoesRequest clean most life c line old (request.Rollback t count) answer new = DoesRollback life old t count answer new
+DoesRequest clean most life c line old (request.Kept x) answer new = (n : ℕ) × Means clean c.objects x n × DoesKept old n answer new
+DoesRequest clean most life c line old request.Peek answer new = DoesPeek clean life c.objects old (calls_asked line) answer new
+DoesRequest clean most life c line old request.Committed answer new = DoesCommitted clean life c.objects old (objects_asked line) answer new
+DoesRequest clean most life c line old request.Do answer new = DoesDo clean most life c.objects old (calls_asked line) answer new
+DoesRequest clean most life c line old (request.Find name) answer new = (new ≡ old) × (found : Option ℕ) × (answer ≡ found_answer found) × (clean → found ≡ find_named c.objects name)
+DoesRequest clean most life c line old request.Objects answer new = TellsObjects clean answer c.objects × LetsGo old new
+DoesRequest clean most life c line old request.Types answer new = TellsTypes clean answer c.types × LetsGo old new
+DoesRequest clean most life c line old (request.Events from count) answer new = TellsEvents clean answer (events_from old from count) × LetsGo old new
+DoesRequest clean most life c line old request.Stats answer new = DoesStats old answer new
+DoesRequest clean most life c line old request.Extend answer new = (answer ≡ Draining) × (new ≡ old)
+DoesRequest clean most life c line old request.End answer new = (answer ≡ Done) × (new ≡ old)

@@ -16,7 +16,7 @@ use Rattle.serving.specs.NextEpoch.{IsNextStore, MayWait, SaysNext, answers_in, 
 -- a line is answered under its tag: its request is done, or its fault is answered and nothing changes; what is read of the file is so if clean
 pub record IsAnswered (clean : Type 0) (most life : ℕ) (c : Contents) (line : List ℕ) (old : Stored) (a : Answered) (new : Stored) : Type 0 where
   pub tag : a.tag ≡ (asked_by line).tag
-  pub request : MatchResult (asked_by line).request (λ r. DoesRequest clean most life c old r a.answer new) (λ fault. (a.answer ≡ Fault fault) × (new ≡ old))
+  pub request : MatchResult (asked_by line).request (λ r. DoesRequest clean most life c line old r a.answer new) (λ fault. (a.answer ≡ Fault fault) × (new ≡ old))
 
 -- a line that asks for more objects, while no extension waits, is answered under its tag
 pub record IsAskedMore (line : List ℕ) (a : Answered) (waits : Option Extension) : Type 0 where

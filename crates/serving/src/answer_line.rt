@@ -2,6 +2,7 @@ use journal::TypeText;
 use object_trait::EventKind;
 use request_text::{RequestFault, TransactionName};
 use serial_order::Refusal;
+use store::PeekRefusal;
 use store_text::ObjectLine;
 use type_table::Name;
 
@@ -37,6 +38,23 @@ pub enum AnswerLine {
     Extended { first: u32 },
     /// The number of the object of a name.
     Found { x: u32 },
+    /// What calls are answered to a transaction that only reads, all at this moment: it is answered only once the commits
+    /// before it are durable.
+    Seen { moment: Moment, replies: Vec<Name> },
+    /// Committed states, all of this moment, which is answered only then too.
+    SeenStates { moment: Moment, states: Vec<u32> },
+    /// No operation of the call at this place is legal there, which is answered only once what was seen is durable.
+    NothingSeen { at: usize },
+    /// Such a transaction isn't answered.
+    Unseen { refusal: PeekRefusal },
+    /// The replies of the calls of a whole transaction, which is answered only once it is durable.
+    Completed { replies: Vec<Name> },
+    /// The call at this place ended a whole transaction: each of its legal operations conflicts, as `Busy` says.
+    BusyAt { at: usize, blocker: TransactionName },
+    /// No operation of the call at this place is legal, which ended one.
+    NothingAt { at: usize },
+    /// The store refused the call at this place, which ended one.
+    RefusedAt { at: usize, refusal: Refusal },
     /// What was asked for isn't added.
     NotAdded { why: Vec<u8> },
     /// What was asked for waits for another epoch. The client is told nothing of it before that.
@@ -45,6 +63,16 @@ pub enum AnswerLine {
     Refused { refusal: Refusal },
     /// The line is no request.
     Fault { fault: RequestFault },
+}
+
+/// A moment of a store, between two commits. Of two of them that with the greater life is later, and in one life that with
+/// more commits.
+#[derive(Clone, Copy)]
+pub struct Moment {
+    /// The number of the store's life, as in the name of a transaction.
+    pub life: u32,
+    /// How many transactions have committed in this epoch.
+    pub commits: u32,
 }
 
 /// An answer and the tag of its request, where that had one.

@@ -1,11 +1,11 @@
 //! The lines of an answer, each after the tag.
 
-ghost use Rattle.std.specs.Prelude.{◌≡◌, None, ◌+◌, ◌<◌, ◌==◌, ◌++◌, IfSome, drop, length, position};
+ghost use Rattle.std.specs.Prelude.{◌≡◌, None, ◌+◌, ◌<◌, ◌==◌, [], ◌∷◌, ◌++◌, codes, IfSome, drop, length, position};
 ghost use Rattle.outputs.specs.Out.{Puts};
-ghost use Rattle.serving.specs.AnswerText.{answer_text, counts_text, done_text, draining_text, fault_name, number_text, tag_text, transaction_text, behind, event_text, answer_lines, object_answer};
+ghost use Rattle.serving.specs.AnswerText.{answer_text, counts_text, done_text, draining_text, after_space, busy_text, number_after_space, peek_refusal_name, place_text, refused_text, seen_text, fault_name, number_text, tag_text, transaction_text, behind, event_text, answer_lines, object_answer};
 ghost use Rattle.std.specs.List.{flat_map};
 
-use crate::answer_line::AnswerLine;
+use crate::answer_line::{AnswerLine, Moment};
 use history_text::{write_event, write_object};
 use itoa::Buffer;
 use journal::TypeText;
@@ -13,6 +13,7 @@ use object_trait::{Event, EventKind};
 use outputs::{Out, OutFault, items_in_turn, put_all, texts_in_turn};
 use request_text::{RequestFault, TransactionName};
 use script_run::name_of;
+use store::PeekRefusal;
 use store_text::ObjectLine;
 use type_table::Name;
 
@@ -48,6 +49,27 @@ pub fn write_answer<W: Out>(
         AnswerLine::Objects { objects } => put_objects(out, tag, objects),
         AnswerLine::Types { texts } => put_types(out, tag, texts),
         AnswerLine::Events { events } => put_events(out, tag, events),
+        AnswerLine::Seen { moment, replies } => put_seen(out, tag, *moment, replies),
+        AnswerLine::SeenStates { moment, states } => put_states(out, tag, *moment, states),
+        AnswerLine::Completed { replies } => put_completed(out, tag, replies),
+        AnswerLine::NothingSeen { at } | AnswerLine::NothingAt { at } => {
+            put_place(out, tag, b" none ", *at)
+        }
+        AnswerLine::Unseen { refusal } => {
+            put_all(
+                out,
+                &[
+                    tag,
+                    b" refused ",
+                    peek_refusal_name(*refusal).as_bytes(),
+                    b"\n",
+                ],
+            )
+        }
+        AnswerLine::BusyAt { at, blocker } => put_busy(out, tag, *at, *blocker),
+        AnswerLine::RefusedAt { at, refusal } => {
+            put_refused(out, tag, *at, name_of(*refusal).as_bytes())
+        }
         AnswerLine::NotAdded { why } => put_all(out, &[tag, b" no ", why.as_slice(), b"\n"]),
         AnswerLine::Waiting => put_all(out, &[]),
         AnswerLine::Refused { refusal } => {
@@ -152,6 +174,196 @@ fn put_counts<W: Out>(
             b"\n",
         ],
     )
+}
+
+/// Writes a tag, words and a place.
+fn put_place<W: Out>(out: &mut W, tag: &[u8], words: &[u8], at: usize) -> Result<(), OutFault>
+    requires { W.fault out.old ≡ None }
+    ensures { Puts (W.taken out.old) (W.taken out.new) (W.fault out.new) (place_text tag.now words.now at) result }
+{
+    let mut digits = Buffer::new();
+    put_all(out, &[tag, words, digits.format(at).as_bytes(), b"\n"])
+}
+
+/// Writes a tag, a place and a transaction that is in the way there.
+fn put_busy<W: Out>(
+    out: &mut W,
+    tag: &[u8],
+    at: usize,
+    blocker: TransactionName,
+) -> Result<(), OutFault>
+    requires { W.fault out.old ≡ None }
+    ensures { Puts (W.taken out.old) (W.taken out.new) (W.fault out.new) (busy_text tag.now at blocker) result }
+{
+    let (mut place, mut life, mut number) = (Buffer::new(), Buffer::new(), Buffer::new());
+    put_all(
+        out,
+        &[
+            tag,
+            b" busy ",
+            place.format(at).as_bytes(),
+            b" ",
+            life.format(blocker.life).as_bytes(),
+            b".",
+            number.format(blocker.number).as_bytes(),
+            b"\n",
+        ],
+    )
+}
+
+/// Writes a tag, a place and why the call there was refused.
+fn put_refused<W: Out>(out: &mut W, tag: &[u8], at: usize, why: &[u8]) -> Result<(), OutFault>
+    requires { W.fault out.old ≡ None }
+    ensures { Puts (W.taken out.old) (W.taken out.new) (W.fault out.new) (refused_text tag.now at why.now) result }
+{
+    let mut place = Buffer::new();
+    put_all(
+        out,
+        &[
+            tag,
+            b" refused ",
+            place.format(at).as_bytes(),
+            b" ",
+            why,
+            b"\n",
+        ],
+    )
+}
+
+/// The name of a reason why a call isn't answered to a transaction that only reads.
+fn peek_refusal_name(refusal: PeekRefusal) -> &'static str
+    ensures { result.now ≡ peek_refusal_name refusal }
+{
+    match refusal {
+        PeekRefusal::NoObject => "NoObject",
+        PeekRefusal::NoCall => "NoCall",
+        PeekRefusal::Changes => "Changes",
+    }
+}
+
+/// Writes what a transaction that only reads has seen at a moment.
+pub(crate) fn put_seen<W: Out>(
+    out: &mut W,
+    tag: &[u8],
+    moment: Moment,
+    replies: &[Name],
+) -> Result<(), OutFault>
+    requires { W.fault out.old ≡ None }
+    ensures { Puts (W.taken out.old) (W.taken out.new) (W.fault out.new) (seen_text tag.now moment ++ (flat_map after_space replies.now ++ (10 ∷ []))) result }
+{
+    texts_in_turn();
+    put_moment(out, tag, moment)?;
+    put_words(out, replies)
+}
+
+/// Writes the committed states of a moment.
+pub(crate) fn put_states<W: Out>(
+    out: &mut W,
+    tag: &[u8],
+    moment: Moment,
+    states: &[u32],
+) -> Result<(), OutFault>
+    requires { W.fault out.old ≡ None }
+    ensures { Puts (W.taken out.old) (W.taken out.new) (W.fault out.new) (seen_text tag.now moment ++ (flat_map number_after_space states.now ++ (10 ∷ []))) result }
+{
+    texts_in_turn();
+    put_moment(out, tag, moment)?;
+    put_numbers(out, states)
+}
+
+/// Writes the replies of a whole transaction.
+pub(crate) fn put_completed<W: Out>(
+    out: &mut W,
+    tag: &[u8],
+    replies: &[Name],
+) -> Result<(), OutFault>
+    requires { W.fault out.old ≡ None }
+    ensures { Puts (W.taken out.old) (W.taken out.new) (W.fault out.new) ((tag.now ++ codes " done") ++ (flat_map after_space replies.now ++ (10 ∷ []))) result }
+{
+    texts_in_turn();
+    put_all(out, &[tag, b" done"])?;
+    put_words(out, replies)
+}
+
+/// Writes a tag and the moment of what was seen.
+fn put_moment<W: Out>(out: &mut W, tag: &[u8], moment: Moment) -> Result<(), OutFault>
+    requires { W.fault out.old ≡ None }
+    ensures { Puts (W.taken out.old) (W.taken out.new) (W.fault out.new) (seen_text tag.now moment) result }
+{
+    let (mut life, mut commits) = (Buffer::new(), Buffer::new());
+    put_all(
+        out,
+        &[
+            tag,
+            b" seen ",
+            life.format(moment.life).as_bytes(),
+            b".",
+            commits.format(moment.commits).as_bytes(),
+        ],
+    )
+}
+
+/// Writes words, each after a space, and ends the line.
+fn put_words<W: Out>(out: &mut W, words: &[Name]) -> Result<(), OutFault>
+    requires { W.fault out.old ≡ None }
+    ensures { Puts (W.taken out.old) (W.taken out.new) (W.fault out.new) (flat_map after_space words.now ++ (10 ∷ [])) result }
+{
+    texts_in_turn();
+    put_each_word(out, words)?;
+    put_all(out, &[b"\n"])
+}
+
+/// Writes words, each after a space.
+fn put_each_word<W: Out>(out: &mut W, words: &[Name]) -> Result<(), OutFault>
+    requires { W.fault out.old ≡ None }
+    ensures { Puts (W.taken out.old) (W.taken out.new) (W.fault out.new) (flat_map after_space words.now) result }
+{
+    texts_in_turn();
+    items_in_turn::<Name>();
+    for word in words {
+        put_word(out, word)?;
+    }
+    Ok(())
+}
+
+/// Writes a word after a space.
+fn put_word<W: Out>(out: &mut W, word: &Name) -> Result<(), OutFault>
+    requires { W.fault out.old ≡ None }
+    ensures { Puts (W.taken out.old) (W.taken out.new) (W.fault out.new) (after_space word.now) result }
+{
+    put_all(out, &[b" ", word.as_bytes()])
+}
+
+/// Writes numbers, each after a space, and ends the line.
+fn put_numbers<W: Out>(out: &mut W, numbers: &[u32]) -> Result<(), OutFault>
+    requires { W.fault out.old ≡ None }
+    ensures { Puts (W.taken out.old) (W.taken out.new) (W.fault out.new) (flat_map number_after_space numbers.now ++ (10 ∷ [])) result }
+{
+    texts_in_turn();
+    put_each_number(out, numbers)?;
+    put_all(out, &[b"\n"])
+}
+
+/// Writes numbers, each after a space.
+fn put_each_number<W: Out>(out: &mut W, numbers: &[u32]) -> Result<(), OutFault>
+    requires { W.fault out.old ≡ None }
+    ensures { Puts (W.taken out.old) (W.taken out.new) (W.fault out.new) (flat_map number_after_space numbers.now) result }
+{
+    texts_in_turn();
+    items_in_turn::<u32>();
+    for number in numbers {
+        put_one_number(out, number)?;
+    }
+    Ok(())
+}
+
+/// Writes a number after a space.
+fn put_one_number<W: Out>(out: &mut W, number: &u32) -> Result<(), OutFault>
+    requires { W.fault out.old ≡ None }
+    ensures { Puts (W.taken out.old) (W.taken out.new) (W.fault out.new) (number_after_space number.now) result }
+{
+    let mut digits = Buffer::new();
+    put_all(out, &[b" ", digits.format(*number).as_bytes()])
 }
 
 /// The name of a fault.

@@ -10,13 +10,15 @@ mod epoch;
 mod epoch_limits;
 mod extension;
 mod laws;
+mod reads;
 mod serve_fault;
 mod server;
 mod service;
 mod session;
+mod whole;
 
 pub use additions::{Added, AdditionFault, Additions, NoAdditions};
-pub use answer_line::{AnswerLine, Answered};
+pub use answer_line::{AnswerLine, Answered, Moment};
 pub use answer_text::write_answer;
 pub use archive::{Archive, ArchiveFault, NoArchive};
 pub use client::Client;

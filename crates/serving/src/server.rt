@@ -578,7 +578,15 @@ fn has_lasting(answers: &[Answered]) -> bool
 fn is_lasting(answer: &AnswerLine) -> bool
     ensures { result ≡ is_lasting answer.now }
 {
-    matches!(answer, AnswerLine::Committed | AnswerLine::Extended { .. })
+    matches!(
+        answer,
+        AnswerLine::Committed
+            | AnswerLine::Extended { .. }
+            | AnswerLine::Seen { .. }
+            | AnswerLine::SeenStates { .. }
+            | AnswerLine::NothingSeen { .. }
+            | AnswerLine::Completed { .. }
+    )
 }
 
 /// Whether this long has passed since then, by a clock; one that fails doesn't hold up what waits.

@@ -5,7 +5,8 @@ ghost use Rattle.journal.specs.Journal.{Clean, written, ShowsCommit, durable};
 ghost use Rattle.durable_store.specs.Durable.{IsDurable};
 ghost use Rattle.serving.specs.Follows.{LeavesWritten};
 ghost use Rattle.durable_store.specs.Names.{find_named};
-ghost use Rattle.serving.specs.Requests.{LetsGo, Means, found_answer, TellsEvents, TellsObjects, TellsTypes, events_from, DoesRequest};
+ghost use Rattle.serving.specs.Means.{Means};
+ghost use Rattle.serving.specs.Requests.{LetsGo, found_answer, TellsEvents, TellsObjects, TellsTypes, events_from, DoesRequest};
 ghost use Rattle.request_text.specs.Requests.{asked_by};
 ghost use Rattle.serving.specs.Lines.{is_taken};
 ghost use Rattle.serving.specs.NextEpoch.{MayWait, late_answer, limit_while};
@@ -25,7 +26,10 @@ use journal::JournalError;
 use object_calls::Answer;
 use object_name::ObjectName;
 use objects::Object;
-use request_text::{Asked, ObjectWord, Request, RequestFault, TransactionName, file_words};
+use request_text::{
+    Asked, ObjectWord, Request, RequestFault, TransactionName, calls_asked, file_words,
+    objects_asked,
+};
 use serial_order::Refusal;
 use sqlite_trees::store::Alter;
 use std::alloc::Global;
@@ -80,7 +84,7 @@ impl<S: Alter> Session<S> {
                 answer,
             });
         }
-        let answer = self.answer(alloc, asked.request)?;
+        let answer = self.answer(alloc, line, asked.request)?;
         Ok(Answered {
             tag: asked.tag,
             answer,
@@ -123,10 +127,11 @@ impl<S: Alter> Session<S> {
     pub(crate) fn answer(
         &mut self,
         alloc: Global,
+        line: &[u8],
         asked: Result<Request, RequestFault>,
     ) -> Result<AnswerLine, JournalError>
         requires { IsDurable S.Store self.old.store }
-        ensures does { IfOk result (λ a. MatchResult asked (λ request. DoesRequest (Clean S.Store self.new.store.journal) (limit_while self.old.waiting self.old.most_events) self.old.life (written S.Store self.old.store.journal) self.old.store.store request a self.new.store.store)
+        ensures does { IfOk result (λ a. MatchResult asked (λ request. DoesRequest (Clean S.Store self.new.store.journal) (limit_while self.old.waiting self.old.most_events) self.old.life (written S.Store self.old.store.journal) line.now self.old.store.store request a self.new.store.store)
             (λ fault. (a ≡ AnswerLine.Fault fault) × (self.new.store.store ≡ self.old.store.store))) }
         ensures stays_in_epoch { OnOk result (StaysInEpoch S.Store self.old self.new) }
         ensures waits { self.new.waiting ≡ self.old.waiting }
@@ -134,20 +139,25 @@ impl<S: Alter> Session<S> {
         ensures crash { LeavesWritten S.Store self.old.store self.new.store }
     {
         match asked {
-            Ok(request) => self.ask(alloc, request),
+            Ok(request) => self.ask(alloc, line, request),
             Err(fault) => Ok(AnswerLine::Fault { fault }),
         }
     }
 
-    /// Does a request. That a commit is done is to be answered only once it is settled; that the end was asked for
-    /// changes nothing here, nor that more objects were.
+    /// Does a request of this line. That a commit is done, and what was seen of committed states, is to be answered only
+    /// once it is settled; that the end was asked for changes nothing here, nor that more objects were.
     ///
     /// # Errors
     ///
     /// The file failed, or memory was refused for it: the session isn't to be asked any more.
-    pub fn ask(&mut self, alloc: Global, request: Request) -> Result<AnswerLine, JournalError>
+    pub fn ask(
+        &mut self,
+        alloc: Global,
+        line: &[u8],
+        request: Request,
+    ) -> Result<AnswerLine, JournalError>
         requires { IsDurable S.Store self.old.store }
-        ensures does { IfOk result (λ a. DoesRequest (Clean S.Store self.new.store.journal) (limit_while self.old.waiting self.old.most_events) self.old.life (written S.Store self.old.store.journal) self.old.store.store request a self.new.store.store) }
+        ensures does { IfOk result (λ a. DoesRequest (Clean S.Store self.new.store.journal) (limit_while self.old.waiting self.old.most_events) self.old.life (written S.Store self.old.store.journal) line.now self.old.store.store request a self.new.store.store) }
         ensures stays_in_epoch { OnOk result (StaysInEpoch S.Store self.old self.new) }
         ensures waits { self.new.waiting ≡ self.old.waiting }
         ensures clean { Clean S.Store self.new.store.journal → Clean S.Store self.old.store.journal }
@@ -167,6 +177,18 @@ impl<S: Alter> Session<S> {
             Request::Events { from, count } => self.events(alloc, from, count),
             Request::Would { t, x, call } => Ok(self.would(t, self.number_of(x), call)),
             Request::Kept { x } => Ok(self.kept(self.number_of(x))),
+            Request::Peek => {
+                let calls = calls_asked(alloc, line)?;
+                self.peek(alloc, &calls)
+            }
+            Request::Committed => {
+                let objects = objects_asked(alloc, line)?;
+                self.committed(alloc, &objects)
+            }
+            Request::Do => {
+                let calls = calls_asked(alloc, line)?;
+                self.attempt(alloc, &calls)
+            }
             Request::Find { name } => Ok(self.find(name)),
             Request::Stats => Ok(self.counts()),
             Request::Extend => Ok(AnswerLine::Draining),
@@ -297,7 +319,7 @@ impl<S: Alter> Session<S> {
     }
 
     /// The number that a word says. A name that no object has says a number that none has.
-    fn number_of(&self, x: ObjectWord) -> u32
+    pub(crate) fn number_of(&self, x: ObjectWord) -> u32
         requires { IsDurable S.Store self.now.store }
         ensures { Means (Clean S.Store self.now.store.journal) (written S.Store self.now.store.journal).objects x result }
     {
@@ -526,7 +548,7 @@ fn reply_at(store: &Store<Object>, x: u32, k: Operation) -> AnswerLine
 }
 
 /// Operation k of the object at x, where its type has it.
-fn op_at(store: &Store<Object>, x: u32, k: Operation) -> Option<Op>
+pub(crate) fn op_at(store: &Store<Object>, x: u32, k: Operation) -> Option<Op>
     ensures { result ≡ op_of_object store.now x k }
 {
     let checked = store.checked(x)?;

@@ -1,4 +1,4 @@
-use Rattle.std.proofs.Common.{[], ◌∷◌, refl}
+use Rattle.std.proofs.Common.{[], ◌∷◌}
 use Rattle.journal.specs.Journal.{written}
 use Rattle.serving.proofs.ClosedEpochs.{left-kept}
 use Rattle.serving.proofs.KeptEpochs.{keeps-untold, least-none}

@@ -1,6 +1,5 @@
 use Rattle.std.proofs.Common.{◌∙◌}
 use Rattle.std.proofs.lemmas.Result.{on_ok_weaker}
-use Rattle.std.specs.Prelude.{is_some}
 use Rattle.serving.proofs.ClosedEpochs.{closed-end, end-left}
 use Rattle.serving.proofs.LaterEpochs.{ends-epoch, left-renewed, shown-durable, writes-epoch}
 use Rattle.serving.proofs.NextEpochs.{late-as}

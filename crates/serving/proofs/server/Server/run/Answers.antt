@@ -1,4 +1,4 @@
-use Rattle.std.proofs.Common.{None, refl, rules}
+use Rattle.std.proofs.Common.{refl, rules}
 use Rattle.outputs.specs.Gathered.{taken_by}
 use Rattle.serving.proofs.Acknowledgements.{stops-here, tells-none}
 use Rattle.serving.proofs.LaterEpochs.{left-nowhere, left-then, writes-nowhere, writes-on}

@@ -1,5 +1,4 @@
 use Rattle.std.proofs.Common.{◌≤◌, ◌+◌, length, arith}
-use Rattle.outputs.specs.Gathered.{taken_by}
 use Rattle.serving.specs.Group.{known_from}
 use Rattle.type_table.proofs.Results.{on_err}
 use Rattle.serving.proofs.Parts.{part-consumed}

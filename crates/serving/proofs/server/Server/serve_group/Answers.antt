@@ -1,4 +1,3 @@
-use Rattle.outputs.specs.Gathered.{taken_by}
 use Rattle.type_table.proofs.Results.{on_err}
 use Rattle.serving.proofs.Acknowledgements.{stops-here}
 use Rattle.serving.proofs.server.Server.serve_group.Goals as goal

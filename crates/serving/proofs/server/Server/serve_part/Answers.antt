@@ -1,4 +1,4 @@
-use Rattle.std.proofs.Common.{◌≡◌, ◌∙◌, List, None, ap, refl, subst}
+use Rattle.std.proofs.Common.{◌≡◌, ◌∙◌, List, ap, subst}
 use Rattle.std.specs.Io.KnownBytes.{Appends}
 use Rattle.outputs.specs.Gathered.{taken_by}
 use Rattle.serving.specs.declared.answer_line.Answered.{Answered}

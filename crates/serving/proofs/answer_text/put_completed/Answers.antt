@@ -1,0 +1,5 @@
+use Rattle.outputs.proofs.Turns.{Puts-append}
+use Rattle.serving.proofs.answer_text.put_completed.Goals as goal
+
+pub returns : goal.returns
+returns g c = Puts-append c.texts_in_turn.ensures.joined c.in_ok-put_all.ensures c.put_words.ensures

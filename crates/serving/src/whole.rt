@@ -1,0 +1,134 @@
+//! A whole transaction, asked for by one line.
+
+ghost use Rattle.std.specs.Prelude.{◌≡◌, IfOk, OnOk};
+ghost use Rattle.journal.specs.Journal.{Clean, written};
+ghost use Rattle.durable_store.specs.Durable.{IsDurable};
+ghost use Rattle.attempts.specs.Commands.{asked_calls};
+ghost use Rattle.serving.specs.Follows.{LeavesWritten};
+ghost use Rattle.serving.specs.NextEpoch.{limit_while};
+ghost use Rattle.serving.specs.Server.{StaysInEpoch};
+ghost use Rattle.serving.specs.Several.{DoesDo, InTurn, IsCallAt, TellsAttempt, TellsReplies, ended_answer, replies_of};
+
+use crate::answer_line::AnswerLine;
+use crate::reads::found_reply;
+use crate::session::{Session, is_full};
+use attempts::{Attempt, AttemptCall, Ending};
+use journal::JournalError;
+use objects::Object;
+use request_text::{AskedCall, TransactionName};
+use sqlite_trees::store::Alter;
+use std::alloc::{AllocError, Global};
+use store::Store;
+use type_table::Operation;
+
+impl<S: Alter> Session<S> {
+    /// Does a whole transaction of these calls, but for an epoch that is full. That it is done is to be answered only once it
+    /// is settled.
+    ///
+    /// # Errors
+    ///
+    /// As `ask`.
+    pub(crate) fn attempt(
+        &mut self,
+        alloc: Global,
+        calls: &[AskedCall],
+    ) -> Result<AnswerLine, JournalError>
+        requires { IsDurable S.Store self.old.store }
+        ensures does { IfOk result (λ a. DoesDo (Clean S.Store self.new.store.journal) (limit_while self.old.waiting self.old.most_events) self.old.life (written S.Store self.old.store.journal).objects self.old.store.store calls.now a self.new.store.store) }
+        ensures stays_in_epoch { OnOk result (StaysInEpoch S.Store self.old self.new) }
+        ensures waits { self.new.waiting ≡ self.old.waiting }
+        ensures clean { Clean S.Store self.new.store.journal → Clean S.Store self.old.store.journal }
+        ensures crash { LeavesWritten S.Store self.old.store self.new.store }
+    {
+        let limit = self.limit();
+        if is_full(self.store.store(), limit) {
+            return Ok(AnswerLine::Draining);
+        }
+        let made = self.calls_at(alloc, calls)?;
+        let came = self.store.attempt(alloc, &made)?;
+        let answer = attempt_answer(alloc, self.store.store(), self.life, &made, &came)?;
+        Ok(answer)
+    }
+
+    /// These calls at the objects that their words say.
+    ///
+    /// # Errors
+    ///
+    /// Memory was refused.
+    fn calls_at<'a>(
+        &self,
+        alloc: Global,
+        calls: &'a [AskedCall],
+    ) -> Result<Vec<AttemptCall<'a>>, AllocError>
+        requires { IsDurable S.Store self.now.store }
+        ensures { IfOk result (λ made. InTurn (IsCallAt (Clean S.Store self.now.store.journal) (written S.Store self.now.store.journal).objects) calls.now (asked_calls made.items)) }
+    {
+        let mut made = Vec::with_capacity(alloc, calls.len())?;
+        for at in 0..calls.len() {
+            made.push_reserved(AttemptCall {
+                at: self.number_of(calls[at].x),
+                name: calls[at].call.as_bytes(),
+            });
+        }
+        Ok(made)
+    }
+}
+
+/// What is told of what came of a whole transaction with these calls.
+///
+/// # Errors
+///
+/// Memory was refused.
+fn attempt_answer(
+    alloc: Global,
+    store: &Store<Object>,
+    life: u32,
+    calls: &[AttemptCall],
+    came: &Attempt,
+) -> Result<AnswerLine, AllocError>
+    ensures { IfOk result (λ a. TellsAttempt store.now life (asked_calls calls.now) came.now a) }
+{
+    match came {
+        Attempt::Done(operations) => replies_answer(alloc, store, calls, operations),
+        Attempt::Ended { at, how } => Ok(ended_answer(life, *at, *how)),
+        Attempt::NotBegun(refusal) => Ok(AnswerLine::Refused { refusal: *refusal }),
+    }
+}
+
+/// The replies of these operations, one for each call.
+///
+/// # Errors
+///
+/// Memory was refused.
+fn replies_answer(
+    alloc: Global,
+    store: &Store<Object>,
+    calls: &[AttemptCall],
+    operations: &[Operation],
+) -> Result<AnswerLine, AllocError>
+    ensures { IfOk result (λ a. TellsReplies (replies_of store.now (asked_calls calls.now) operations.now) a) }
+{
+    let count = calls.len().min(operations.len());
+    let mut replies = Vec::with_capacity(alloc, count)?;
+    for at in 0..count {
+        match found_reply(store, calls[at].at, Some(operations[at])) {
+            Some(reply) => replies.push_reserved(reply),
+            None => return Ok(AnswerLine::Nothing),
+        }
+    }
+    Ok(AnswerLine::Completed { replies })
+}
+
+/// What is answered where the call at this place ended it.
+fn ended_answer(life: u32, at: usize, how: Ending) -> AnswerLine
+    ensures { result ≡ ended_answer life at how }
+{
+    match how {
+        Ending::Busy(number) => AnswerLine::BusyAt {
+            at,
+            blocker: TransactionName { life, number },
+        },
+        Ending::None => AnswerLine::NothingAt { at },
+        Ending::Refused(refusal) => AnswerLine::RefusedAt { at, refusal },
+    }
+}
