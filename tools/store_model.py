@@ -7,12 +7,14 @@ goes through all fronts of what each transaction did, and through all numbers th
 """
 import re
 
-LONGEST, MOST_OPEN, MOST_TOLD = 4_096, 1024, 65_536
+LONGEST, MOST_OPEN, MOST_TOLD, MOST_ASKED = 4_096, 1024, 65_536, 64
 # How many objects a text may have that doesn't say it.
 FEW = 256
-# What comes after each verb: a transaction, an object, a number, a name, or the name of an object.
+# What comes after each verb: a transaction, an object, a number, a name, or the name of an object; before a star what
+# comes once or more.
 WORDS = {"begin": "", "call": "ton", "would": "ton", "commit": "t", "abort": "t", "rollback": "tx", "kept": "o",
-         "objects": "", "types": "", "events": "xx", "stats": "", "end": "", "extend": "w*", "find": "m"}
+         "objects": "", "types": "", "events": "xx", "stats": "", "end": "", "extend": "w*", "find": "m",
+         "do": "on*", "peek": "on*", "committed": "o*"}
 
 
 # ---- what a line asks
@@ -49,15 +51,21 @@ def transaction(word):
     return number(life), number(behind)
 
 
+def form_of(verb, count):
+    """What so many words after a verb are, or as many as may be there."""
+    form = WORDS[verb]
+    return form if not form.endswith("*") else form[:-1] * max(1, min(count // len(form[:-1]), MOST_ASKED))
+
+
 def asked(words):
     """The verb and what comes after it."""
     if not words or words[0] not in WORDS:
         raise Fault("UnknownVerb")
-    form = WORDS[words[0]]
-    if form == "w*":
+    if words[0] == "extend":
         if len(words) < 3:
             raise Fault("BadWords")
         return words
+    form = form_of(words[0], len(words) - 1)
     tests = {"n": is_name, "m": is_object_name}
     if len(words) != len(form) + 1 or any(f in tests and not tests[f](word) for f, word in zip(form, words[1:])):
         raise Fault("BadWords")
@@ -123,6 +131,10 @@ class Type:
         """How far an operation of a numeric type moves each of them."""
         return min(self.moves(k).values(), default=0)
 
+    def is_still(self, k):
+        """Whether an operation changes nothing."""
+        return not any(self.moves(k).values())
+
     def fault(self):
         """The first operation, and its first state, by which the type isn't numeric; or none."""
         for k in range(len(self.ops)):
@@ -168,6 +180,9 @@ class NumberType(Type):
     def move(self, k):
         word, amount, is_done = self.parts(k)
         return self.SIGNS[word] * amount if is_done else 0
+
+    def is_still(self, k):
+        return self.move(k) == 0
 
     def is_any(self, word, amount):
         """Whether it is an amount of a call of any amount, which no line lists."""
@@ -318,6 +333,12 @@ class Model:
     def serial(self, s, x):
         return self.type_of(x).run(self.starts[x], s.serial(x))
 
+    def committed(self, s, x):
+        """The state of an object where all that is open is left out."""
+        if self.objects[x][0] != "undo":
+            return self.serial(s, x)
+        return self.type_of(x).run(self.starts[x], [k for t, y, k in s.stands if y == x and not s.is_open(t)])
+
     def number(self, s, x, t, k):
         """An object in escrow, where a transaction did this operation too."""
         own = {t: []}
@@ -366,6 +387,50 @@ class Model:
             return "NoObject"
         return "NoCall" if verb in ("call", "would") and not self.type_of(rest[0]).operations(rest[1]) else None
 
+    def peeked(self, s, calls):
+        """What these calls are answered to a transaction that only reads."""
+        replies = []
+        for place, (x, call) in enumerate(calls):
+            if x >= len(self.objects):
+                return "refused NoObject"
+            of, state = self.type_of(x), self.committed(s, x)
+            of_call = of.operations(call, state)
+            if not of_call or not all(map(of.is_still, of_call)):
+                return "refused Changes" if of_call else "refused NoCall"
+            legal = [k for k in of_call if of.step(state, k) is not None]
+            if not legal:
+                return f"none {place}"
+            replies.append(of.reply(legal[0]))
+        return self.seen(s, replies)
+
+    def seen(self, s, words):
+        """These words were seen now."""
+        return " ".join([f"seen {self.life}.{len(s.committed)}", *map(str, words)])
+
+    def called(self, t, x, call):
+        """A call is made; the words of what it is answered."""
+        s = Seen(self.events)
+        if refused := self.refusal(s, "call", (self.life, t), x, call):
+            return ["refused", refused]
+        self.events.append(self.event_of_call(s, t, x, call))
+        return self.told(self.events[-1]).split(" ")
+
+    def attempted(self, s, calls):
+        """A whole transaction makes these calls; what it is answered."""
+        if refused := self.refusal(s, "begin"):
+            return f"refused {refused}"
+        t, replies = s.begun, []
+        self.events.append(("begin", t))
+        for place, (x, call) in enumerate(calls):
+            word, *rest = self.called(t, x, call)
+            if word != "reply":
+                self.events.append(("abort", t))
+                return " ".join([word, str(place), *rest])
+            replies += rest
+        self.events.append(("commit", t))
+        self.durable = len(self.events)
+        return " ".join(["done", *replies])
+
     def told(self, event):
         """What a call is answered that makes this event."""
         if event[0] == "op":
@@ -390,6 +455,11 @@ class Model:
             return [f"ok events {len(self.events)} begun {s.begun} open {len(s.open_ones())}"]
         if verb == "find":
             return [f"ok {rest[0]}"]
+        if verb == "committed":
+            is_there = all(x < len(self.objects) for x in rest)
+            return [self.seen(s, [self.committed(s, x) for x in rest]) if is_there else "refused NoObject"]
+        if verb in ("peek", "do"):
+            return [{"peek": self.peeked, "do": self.attempted}[verb](s, list(zip(rest[::2], rest[1::2])))]
         if verb == "kept":
             return [f"ok {self.kept(s, rest[0])}"]
         if verb == "begin":
@@ -411,8 +481,7 @@ class Model:
         if request == ["end"]:
             return [f"{tag} ok\n"]
         s = Seen(self.events)
-        # the words of these verbs are in the places of `WORDS`
-        forms = "-" + WORDS[request[0]]
+        forms = "-" + form_of(request[0], len(request) - 1)
         request = [self.number_of(word) if form in "om" else word for form, word in zip(forms, request)]
         refused = self.refusal(s, *request)
         lines = [f"refused {refused}"] if refused else self.done(s, *request)
