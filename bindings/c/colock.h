@@ -96,13 +96,14 @@ typedef enum colock_code {
     COLOCK_NO_OPERATION = 23,     /* the type has no operation of this number */
     COLOCK_NOT_LEGAL = 24,        /* the operation isn't legal in the state */
     COLOCK_NO_ROOM = 25,          /* the room is too small */
-    COLOCK_NEEDS_ESCROW = 26      /* the type is a number, which is for COLOCK_ESCROW alone */
+    COLOCK_NEEDS_ESCROW = 26,     /* the type is a number, which is for COLOCK_ESCROW alone */
+    COLOCK_CHANGES = 27           /* an operation of the call may change something, so it isn't a read */
 } colock_code;
 
 /* The words of a code, which no one frees or writes. */
 static inline const char *colock_strerror(uint32_t code) {
     /* another number is no colock_code, nor may C++ make it one */
-    if (code > COLOCK_NEEDS_ESCROW) return "the code is unknown";
+    if (code > COLOCK_CHANGES) return "the code is unknown";
     switch ((colock_code)code) {
     case COLOCK_OK: return "it was done";
     case COLOCK_NOT_OPEN: return "the transaction isn't open";
@@ -131,6 +132,7 @@ static inline const char *colock_strerror(uint32_t code) {
     case COLOCK_NOT_LEGAL: return "the operation isn't legal in the state";
     case COLOCK_NO_ROOM: return "the room is too small";
     case COLOCK_NEEDS_ESCROW: return "the type is a number, which needs escrow";
+    case COLOCK_CHANGES: return "an operation of the call may change something";
     }
     return "the code is unknown";
 }
@@ -206,6 +208,22 @@ typedef struct colock_shape {
     uint64_t ops;
     uint64_t kind;
 } colock_shape;
+
+/* How the transaction of colock_attempt ended. */
+typedef enum colock_outcome_kind {
+    COLOCK_OUTCOME_DONE = 0,   /* it committed */
+    COLOCK_OUTCOME_BUSY = 1,   /* a call was answered COLOCK_BUSY: `number` is the blocker */
+    COLOCK_OUTCOME_NONE = 2,   /* a call was answered COLOCK_NONE */
+    COLOCK_OUTCOME_REFUSED = 3 /* a call was refused: `number` is COLOCK_NO_OBJECT, COLOCK_NO_CALL or COLOCK_NO_MEMORY */
+} colock_outcome_kind;
+
+/* What came of colock_attempt: `kind` is a colock_outcome_kind, and where it isn't 0 `at` is the place of that call, from 0,
+ * at which it aborted. What a kind doesn't have is 0. */
+typedef struct colock_outcome {
+    uint64_t kind;
+    uint64_t at;
+    uint64_t number;
+} colock_outcome;
 
 typedef enum colock_event_kind {
     COLOCK_EVENT_BEGIN = 0,
@@ -339,6 +357,15 @@ uint32_t colock_would(colock_store *store, uint64_t transaction, uint32_t object
                       size_t name_count, colock_answer *answer);
 uint32_t colock_would_op(colock_store *store, uint64_t transaction, uint32_t object, uint64_t call,
                          colock_answer *answer);
+/* A whole transaction of a worker: it begins, calls at each of these objects, in their order, the call whose name is the
+ * word at its place in `names` (words with spaces between them), and commits. At the first call that isn't replied to it
+ * aborts in the place of what follows. COLOCK_OK whether it committed or aborted: `outcome` says which. Where it committed
+ * the operations of its calls are in the first places of the room. COLOCK_BAD_PARAMETER where there are more names or fewer
+ * than objects, COLOCK_NO_ROOM where the room has fewer places than there are objects. Room for all its events is made
+ * first: at COLOCK_TOO_MANY_OPEN, COLOCK_HISTORY_FULL and COLOCK_NO_MEMORY it wasn't begun. */
+uint32_t colock_attempt(colock_store *store, uint8_t worker, const uint32_t *objects, size_t objects_count,
+                        const char *names, size_t names_count, uint64_t *operations, size_t operations_count,
+                        colock_outcome *outcome);
 /* Ends a transaction, which needs no memory and no more room in the history. COLOCK_NOT_OPEN. */
 uint32_t colock_commit(colock_store *store, uint8_t worker, uint64_t transaction);
 uint32_t colock_abort(colock_store *store, uint8_t worker, uint64_t transaction);
@@ -352,6 +379,25 @@ uint32_t colock_kept(colock_store *store, uint32_t object, uint64_t *state);
 uint32_t colock_open_count(colock_store *store, uint64_t *count);
 /* Aborts each open transaction, in ascending order, as the worker that began it. */
 uint32_t colock_abort_all(colock_store *store);
+
+/* ---- Reads of what is committed
+ *
+ * The committed state of an object is what is left of it where all open transactions are left out, of each kind. Only a
+ * commit changes it. These read it: they are no events, hold nothing and wait for nobody, and nobody waits for them.
+ * `commits` gets how many transactions had committed then, as colock_commit_count gives it. */
+
+/* What the call of this name at an object is answered to a transaction that only reads committed states: COLOCK_REPLY and
+ * its first operation that is legal there, or COLOCK_NONE. COLOCK_CHANGES where an operation of the call may change
+ * something; COLOCK_NO_OBJECT, COLOCK_NO_CALL. */
+uint32_t colock_peek(colock_store *store, uint32_t object, const char *name, size_t name_count,
+                     colock_answer *answer, uint64_t *commits);
+/* The committed state of an object. COLOCK_NO_OBJECT. */
+uint32_t colock_committed(colock_store *store, uint32_t object, uint64_t *state, uint64_t *commits);
+/* The committed states of all objects, in their order: the first places of the room get them. COLOCK_NO_ROOM where it has
+ * fewer places than there are objects. */
+uint32_t colock_snapshot(colock_store *store, uint64_t *states, size_t states_count, uint64_t *commits);
+/* How many transactions have committed since the store was made or began anew. */
+uint32_t colock_commit_count(colock_store *store, uint64_t *commits);
 
 /* ---- Events
  *
@@ -456,6 +502,18 @@ COLOCK_BEFORE_(colock_would,
                (colock_store *store, uint64_t transaction, uint32_t object, const char *name, size_t name_count,
                 colock_answer *answer),
                (store, transaction, object, COLOCK_THERE_(const char, name), name_count, answer))
+COLOCK_BEFORE_(colock_attempt,
+               (colock_store *store, uint8_t worker, const uint32_t *objects, size_t objects_count, const char *names,
+                size_t names_count, uint64_t *operations, size_t operations_count, colock_outcome *outcome),
+               (store, worker, COLOCK_THERE_(const uint32_t, objects), objects_count, COLOCK_THERE_(const char, names),
+                names_count, COLOCK_THERE_(uint64_t, operations), operations_count, outcome))
+COLOCK_BEFORE_(colock_peek,
+               (colock_store *store, uint32_t object, const char *name, size_t name_count, colock_answer *answer,
+                uint64_t *commits),
+               (store, object, COLOCK_THERE_(const char, name), name_count, answer, commits))
+COLOCK_BEFORE_(colock_snapshot,
+               (colock_store *store, uint64_t *states, size_t states_count, uint64_t *commits),
+               (store, COLOCK_THERE_(uint64_t, states), states_count, commits))
 COLOCK_BEFORE_(colock_events,
                (colock_store *store, uint64_t from, colock_event *room, size_t room_count, uint64_t *count),
                (store, from, COLOCK_THERE_(colock_event, room), room_count, count))

@@ -15,7 +15,7 @@ typedef union handle {
 static handle handles[HANDLES];
 static sort holds[HANDLES];
 static uint64_t drawn;
-static long by_code[COLOCK_NEEDS_ESCROW + 1];
+static long by_code[COLOCK_CHANGES + 1];
 
 static uint64_t draw(uint64_t below) {
     drawn = drawn * 6364136223846793005u + 1442695040888963407u;
@@ -39,7 +39,7 @@ static uint32_t ended(int h) {
 }
 
 static void counted(uint32_t code) {
-    WANT(code <= COLOCK_NEEDS_ESCROW && code != COLOCK_NO_MEMORY && code != COLOCK_NOT_FRESH);
+    WANT(code <= COLOCK_CHANGES && code != COLOCK_NO_MEMORY && code != COLOCK_NOT_FRESH);
     by_code[code]++;
 }
 
@@ -148,6 +148,36 @@ static void transact(int h) {
     WANT(code ? answer.kind == UNTOUCHED : answer.kind <= COLOCK_NONE);
 }
 
+/* A whole transaction, of words and objects of which there may be more or fewer. */
+static void attempt(int h) {
+    static const char *const texts[] = {"inc:1", "inc:1 dec:1", "deposit:1 withdraw:2", "give:5 take:1", "enq:a deq", "x", "", " "};
+    const char *names = texts[draw(8)];
+    uint32_t objects[3] = {(uint32_t)number(), (uint32_t)number(), (uint32_t)number()};
+    uint64_t room[4] = {UNTOUCHED, UNTOUCHED, UNTOUCHED, UNTOUCHED}, count = draw(4), places = draw(4);
+    colock_outcome outcome = {UNTOUCHED, UNTOUCHED, UNTOUCHED};
+    uint32_t code = meant_for(h, A_STORE, colock_attempt(&handles[h].store, (uint8_t)number(), objects, count, TEXT(names), room, places, &outcome));
+    WANT(code ? outcome.kind == UNTOUCHED : outcome.kind <= COLOCK_OUTCOME_REFUSED && outcome.at <= count && count <= places);
+    for (uint64_t i = 0; i < 4; i++) WANT((room[i] != UNTOUCHED) == (!code && outcome.kind == COLOCK_OUTCOME_DONE && i < count));
+}
+
+/* What is committed, in some room. */
+static void read_committed(int h) {
+    static const char *const names[] = {"balance", "value", "member:a", "free", "inc:1", "take:5", "deq", ""};
+    uint64_t room[5] = {UNTOUCHED, UNTOUCHED, UNTOUCHED, UNTOUCHED, UNTOUCHED}, seen = UNTOUCHED, state = UNTOUCHED, count = UNTOUCHED;
+    const char *name = names[draw(8)];
+    colock_answer answer = {UNTOUCHED, UNTOUCHED};
+    uint32_t code = meant_for(h, A_STORE, colock_peek(&handles[h].store, (uint32_t)number(), TEXT(name), &answer, &seen));
+    WANT(code ? answer.kind == UNTOUCHED && seen == UNTOUCHED : answer.kind == COLOCK_REPLY || answer.kind == COLOCK_NONE);
+    code = meant_for(h, A_STORE, colock_commit_count(&handles[h].store, &count));
+    WANT(code == COLOCK_OK || count == UNTOUCHED);
+    seen = UNTOUCHED;
+    code = meant_for(h, A_STORE, colock_committed(&handles[h].store, (uint32_t)number(), &state, &seen));
+    WANT(code ? state == UNTOUCHED && seen == UNTOUCHED : seen == count);
+    seen = UNTOUCHED;
+    code = meant_for(h, A_STORE, colock_snapshot(&handles[h].store, room, draw(5), &seen));
+    WANT(room[4] == UNTOUCHED && (code ? room[0] == UNTOUCHED && seen == UNTOUCHED : seen == count));
+}
+
 static void read_store(int h) {
     uint64_t n = UNTOUCHED, m = UNTOUCHED;
     uint64_t c = UNTOUCHED;
@@ -197,12 +227,14 @@ int main(int argc, char **argv) {
         case 9: case 10: read_store(h); break;
         case 11: case 12: follow(h); break;
         case 13: extend(h); break;
+        case 16: case 17: attempt(h); break;
+        case 18: read_committed(h); break;
         case 14: case 15: meant_for(h, A_STORE, colock_begin(&handles[h].store, (uint8_t)number(), &t)); break;
         default: transact(h);
         }
     }
     for (int h = 0; h < HANDLES; h++) WANT(ended(h) == (holds[h] == NOTHING ? COLOCK_NOT_HELD : COLOCK_OK));
-    for (int code = 0; code <= COLOCK_NEEDS_ESCROW; code++) codes += by_code[code] > 0;
+    for (int code = 0; code <= COLOCK_CHANGES; code++) codes += by_code[code] > 0;
     printf("%ld random calls at handles that hold anything: %ld codes, each where it has to be\n", calls, codes);
     return 0;
 }

@@ -7,6 +7,7 @@ _Static_assert(sizeof(colock_store) == 16 && offsetof(colock_store, at_) == 8, "
 _Static_assert(sizeof(colock_answer) == 16 && offsetof(colock_answer, number) == 8, "an answer");
 _Static_assert(sizeof(colock_fault) == 40 && offsetof(colock_fault, third) == 32, "a fault");
 _Static_assert(sizeof(colock_shape) == 32 && offsetof(colock_shape, kind) == 24, "a shape");
+_Static_assert(sizeof(colock_outcome) == 24 && offsetof(colock_outcome, at) == 8 && offsetof(colock_outcome, number) == 16, "an outcome");
 _Static_assert(sizeof(colock_event) == 40 && offsetof(colock_event, other) == 8 && offsetof(colock_event, op) == 16, "an event");
 _Static_assert(offsetof(colock_event, object) == 24 && offsetof(colock_event, kind) == 28, "an event");
 _Static_assert(offsetof(colock_event, worker) == 32 && offsetof(colock_event, reserved) == 36, "an event");
@@ -249,18 +250,25 @@ static void is_no_store(colock_store *handle) {
     uint64_t call = UNTOUCHED;
     colock_answer answer = {UNTOUCHED, UNTOUCHED};
     colock_event event = {.kind = UNTOUCHED};
+    colock_outcome outcome = {UNTOUCHED, UNTOUCHED, UNTOUCHED};
     WANT(colock_begin(handle, 0, &n) == COLOCK_NOT_HELD);
     WANT(colock_call(handle, 0, 0, 0, TEXT("inc:1"), &answer) == COLOCK_NOT_HELD);
     WANT(colock_call_op(handle, 0, 0, 0, 0, &answer) == COLOCK_NOT_HELD);
     WANT(colock_call_number(handle, 0, TEXT("inc:1"), &call) == COLOCK_NOT_HELD);
     WANT(colock_would(handle, 0, 0, TEXT("inc:1"), &answer) == COLOCK_NOT_HELD);
     WANT(colock_would_op(handle, 0, 0, 0, &answer) == COLOCK_NOT_HELD);
+    WANT(colock_attempt(handle, 0, &(uint32_t){0}, 1, TEXT("inc:1"), &n, 1, &outcome) == COLOCK_NOT_HELD);
+    WANT(colock_attempt(handle, 0, NULL, 0, TEXT("inc:1"), NULL, 0, &outcome) == COLOCK_NOT_HELD);
     WANT(colock_commit(handle, 0, 0) == COLOCK_NOT_HELD);
     WANT(colock_abort(handle, 0, 0) == COLOCK_NOT_HELD);
     WANT(colock_rollback(handle, 0, 0, 1) == COLOCK_NOT_HELD);
     WANT(colock_kept(handle, 0, &n) == COLOCK_NOT_HELD);
     WANT(colock_open_count(handle, &n) == COLOCK_NOT_HELD);
     WANT(colock_abort_all(handle) == COLOCK_NOT_HELD);
+    WANT(colock_peek(handle, 0, TEXT("inc:1"), &answer, &n) == COLOCK_NOT_HELD);
+    WANT(colock_committed(handle, 0, &n, &m) == COLOCK_NOT_HELD);
+    WANT(colock_snapshot(handle, &n, 1, &m) == COLOCK_NOT_HELD && colock_snapshot(handle, NULL, 0, &m) == COLOCK_NOT_HELD);
+    WANT(colock_commit_count(handle, &n) == COLOCK_NOT_HELD);
     WANT(colock_events(handle, 0, &event, 1, &n) == COLOCK_NOT_HELD);
     WANT(colock_event_count(handle, &n, &m) == COLOCK_NOT_HELD);
     WANT(colock_forget(handle, 1) == COLOCK_NOT_HELD);
@@ -268,6 +276,7 @@ static void is_no_store(colock_store *handle) {
     WANT(colock_renew(handle) == COLOCK_NOT_HELD);
     WANT(n == UNTOUCHED && m == UNTOUCHED && call == UNTOUCHED && event.kind == UNTOUCHED);
     WANT(answer.kind == UNTOUCHED && answer.number == UNTOUCHED);
+    WANT(outcome.kind == UNTOUCHED && outcome.at == UNTOUCHED && outcome.number == UNTOUCHED);
 }
 
 static void a_store_is_made(void) {
@@ -586,6 +595,7 @@ static void calls_of_nothing(void) {
     open_counters(&store, 1, 9);
     WANT(begin(&store, 0) == 0 && colock_call(&store, 0, 0, 0, NULL, 0, &answer) == COLOCK_NO_CALL);
     WANT(colock_would(&store, 0, 0, NULL, 0, &answer) == COLOCK_NO_CALL && colock_call_number(&store, 0, NULL, 0, &count) == COLOCK_NO_CALL);
+    WANT(colock_peek(&store, 0, NULL, 0, &answer, &count) == COLOCK_NO_CALL && colock_snapshot(&store, NULL, 0, &count) == COLOCK_NO_ROOM);
     WANT(count == UNTOUCHED && answer.kind == UNTOUCHED && by_address(&store, 0, "", 0, &count) == COLOCK_NO_CALL);
     WANT(colock_events(&store, 0, NULL, 0, &count) == COLOCK_OK && count == 0);
     count = UNTOUCHED;
@@ -596,8 +606,8 @@ static void calls_of_nothing(void) {
 /* Each code has words of its own, and no other number has. */
 static void codes_have_words(void) {
     const char *unknown = colock_strerror(UINT32_MAX);
-    WANT(!strcmp(unknown, "the code is unknown") && !strcmp(colock_strerror(COLOCK_NEEDS_ESCROW + 1), unknown));
-    for (uint32_t code = COLOCK_OK; code <= COLOCK_NEEDS_ESCROW; code++) {
+    WANT(!strcmp(unknown, "the code is unknown") && !strcmp(colock_strerror(COLOCK_CHANGES + 1), unknown));
+    for (uint32_t code = COLOCK_OK; code <= COLOCK_CHANGES; code++) {
         WANT(strcmp(colock_strerror(code), unknown));
         for (uint32_t other = COLOCK_OK; other < code; other++) WANT(strcmp(colock_strerror(code), colock_strerror(other)));
     }

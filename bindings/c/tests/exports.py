@@ -31,7 +31,7 @@ PATHS = {
 }
 # What is never wrong with a line of the text of a type.
 OF_NO_TYPE = ("NoMemory", "TwiceName")
-STRUCTS = ["handle", "answer", "fault", "shape", "event"]
+STRUCTS = ["handle", "answer", "fault", "shape", "outcome", "event"]
 # what the header has in place of the one handle
 HANDLES = ["type", "store", "held"]
 SIZES = {"bool": 1, "u8": 1, "u32": 4, "u64": 8, "usize": 8, "pointer": 8}
@@ -59,7 +59,7 @@ def source():
 
 def exported_parameters(kind):
     """A parameter of an export, as C has it: a reference is a pointer, a slice a pointer and a count."""
-    names = {"Slot": "handle", "ColockAnswer": "answer", "ColockFault": "fault", "ColockShape": "shape", "ColockEvent": "event"}
+    names = {"Slot": "handle", "ColockAnswer": "answer", "ColockFault": "fault", "ColockShape": "shape", "ColockOutcome": "outcome", "ColockEvent": "event"}
     match = re.fullmatch(r"&(mut )?\[(\w+)\]", kind)
     if match:
         return [("" if match[1] else "const ") + names.get(match[2], match[2]) + "*", "usize"]
@@ -299,7 +299,7 @@ PLANTS = [
     ("header", "uint64_t max_events", "uint32_t max_events"),
     ("header", "uint32_t colock_renew(colock_store *store);", ""),
     ("header", "colock_store_extend(colock_store *store, colock_store *added);", "colock_store_extend(colock_store *store);"),
-    ("header", "COLOCK_NEEDS_ESCROW = 26", "COLOCK_NEEDS_ESCROW = 27"),
+    ("header", "COLOCK_CHANGES = 27", "COLOCK_CHANGES = 28"),
     ("header", "COLOCK_MISSING = 8", "COLOCK_MISSING = 18"),
     ("header", "COLOCK_ESCROW = 2", "COLOCK_ESCROW = 3"),
     ("header", "COLOCK_NOT_NUMERIC = 5", "COLOCK_NOT_NUMERIC = 6"),
@@ -312,6 +312,9 @@ PLANTS = [
     ("header", "COLOCK_VERSION 3", "COLOCK_VERSION 2"),
     ("header", "colock_abort(colock_store *store, uint8_t worker, uint64_t transaction)", "colock_abort(colock_store *store, uint64_t transaction, uint8_t worker)"),
     ("header", "const colock_event *events, size_t events_count, uint64_t *made);", "colock_event *events, size_t events_count, uint64_t *made);"),
+    ("header", "colock_snapshot(colock_store *store, uint64_t *states, size_t states_count, uint64_t *commits);", "colock_snapshot(colock_store *store, uint64_t *states, uint64_t *commits);"),
+    ("header", "    uint64_t at;\n", "    uint32_t at;\n"),
+    ("header", "uint64_t *operations, size_t operations_count,\n                        colock_outcome *outcome);", "const uint64_t *operations, size_t operations_count,\n                        colock_outcome *outcome);"),
     ("header", "COLOCK_BEFORE_(colock_would,", "COLOCK_BEFORE_(colock_would_op,"),
     ("rust types", "    Escrow = 2,", "    Escrow = 3,"),
     ("header", 'return "a store of no object"', 'return "no object"'),

@@ -30,16 +30,24 @@ static void open_transactions_are_limited(void) {
 
 /* Each object is one by itself: one in three is counted up, and the last is there. */
 static void each_object_is_kept(colock_store *store, uint32_t objects) {
+    static uint64_t states[MOST + 1];
     colock_answer answer = {UNTOUCHED, UNTOUCHED};
     colock_event event;
-    uint64_t kept, count;
+    uint64_t kept, count, commits;
     WANT(begin(store, 0) == 0);
     for (uint32_t x = objects - 1; x < objects; x -= 3) WANT(colock_call_op(store, 0, 0, x, 0, &answer) == COLOCK_OK && answer.kind == COLOCK_REPLY);
     answer.kind = UNTOUCHED;
     WANT(colock_call_op(store, 0, 0, objects, 0, &answer) == COLOCK_NO_OBJECT && colock_call(store, 0, 0, UINT32_MAX, TEXT("inc:1"), &answer) == COLOCK_NO_OBJECT);
     WANT(colock_would_op(store, 0, objects, 0, &answer) == COLOCK_NO_OBJECT && answer.kind == UNTOUCHED);
     WANT(colock_events(store, 1, &event, 1, &count) == COLOCK_OK && event.object == objects - 1);
+    for (uint32_t x = 0; x <= MOST; x++) states[x] = UNTOUCHED;
+    WANT(colock_snapshot(store, states, objects - 1, &commits) == COLOCK_NO_ROOM && states[0] == UNTOUCHED);
+    WANT(colock_snapshot(store, states, objects, &commits) == COLOCK_OK && commits == 0 && states[objects] == UNTOUCHED);
+    for (uint32_t x = 0; x < objects; x++) WANT(states[x] == 0); /* nothing is committed */
     WANT(colock_commit(store, 0, 0) == COLOCK_OK && colock_kept(store, objects, &kept) == COLOCK_NO_OBJECT);
+    WANT(colock_snapshot(store, states, objects, &commits) == COLOCK_OK && commits == 1 && states[objects] == UNTOUCHED);
+    for (uint32_t x = 0; x < objects; x++) WANT(states[x] == (x % 3 == (objects - 1) % 3));
+    WANT(colock_committed(store, objects, &kept, &commits) == COLOCK_NO_OBJECT && colock_committed(store, objects - 1, &kept, &commits) == COLOCK_OK && kept == 1);
     WANT(colock_renew(store) == COLOCK_OK && begin(store, 0) == 0);
     for (uint32_t x = 0; x < objects; x++) WANT(colock_kept(store, x, &kept) == COLOCK_OK && kept == (x % 3 == (objects - 1) % 3));
     WANT(colock_store_close(store) == COLOCK_OK);

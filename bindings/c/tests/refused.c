@@ -51,6 +51,16 @@ static void extend(colock_store *store, colock_type types[TYPES]) {
     WANT(colock_kept(store, 2 * TYPES - 1, &kept) == COLOCK_OK && colock_store_close(&added) == COLOCK_OK);
 }
 
+/* What is committed is read without memory. */
+static void read_committed(colock_store *store) {
+    colock_answer answer;
+    uint64_t states[2 * TYPES], commits;
+    DO(colock_peek(store, 7, TEXT("value"), &answer, &commits));
+    DO(colock_committed(store, 9, states, &commits));
+    DO(colock_snapshot(store, states, 2 * TYPES, &commits));
+    DO(colock_commit_count(store, &commits));
+}
+
 /* Transactions that are all open before the first of them ends. */
 static void use(colock_store *store, uint64_t transactions) {
     static const char *const calls[TYPES] = {"inc:1", "dec:1", "deposit:2", "inc:2", "insert:a", "inc:1", "give:1", "give:17", "give:1", "enq:b"};
@@ -65,6 +75,7 @@ static void use(colock_store *store, uint64_t transactions) {
         }
         if (answer.kind == COLOCK_REPLY) DO(colock_rollback(store, 1, t, 1));
     }
+    read_committed(store);
     for (t = 0; t < transactions; t++) {
         if (t % 3) DO(colock_abort(store, 1, t));
         if (t % 3 == 0) DO(colock_commit(store, 1, t));
@@ -115,6 +126,62 @@ static void go(uint64_t transactions) {
     WANT(live == 0);
 }
 
+/* ---- whole transactions */
+
+/* The events of a store, of which none is open. */
+static uint64_t events_of(colock_store *store, colock_event room[9]) {
+    uint64_t count, open;
+    WANT(colock_events(store, 0, room, 9, &count) == COLOCK_OK && count < 9);
+    WANT(colock_open_count(store, &open) == COLOCK_OK && open == 0);
+    return count;
+}
+
+/* An attempt of which one allocation is refused: it isn't begun, and nothing has changed; or a call ends it, and what came
+ * before is aborted; or it is done. Then the same one is done. Which it was, and whether it was refused at all, is told. */
+static int attempt(colock_type types[TYPES], long granted) {
+    static const char names[] = "inc:1 inc:2 give:17 enq:b";
+    static const uint32_t objects[] = {0, 3, 7, 9};
+    colock_store store = COLOCK_EMPTY;
+    colock_outcome outcome = {UNTOUCHED, UNTOUCHED, UNTOUCHED};
+    colock_event events[9];
+    uint64_t room[5] = {UNTOUCHED, UNTOUCHED, UNTOUCHED, UNTOUCHED, UNTOUCHED};
+    int met = 0;
+    make_objects(&store, types);
+    WANT(colock_store_open(&store, 100) == COLOCK_OK);
+    left = granted;
+    uint32_t code = colock_attempt(&store, 1, objects, 4, TEXT(names), room, 5, &outcome);
+    bool was_refused = left < 0;
+    left = -1;
+    uint64_t count = events_of(&store, events);
+    if (code == COLOCK_NO_MEMORY) {
+        WANT(count == 0 && outcome.kind == UNTOUCHED && room[0] == UNTOUCHED);
+        met = 1;
+    } else if (outcome.kind) {
+        WANT(code == COLOCK_OK && outcome.kind == COLOCK_OUTCOME_REFUSED && outcome.number == COLOCK_NO_MEMORY && room[0] == UNTOUCHED);
+        WANT(outcome.at < 4 && count == outcome.at + 2 && events[0].kind == COLOCK_EVENT_BEGIN && events[count - 1].kind == COLOCK_EVENT_ABORT);
+        for (uint64_t i = 0; i < outcome.at; i++) WANT(events[i + 1].kind == COLOCK_EVENT_OP && events[i + 1].object == objects[i]);
+        met = 2;
+    } else WANT(code == COLOCK_OK && count == 6 && events[5].kind == COLOCK_EVENT_COMMIT && room[3] != UNTOUCHED && room[4] == UNTOUCHED);
+    WANT(was_refused == (met > 0) || !met);
+    WANT(colock_attempt(&store, 1, objects, 4, TEXT(names), room, 5, &outcome) == COLOCK_OK && outcome.kind == COLOCK_OUTCOME_DONE);
+    WANT(colock_store_close(&store) == COLOCK_OK);
+    return was_refused ? met : 3;
+}
+
+/* Each allocation of an attempt refused in turn. */
+static long attempts(void) {
+    colock_type types[TYPES] = {COLOCK_EMPTY};
+    long n = 0, met[4] = {0};
+    make_types(types);
+    do {
+        met[attempt(types, n)]++;
+    } while (!met[3] && ++n);
+    WANT(met[1] > 0 && met[2] > 0); /* before its begin, and at a call */
+    for (int i = 0; i < TYPES; i++) WANT(colock_type_close(&types[i]) == COLOCK_OK);
+    WANT(live == 0);
+    return n;
+}
+
 int main(int argc, char **argv) {
     uint64_t transactions = argc > 1 ? strtoull(argv[1], NULL, 10) : 20;
     long n = 0, met = 0;
@@ -127,6 +194,7 @@ int main(int argc, char **argv) {
     }
     for (int line = 0; line < 400; line++) met += is_met[line];
     WANT(met == 20); /* each call that may take memory, and no other */
-    printf("%ld allocations, each refused in turn, at %ld calls: one code, the same call is done then, no leak\n", n, met);
+    left = -1;
+    printf("%ld allocations, each refused in turn, at %ld calls: one code, the same call is done then, no leak; %ld of an attempt\n", n, met, attempts());
     return 0;
 }

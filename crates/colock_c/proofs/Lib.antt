@@ -8,3 +8,6 @@ pub mod Followed
 pub mod Typings
 pub mod Narrowed
 pub mod Becoming
+pub mod AttemptRooms
+pub mod Attempted
+pub mod Snapshots

@@ -6,6 +6,8 @@ use Rattle.store.specs.declared.refusals.ExtendRefusal.{ExtendRefusal}
 use Rattle.store.specs.declared.refusals.ExtendRefusal.TheVariants as extends
 use Rattle.store.specs.declared.refusals.NewRefusal.{NewRefusal}
 use Rattle.store.specs.declared.refusals.NewRefusal.TheVariants as begins
+use Rattle.store.specs.declared.refusals.PeekRefusal.{PeekRefusal}
+use Rattle.store.specs.declared.refusals.PeekRefusal.TheVariants as peek
 use Rattle.store.specs.declared.refusals.RenewRefusal.{RenewRefusal}
 use Rattle.store.specs.declared.refusals.RenewRefusal.TheVariants as renews
 use Rattle.store.specs.declared.event_replay.Stray.{Stray}
@@ -13,7 +15,7 @@ use Rattle.store.specs.declared.event_replay.Stray.TheVariants as stray
 use Rattle.table_maker.specs.declared.make_error.MakeError.{MakeError}
 use Rattle.table_maker.specs.declared.make_error.MakeError.TheVariants as make
 use Rattle.colock_c.specs.declared.code.Code.{Code}
-use Rattle.colock_c.specs.declared.code.Code.TheVariants.{Done, NotOpen, NoObject, NoCall, TooManyOpen, HistoryFull, NoMemory, BadRollback, NotHeld, InUse, BadText, Refused, BadKind, NoObjects, TooManyObjects, NotFresh, BadMax, StillOpen, NotMade, Forgotten, BadParameter, TooLarge, NoState, NoOperation, NotLegal, NoRoom, NeedsEscrow}
+use Rattle.colock_c.specs.declared.code.Code.TheVariants.{Done, NotOpen, NoObject, NoCall, TooManyOpen, HistoryFull, NoMemory, BadRollback, NotHeld, InUse, BadText, Refused, BadKind, NoObjects, TooManyObjects, NotFresh, BadMax, StillOpen, NotMade, Forgotten, BadParameter, TooLarge, NoState, NoOperation, NotLegal, NoRoom, NeedsEscrow, Changes}
 
 abbrev pub number : Code → ℕ
 number Done = 0
@@ -43,6 +45,7 @@ number NoOperation = 23
 number NotLegal = 24
 number NoRoom = 25
 number NeedsEscrow = 26
+number Changes = 27
 
 -- of a call of a store, which may be refused. A refusal has the number that the text of a run gives it
 abbrev pub code_of : Option Refusal → Code
@@ -74,6 +77,12 @@ extend_code extends.StillOpen = StillOpen
 extend_code extends.TooManyObjects = TooManyObjects
 extend_code extends.NotFresh = NotFresh
 extend_code extends.NoMemory = NoMemory
+
+-- of a call that is to be answered to a transaction that only reads
+abbrev pub peek_code : PeekRefusal → Code
+peek_code peek.NoObject = NoObject
+peek_code peek.NoCall = NoCall
+peek_code peek.Changes = Changes
 
 -- of an event that is to be made again
 abbrev pub stray_code : Stray → Code

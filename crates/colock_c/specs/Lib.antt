@@ -11,5 +11,7 @@ pub mod Named
 pub mod Making
 pub mod Calls
 pub mod Foreseen
+pub mod Attempts
+pub mod Reads
 pub mod Histories
 pub mod Epochs

@@ -1,10 +1,10 @@
 //! What exports answer.
 
 ghost use Rattle.std.specs.Prelude.{◌≡◌, Some};
-ghost use Rattle.colock_c.specs.Codes.{code_of, extend_code, made_code, new_code, number, renew_code, stray_code};
+ghost use Rattle.colock_c.specs.Codes.{code_of, extend_code, made_code, new_code, number, peek_code, renew_code, stray_code};
 
 use serial_order::Refusal;
-use store::{ExtendRefusal, NewRefusal, RenewRefusal, Stray};
+use store::{ExtendRefusal, NewRefusal, PeekRefusal, RenewRefusal, Stray};
 use table_maker::MakeError;
 
 /// What an export answers, by its number. All but `Done` leave what there was, but for what an export
@@ -65,6 +65,8 @@ pub enum Code {
     NoRoom = 25,
     /// The type is a number, which is for escrow alone.
     NeedsEscrow = 26,
+    /// An operation of the call may change something.
+    Changes = 27,
 }
 
 impl Code {
@@ -123,6 +125,17 @@ pub(crate) fn extend_code(refusal: ExtendRefusal) -> Code
         ExtendRefusal::TooManyObjects => Code::TooManyObjects,
         ExtendRefusal::NotFresh => Code::NotFresh,
         ExtendRefusal::NoMemory => Code::NoMemory,
+    }
+}
+
+/// The code of a refusal to read.
+pub(crate) fn peek_code(refusal: PeekRefusal) -> Code
+    ensures { result ≡ peek_code refusal }
+{
+    match refusal {
+        PeekRefusal::NoObject => Code::NoObject,
+        PeekRefusal::NoCall => Code::NoCall,
+        PeekRefusal::Changes => Code::Changes,
     }
 }
 

@@ -4,6 +4,7 @@
 //! store. Of each pointer an export assumes that it isn't null, is aligned, and is the call's alone.
 #![tactic(auto)]
 
+mod attempt_calls;
 mod call_numbers;
 mod code;
 pub mod epochs;
@@ -20,10 +21,12 @@ mod made_types;
 pub mod new_stores;
 mod operations;
 mod parameters;
+pub mod reads;
 pub mod shapes;
 mod slot;
 mod store_calls;
 mod store_objects;
+mod store_reads;
 pub mod stores;
 mod texts;
 mod type_parts;

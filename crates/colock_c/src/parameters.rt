@@ -84,7 +84,7 @@ pub(crate) fn names_of(alloc: Global, text: &[u8]) -> Result<Vec<Name>, Code>
 }
 
 /// The words of a text.
-fn words_of<'a>(alloc: Global, text: &'a [u8]) -> Result<Vec<&'a [u8]>, AllocError>
+pub(crate) fn words_of<'a>(alloc: Global, text: &'a [u8]) -> Result<Vec<&'a [u8]>, AllocError>
     ensures { IfOk result (λ words. map (λ w. w.now) words.items ≡ words_of text.now) }
 {
     let mut words = Vec::new(alloc);

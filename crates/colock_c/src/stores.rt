@@ -7,13 +7,15 @@
 ghost use Rattle.std.specs.Prelude.{◌≡◌, ◌≢◌, Some, None};
 ghost use Rattle.serial_order.specs.declared.command.Command.TheVariants as command;
 ghost use Rattle.colock_c.specs.Calls.{AbortsAll, CountsOpen, DoesCommand, DoesNumbered, Ends, IsNumbered, TellsAnswer, IsToldOf, KeepsState, Numbers};
+ghost use Rattle.colock_c.specs.Attempts.{AttemptsCalls};
 ghost use Rattle.colock_c.specs.Codes.{number};
 ghost use Rattle.colock_c.specs.Foreseen.{Foresees, ForeseesAt};
 ghost use Rattle.colock_c.specs.Holding.{store_at};
 
+use crate::attempt_calls::attempt_calls;
 use crate::code::Code;
 use crate::slot::Slot;
-use crate::words::ColockAnswer;
+use crate::words::{ColockAnswer, ColockOutcome};
 use crate::{call_numbers, store_calls};
 use std::alloc::Global;
 
@@ -151,6 +153,40 @@ pub extern "C" fn colock_would_op(
         return Code::NotHeld.number();
     };
     let code = store_calls::would_op(held.stored(), transaction, x, c, answer);
+    slot.put(held);
+    code.number()
+}
+
+/// A whole transaction of a worker: it begins, calls at each of these objects, in their order, the call whose name is the word
+/// at its place in the text, and commits; at the first call that isn't replied to it aborts in the place of what follows. The
+/// operations go into the room. `BadParameter` where there are more words or fewer than objects, `NoRoom` where the room has
+/// fewer places; `TooManyOpen`, `HistoryFull` or `NoMemory` where it isn't begun, and then nothing has changed.
+#[unsafe(no_mangle)]
+#[tactic(auto, using(crate::proofs::Becoming::becomes, crate::proofs::Becoming::stays))]
+pub extern "C" fn colock_attempt(
+    alloc: Global,
+    slot: &mut Slot,
+    worker: u8,
+    objects: &[u32],
+    names: &[u8],
+    operations: &mut [u64],
+    outcome: &mut ColockOutcome,
+) -> u32
+    ensures attempts { AttemptsCalls slot.old.handle.held worker objects.now names.now operations.old result operations.new outcome.new slot.new.handle.held }
+    ensures rest { result ≢ 0 → (operations.new ≡ operations.old) × (outcome.new ≡ outcome.old) }
+{
+    let Some(mut held) = slot.take_store(alloc) else {
+        return Code::NotHeld.number();
+    };
+    let code = attempt_calls(
+        held.store(),
+        alloc,
+        worker,
+        objects,
+        names,
+        operations,
+        outcome,
+    );
     slot.put(held);
     code.number()
 }

@@ -18,6 +18,17 @@ pub struct ColockAnswer {
     pub number: u64,
 }
 
+/// What came of an attempt: `kind` is 0 where it committed. Else the call at the place `at`, counted from 0, ended it:
+/// `kind` is 1, and `number` the transaction that keeps it out; or 2, and 0, where none of its operations is legal; or
+/// 3, and the code of its refusal.
+#[repr(C)]
+#[derive(Clone, Copy)]
+pub struct ColockOutcome {
+    pub kind: u64,
+    pub at: u64,
+    pub number: u64,
+}
+
 /// The first refused line of a text and the number of its kind of fault; or 0 and the number of the
 /// checker's refusal, with what that names.
 #[repr(C)]

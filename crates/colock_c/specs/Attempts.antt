@@ -1,0 +1,63 @@
+-- A whole transaction in one call, in words.
+use Rattle.std.specs.Prelude.{◌≡◌, ℕ, ◌<◌, ◌≤◌, List, ◌++◌, length, drop, Option, Some, zip}
+use Rattle.line_text.specs.Text.{words_of}
+use Rattle.serial_order.specs.History.{begins}
+use Rattle.store_laws.specs.Stored.{Stored}
+use Rattle.attempts.specs.Answers.{AttemptAnswers}
+use Rattle.attempts.specs.Commands.{CallAt, attempt_commands, is_memory_refused_at, commands_replayed}
+use Rattle.attempts.specs.declared.outcome.Attempt.{Attempt}
+use Rattle.attempts.specs.declared.outcome.Attempt.TheVariants.{Done as done, Ended, NotBegun}
+use Rattle.attempts.specs.declared.outcome.Ending.{Ending}
+use Rattle.attempts.specs.declared.outcome.Ending.TheVariants as ending
+use Rattle.colock_c.specs.Calls.{Becomes}
+use Rattle.colock_c.specs.Codes.{number, code_of}
+use Rattle.colock_c.specs.declared.code.Code.{Code}
+use Rattle.colock_c.specs.declared.code.Code.TheVariants.{Done, NoMemory, BadParameter, NoRoom}
+use Rattle.colock_c.specs.declared.held.Held.{Held}
+use Rattle.colock_c.specs.declared.words.ColockOutcome.{ColockOutcome}
+
+-- how the call at a place ended it
+abbrev pub ending_words : ℕ → Ending → ColockOutcome
+ending_words at (ending.Busy u) = record { kind = 1; at = at; number = u }
+ending_words at ending.None = record { kind = 2; at = at; number = 0 }
+ending_words at (ending.Refused r) = record { kind = 3; at = at; number = number (code_of (Some r)) }
+
+-- what came of an attempt that began
+abbrev pub attempt_words : Attempt → ColockOutcome
+attempt_words (Ended at how) = ending_words at how
+attempt_words other = record { kind = 0; at = 0; number = 0 }
+
+-- its code: one that isn't begun is refused
+abbrev pub attempt_code : Attempt → Code
+attempt_code (NotBegun r) = code_of (Some r)
+attempt_code other = Done
+
+-- the room with the operations of its calls
+abbrev pub filled_room : Attempt → List ℕ → List ℕ
+filled_room (done ks) room = ks.items ++ drop (length ks.items) room
+filled_room other room = room
+
+-- the room has a place for each of its operations
+abbrev pub FitsRoom : Attempt → List ℕ → Type 0
+FitsRoom (done ks) room = length ks.items ≤ length room
+FitsRoom other room = Unit {0}
+
+-- an attempt of these calls was made: the history is the replay of its commands, and the answer is told in words
+pub record IsAttemptOf (s : Stored) (w : ℕ) (calls : List CallAt) (room : List ℕ) (n : ℕ) (filled : List ℕ) (outcome : ColockOutcome) (later : Stored) : Type 0 where
+  pub came : Attempt
+  pub replays : later ≡ commands_replayed s (is_memory_refused_at came) w (attempt_commands (begins s.history) calls came)
+  pub answers : AttemptAnswers s w calls came later
+  pub code : n ≡ number (attempt_code came)
+  pub operations : filled ≡ filled_room came room
+  pub told : n ≡ number Done → outcome ≡ attempt_words came
+
+-- what comes of calls by the numbers of their objects and their names in one text; or there are more names or fewer than objects, or fewer
+-- places for operations, or memory was refused
+pub data IsAttempted (s : Stored) (w : ℕ) (xs names room : List ℕ) (n : ℕ) (filled : List ℕ) (outcome : ColockOutcome) (later : Stored) : Type 0 where
+  made : length (words_of names) ≡ length xs → IsAttemptOf s w (zip xs (words_of names)) room n filled outcome later → IsAttempted s w xs names room n filled outcome later
+  bad_names : n ≡ number BadParameter → (length (words_of names) ≡ length xs → ⊥) → later ≡ s → IsAttempted s w xs names room n filled outcome later
+  no_places : n ≡ number NoRoom → length room < length xs → later ≡ s → IsAttempted s w xs names room n filled outcome later
+  memory_refused : n ≡ number NoMemory → later ≡ s → IsAttempted s w xs names room n filled outcome later
+
+abbrev pub AttemptsCalls : Option Held → ℕ → List ℕ → List ℕ → List ℕ → ℕ → List ℕ → ColockOutcome → Option Held → Type 0
+AttemptsCalls held w xs names room n filled outcome new = Becomes (λ s later. IsAttempted s w xs names room n filled outcome later) held n new
