@@ -71,6 +71,8 @@ pub mod code {
     pub const NO_ROOM: u32 = 25;
     /// the type is a number, which is for COLOCK_ESCROW alone
     pub const NEEDS_ESCROW: u32 = 26;
+    /// an operation of the call may change something, so it isn't a read
+    pub const CHANGES: u32 = 27;
 }
 
 /// What holds a type or a store. Of zeros before its first call. It may be moved, and never be used as two.
@@ -110,6 +112,16 @@ pub struct Shape {
     pub initial: u64,
     pub ops: u64,
     pub kind: u64,
+}
+
+/// What came of colock_attempt: `kind` is a colock_outcome_kind, and where it isn't 0 `at` is the place of that call,
+/// from 0, at which it aborted. What a kind doesn't have is 0.
+#[repr(C)]
+#[derive(Clone, Copy, Debug, Default, PartialEq, Eq)]
+pub struct Outcome {
+    pub kind: u64,
+    pub at: u64,
+    pub number: u64,
 }
 
 /// An event of a store. What its kind doesn't have is 0, and isn't read by colock_follow, nor is `reserved`.
@@ -208,6 +220,24 @@ extern "C" {
     /// What colock_call or colock_call_op would be answered now. It is no event, and needs no memory. The codes are
     /// theirs, [`code::HISTORY_FULL`] too.
     pub fn colock_would_op(store: *mut Handle, transaction: u64, object: u32, call: u64, answer: *mut Answer) -> u32;
+    /// A whole transaction of a worker: it begins, calls at each of these objects, in their order, the call whose name is
+    /// the word at its place in `names` (words with spaces between them), and commits. At the first call that isn't
+    /// replied to it aborts in the place of what follows. [`code::OK`] whether it committed or aborted: `outcome` says
+    /// which. Where it committed the operations of its calls are in the first places of the room. [`code::BAD_PARAMETER`]
+    /// where there are more names or fewer than objects, [`code::NO_ROOM`] where the room has fewer places than there are
+    /// objects. Room for all its events is made first: at [`code::TOO_MANY_OPEN`], [`code::HISTORY_FULL`] and
+    /// [`code::NO_MEMORY`] it wasn't begun.
+    pub fn colock_attempt(
+        store: *mut Handle,
+        worker: u8,
+        objects: *const u32,
+        objects_count: usize,
+        names: *const u8,
+        names_count: usize,
+        operations: *mut u64,
+        operations_count: usize,
+        outcome: *mut Outcome,
+    ) -> u32;
     /// Ends a transaction, which needs no memory and no more room in the history. [`code::NOT_OPEN`].
     pub fn colock_commit(store: *mut Handle, worker: u8, transaction: u64) -> u32;
     /// Ends a transaction, which needs no memory and no more room in the history. [`code::NOT_OPEN`].
@@ -222,6 +252,17 @@ extern "C" {
     pub fn colock_open_count(store: *mut Handle, count: *mut u64) -> u32;
     /// Aborts each open transaction, in ascending order, as the worker that began it.
     pub fn colock_abort_all(store: *mut Handle) -> u32;
+    /// What the call of this name at an object is answered to a transaction that only reads committed states:
+    /// `COLOCK_REPLY` and its first operation that is legal there, or `COLOCK_NONE`. [`code::CHANGES`] where an operation
+    /// of the call may change something; [`code::NO_OBJECT`], [`code::NO_CALL`].
+    pub fn colock_peek(store: *mut Handle, object: u32, name: *const u8, name_count: usize, answer: *mut Answer, commits: *mut u64) -> u32;
+    /// The committed state of an object. [`code::NO_OBJECT`].
+    pub fn colock_committed(store: *mut Handle, object: u32, state: *mut u64, commits: *mut u64) -> u32;
+    /// The committed states of all objects, in their order: the first places of the room get them. [`code::NO_ROOM`] where
+    /// it has fewer places than there are objects.
+    pub fn colock_snapshot(store: *mut Handle, states: *mut u64, states_count: usize, commits: *mut u64) -> u32;
+    /// How many transactions have committed since the store was made or began anew.
+    pub fn colock_commit_count(store: *mut Handle, commits: *mut u64) -> u32;
     /// Copies the events from `from` on into the room, as many as there are and it has room for; gives how many.
     /// [`code::FORGOTTEN`] where `from` is below the number of those that were forgotten.
     pub fn colock_events(store: *mut Handle, from: u64, room: *mut Event, room_count: usize, count: *mut u64) -> u32;

@@ -3,14 +3,15 @@
 //!
 //! - `think`: sixteen threads count one counter up, and each transaction thinks for a millisecond.
 //! - `mixed`: the same, where each thread counts down and up by turns, by calls that wait.
-//! - `turns`: nobody thinks; one thread, and four, count a counter up and down by turns.
+//! - `turns`: nobody thinks; one thread, and four, count a counter up and down by turns: in one turn of the lock, by an attempt,
+//!   and by a begin, a call that waits and a commit.
 //! - `child`: sixteen threads count a wheel on at a store in a file, which is made where nothing is there.
 //! - `herd`: 10 threads, 100, 400 and 800 wait for one object, and each commits as soon as it has it; in memory, or at a
 //!   store in a file.
 //!
 //! The plain counter is held for the whole of a transaction; of its log each transaction has three entries.
 
-use colock::{Error, Event, Kind, OpenOptions, SharedStore, Type};
+use colock::{Attempt, Error, Event, Kind, OpenOptions, SharedStore, Type};
 use std::error::Error as AnyError;
 use std::sync::atomic::{AtomicBool, AtomicU64, Ordering};
 use std::sync::Mutex;
@@ -136,23 +137,41 @@ fn mixed(limit: Duration) -> Result<(), Error> {
     Ok(())
 }
 
+/// The calls that are made by turns.
+const DOWN_AND_UP: [&str; 2] = ["dec:1", "inc:1"];
+
+/// How often threads count a counter in a second, by the one call and the other one in turn.
+fn counted(threads: u64, limit: Duration, count: impl Fn(&SharedStore, usize) -> bool + Sync) -> Result<f64, Error> {
+    let store = half_full()?;
+    Ok(per_second(threads, limit, |_, done| assert!(count(&store, (done % 2) as usize))))
+}
+
+fn counted_plainly(threads: u64, limit: Duration) -> f64 {
+    let plain = Plain::new();
+    let mutex = per_second(threads, limit, |_, done| {
+        let mut plain = plain.lock().unwrap();
+        plain.count(done % 2 == 1);
+        plain.commit();
+    });
+    assert!(plain.lock().unwrap().commits() > 0);
+    mutex
+}
+
 fn turns(limit: Duration) -> Result<(), Error> {
+    let store = half_full()?;
+    let calls = [store.call_number(0, DOWN_AND_UP[0])?, store.call_number(0, DOWN_AND_UP[1])?];
     for threads in [1, 4] {
-        let store = half_full()?;
-        let calls = [store.call_number(0, "dec:1")?, store.call_number(0, "inc:1")?];
-        let shared = per_second(threads, limit, |_, done| {
-            let done = store.transact(|turn| turn.expect_op(0, calls[(done % 2) as usize], "ok"));
-            assert!(done.is_ok());
-        });
-        drop(store);
-        let plain = Plain::new();
-        let mutex = per_second(threads, limit, |_, done| {
-            let mut plain = plain.lock().unwrap();
-            plain.count(done % 2 == 1);
-            plain.commit();
-        });
-        assert!(plain.lock().unwrap().commits() > 0);
-        println!("turns_store_{threads} {shared:.0}\nturns_mutex_{threads} {mutex:.0}");
+        let turns = counted(threads, limit, |store, at| store.transact(|turn| turn.expect_op(0, calls[at], "ok")).is_ok())?;
+        let attempts = counted(threads, limit, |store, at| matches!(store.attempt([(0, DOWN_AND_UP[at])]), Ok(Attempt::Done(_))))?;
+        let begun = counted(threads, limit, |store, at| {
+            let mut t = store.begin().unwrap();
+            t.call_op_within(0, calls[at], LONG).unwrap().expected("ok").unwrap();
+            t.commit().is_ok()
+        })?;
+        let mutex = counted_plainly(threads, limit);
+        println!(
+            "turns_store_{threads} {turns:.0}\nattempts_store_{threads} {attempts:.0}\nbegun_store_{threads} {begun:.0}\nturns_mutex_{threads} {mutex:.0}"
+        );
     }
     Ok(())
 }

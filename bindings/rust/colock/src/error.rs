@@ -65,6 +65,14 @@ pub enum Error {
     },
     /// No operation of a call was legal, where [`Reply::executed`](crate::Reply::executed) asked for it.
     Illegal,
+    /// No operation of the call at this place, from 0, was legal, where calls were [peeked](crate::SharedStore::peek) at.
+    IllegalAt(usize),
+    /// A call was [peeked](crate::SharedStore::peek) at of which an operation may change something.
+    Changes,
+    /// More calls in one [attempt](crate::SharedStore::attempt) than a child takes, which are 64.
+    TooManyCalls,
+    /// What was read of a child in several lines was of several moments, each time that it was asked again.
+    NoMoment,
     /// A call was answered otherwise than its caller expected. The operation was executed, and is in the transaction as
     /// long as that isn't rolled back or aborted.
     Unexpected {
@@ -87,6 +95,9 @@ pub enum Error {
     /// The child was lost while a commit was in flight: it may be durable or not. This is the transaction's id,
     /// by which [`SharedStore::committed`](crate::SharedStore::committed) says what became of it, with the file open again.
     OutcomeUnknown(TransactionId),
+    /// The child was lost while an [attempt](crate::SharedStore::attempt) was in flight: it may be durable or not, and no id of
+    /// it is known.
+    AttemptUnknown,
     /// The store was closed, by [`SharedStore::close`](crate::SharedStore::close).
     Closed,
     /// A file wasn't opened or made, by the words of the program, or by why it wasn't started.
@@ -223,6 +234,7 @@ impl Error {
             code::NO_STATE => Error::NoState,
             code::NO_OPERATION => Error::NoOperation,
             code::NEEDS_ESCROW => Error::NeedsEscrow,
+            code::CHANGES => Error::Changes,
             other => Error::Unknown(other.into()),
         }
     }
@@ -314,11 +326,16 @@ impl Error {
             Error::Busy { blocker } => write!(f, "transaction {blocker} is in the way"),
             Error::Illegal => f.write_str("no operation of the call is legal"),
             Error::Deadlock { waited_for } => write!(f, "a deadlock: the transaction waited for {waited_for}, and was aborted"),
+            Error::IllegalAt(at) => write!(f, "no operation of call {at} is legal"),
+            Error::Changes => f.write_str("an operation of the call may change something"),
+            Error::TooManyCalls => f.write_str("more calls in one attempt than a child takes"),
+            Error::NoMoment => f.write_str("what was read was of several moments"),
             Error::Unexpected { call, reply } => write!(f, "{call} was answered {reply}"),
             Error::TimedOut => f.write_str("the limit of the wait is over"),
             Error::EpochEnded => f.write_str("a new epoch began, which aborted the transaction"),
             Error::ConnectionLost(words) => write!(f, "the store is lost: {words}"),
             Error::OutcomeUnknown(id) => write!(f, "the store was lost while transaction {id} was committed"),
+            Error::AttemptUnknown => f.write_str("the store was lost while an attempt was made"),
             Error::Closed => f.write_str("the store is closed"),
             Error::CannotOpen(words) => write!(f, "the store can't be opened: {words}"),
             Error::CannotExtend(words) => write!(f, "no objects were added: {words}"),

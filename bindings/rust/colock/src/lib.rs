@@ -86,6 +86,32 @@
 //! # Ok::<(), colock::Error>(())
 //! ```
 //!
+//! # Whole transactions in one call, and reads that wait for nobody
+//!
+//! [`SharedStore::attempt`] begins, makes its calls and commits, or says which call ended it. [`SharedStore::peek`] reads what is
+//! committed, all of it at one [`Moment`], whoever holds the objects.
+//!
+//! ```
+//! use colock::{Attempt, Ending, Kind, SharedStore, Type};
+//!
+//! let (counter, seat) = (Type::counter(100, &[1], Kind::Undo)?, Type::seats(1, Kind::Undo)?);
+//! let store = SharedStore::new([("sold", &counter), ("A12", &seat), ("A13", &seat)], 1_000_000)?;
+//! let mut holder = store.begin()?;
+//! holder.expect("A13", "hold:1", "ok")?;
+//! let done = store.attempt([("A12", "hold:1"), ("A12", "book:1"), ("sold", "inc:1")])?.executed()?;
+//! assert_eq!(done[0].reply, "ok");
+//! let mine = store.moment()?;
+//! let seen = store.peek([("A12", "free"), ("A13", "free")])?; // the hold of A13 isn't committed
+//! assert!(seen.at >= mine && seen.value[0].reply == "0" && seen.value[1].reply == "1");
+//! match store.attempt([("sold", "inc:1"), ("A13", "hold:1")])? {
+//!     Attempt::Done(replies) => println!("{}", replies[1]),
+//!     Attempt::Ended { at: 1, how: Ending::Busy { blocker } } => println!("{blocker} is in the way"),
+//!     Attempt::Ended { at, how } => println!("call {at}: {how:?}"),
+//! }
+//! assert_eq!(store.snapshot()?.value, [1, 2, 0]);
+//! # Ok::<(), colock::Error>(())
+//! ```
+//!
 //! # Threads
 //!
 //! A [`Store`] may go to another thread, and isn't shared between threads but behind a lock, as
@@ -184,6 +210,8 @@
 //! What each call of the library does is proved, and so is what the program `colock serve` answers. This crate is
 //! tested only: its layer of `unsafe` calls, and all of the waiting and of the child.
 
+mod asked;
+mod attempt;
 mod error;
 mod event;
 mod failure;
@@ -191,6 +219,7 @@ mod fork;
 mod limits;
 mod locks;
 mod memory;
+mod moment;
 mod object;
 mod objects;
 mod operation_id;
@@ -203,12 +232,14 @@ mod wait;
 mod wire;
 mod word;
 
+pub use attempt::{Attempt, Ending};
 pub use error::{CheckRefusal, Error, FaultKind, NotFollowed};
 pub use event::Event;
 pub use failure::Failure;
 pub use limits::Limits;
 pub use memory::store::Store;
 pub use memory::transaction::{LeftOpen, Transaction};
+pub use moment::{Moment, Seen};
 pub use object::{NewObject, Object, ObjectRef};
 pub use operation_id::OperationId;
 pub use reply::{Operation, Reply};

@@ -1,3 +1,4 @@
+pub(crate) mod attempts;
 pub(crate) mod calling;
 pub(crate) mod commits;
 mod dropping;
@@ -5,6 +6,7 @@ mod ends;
 mod in_memory;
 pub(crate) mod in_turn;
 mod reading;
+mod reads;
 pub(crate) mod state;
 pub(crate) mod transaction;
 pub(crate) mod turn;

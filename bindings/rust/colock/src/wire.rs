@@ -3,6 +3,7 @@
 pub(crate) mod beginning;
 pub(crate) mod child;
 mod creating;
+mod doing;
 pub(crate) mod dropped;
 pub(crate) mod ending;
 pub(crate) mod extending;
@@ -13,6 +14,7 @@ pub(crate) mod opening;
 pub(crate) mod past;
 mod pipe;
 mod program;
+mod reads;
 pub(crate) mod remote;
 pub(crate) mod request;
 pub(crate) mod slot;

@@ -113,13 +113,15 @@ impl<'a> Arena<'a> {
         let mut drawn = Drawn::new(seed);
         let take_one = || self.left.fetch_update(Ordering::Relaxed, Ordering::Relaxed, |left| left.checked_sub(1)).is_ok();
         while take_one() {
-            let done = match drawn.below(7) {
+            let done = match drawn.below(9) {
                 0 => self.store.retry(&Retry { tries: 5, backoff: Duration::from_micros(50) }, |t| self.ask(t, &mut drawn)),
                 1 => self.store.retry(&Retry::default(), |t| self.wait(t, &mut drawn, LONG)),
                 2 => self.store.transact(|turn| self.turn(turn, &mut drawn)),
                 3 => self.begun(|t| self.wait(t, &mut drawn, Duration::from_micros(300))),
                 4 => self.begun(|t| self.wait(t, &mut drawn, LONG)),
                 5 => self.begun(|t| self.mix(t, &mut drawn)),
+                6 => self.attempt(&mut drawn),
+                7 => self.peek(&mut drawn),
                 _ => self.begun(|t| self.ask(t, &mut drawn)),
             };
             self.moved();
@@ -203,6 +205,29 @@ impl<'a> Arena<'a> {
             }
             self.moved();
         }
+        Ok(())
+    }
+
+    /// A whole transaction in one call, which waits or doesn't.
+    fn attempt(&self, drawn: &mut Drawn) -> Done {
+        let calls: Vec<(u32, &str)> = (0..drawn.below(4)).map(|_| self.random_call(drawn)).collect();
+        let attempt = match drawn.below(3) {
+            0 => self.store.attempt(calls)?,
+            1 => self.store.attempt_within(calls, LONG)?,
+            _ => self.store.attempt_within(calls, Duration::from_micros(drawn.below(500)))?,
+        };
+        attempt.executed().map(drop)
+    }
+
+    /// Reads beside them, of which two see the same where they are of one moment.
+    fn peek(&self, drawn: &mut Drawn) -> Done {
+        let all = self.store.snapshot()?;
+        match self.store.peek([self.random_call(drawn)]) {
+            Ok(_) | Err(Error::Changes | Error::IllegalAt(0)) => {}
+            Err(error) => return Err(error),
+        }
+        let again = self.store.committed_states(0..OBJECTS as u32)?;
+        assert!(all.at < again.at || all == again, "{all:?} {again:?}");
         Ok(())
     }
 

@@ -427,3 +427,33 @@ fn a_child_that_doesnt_end_as_it_was_asked_is_told() {
         assert!(!std::path::Path::new(&format!("/proc/{process}")).exists());
     }
 }
+
+/// Nobody knows what became of an attempt that wasn't answered.
+#[test]
+fn an_attempt_in_flight_is_unknown() {
+    for arm in ["do) exit 3 ;;", "do) ;;", "do) echo \"0 done ok\" ;;"] {
+        let fake = Fake::serving(arm);
+        let limit = if arm.contains("exit") { LONG } else { LIMIT };
+        let store = fake.open_within(limit).unwrap();
+        assert_eq!(store.attempt([(0, "inc:1")]), Err(Error::AttemptUnknown), "{arm}");
+        assert!(lost(|| store.attempt([(0, "inc:1")])).len() > 3);
+        assert!(lost(|| store.attempt_within([(0, "inc:1")], LONG)).len() > 3);
+        assert!(lost(|| store.moment()).len() > 3);
+    }
+    assert_eq!(Error::AttemptUnknown.to_string(), "the store was lost while an attempt was made");
+}
+
+/// Who waits between two tries is told that the child is lost.
+#[test]
+fn an_attempt_that_waits_is_told_of_a_loss() {
+    let fake = Fake::serving("begin) echo \"$tag ok 1.0\" ;;\n    call) echo \"$tag reply ok\" ;;\n    do) echo \"$tag busy 0 1.0\" ;;\n    kept) exit 3 ;;");
+    let store = fake.open().unwrap();
+    let mut holder = store.begin().unwrap();
+    holder.expect(0, "inc:1", "ok").unwrap();
+    thread::scope(|scope| {
+        let waiter = scope.spawn(|| store.attempt_within([(0, "dec:1")], LONG));
+        until_asleep(&store, 1);
+        let words = lost(|| store.kept(0));
+        assert_eq!(waiter.join().unwrap(), Err(Error::ConnectionLost(words)));
+    });
+}

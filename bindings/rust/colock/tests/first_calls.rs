@@ -3,47 +3,11 @@
 
 mod common;
 
-use colock::{Error, Event, Kind, OpenOptions, Reply, SharedStore, TransactionId, Type};
-use common::{counter, lines, number, over_a_child, until, write_program, Drawn, Folder, Telling, Told, COUNTER_ARMS, LONG};
-use std::fs;
+use colock::{Error, Event, Kind, Reply, SharedStore, TransactionId, Type};
+use common::teller::Teller;
+use common::{counter, lines, number, over_a_child, until, Drawn, Telling, Told, LONG};
 use std::sync::Barrier;
 use std::thread;
-use std::time::Duration;
-
-/// A program that serves a counter from 0 to 2, and writes down what it is asked. The first two transactions are 1.0 and
-/// 1.1; a test says what is answered after them: the third begin, the call after it, and so on, a line each.
-fn told() -> String {
-    [
-        "#!/bin/sh\necho \"colock 4 1\"\nexec 3< \"$0.answers\"\nwhile read -r tag verb rest; do",
-        "    echo \"$verb $rest\" >> \"$0.asked\"\n    case \"$verb\" in",
-        COUNTER_ARMS,
-        "    end) echo \"$tag ok\"; exit 0 ;;\n    *) read -r answer <&3; echo \"$tag $answer\" ;;\n    esac\ndone\n",
-    ]
-    .join("\n")
-}
-
-struct Teller(Folder);
-
-impl Teller {
-    /// A program that answers so.
-    fn of(answers: &[&str]) -> Teller {
-        let folder = Folder::new();
-        write_program(&folder.file("teller"), &told());
-        fs::write(folder.file("teller.answers"), answers.join("\n") + "\n").unwrap();
-        fs::write(folder.file("a.db"), "").unwrap();
-        Teller(folder)
-    }
-
-    fn open(&self) -> SharedStore {
-        OpenOptions::new().program(self.0.file("teller")).limit(Duration::from_secs(20)).open(self.0.file("a.db")).unwrap()
-    }
-
-    /// What it was asked after the opening.
-    fn asked(&self) -> Vec<String> {
-        let asked = fs::read_to_string(self.0.file("teller.asked")).unwrap();
-        asked.lines().skip(2).map(|line| line.trim_end().to_string()).collect()
-    }
-}
 
 /// What came of a first call after a transaction 1.0, the name that its transaction has then, and what was asked of a
 /// program that answers so after that.

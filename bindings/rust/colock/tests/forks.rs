@@ -81,7 +81,7 @@ fn a_fork_is_told_that_it_is_one() {
     let fork = Fork::doing(|| {
         let mut are_told = [is_told(store.begin()), is_told(store.kept(0)), is_told(store.events(0)), is_told(store.committed(common::id("1.0")))].to_vec();
         are_told.push(is_told(store.transact(|turn| turn.expect(0, "inc:1", "ok"))));
-        are_told.extend([is_told(store.extend([&counter()])), is_told(store.find("a"))]);
+        are_told.extend([is_told(store.extend([&counter()])), is_told(store.find("a")), are_attempts_told(&store)]);
         // SAFETY: a fork has copies of its own, and doesn't come back to those that the test drops
         let (copy, mut of_t, of_put_off) = unsafe { (std::ptr::read(&store), std::ptr::read(&t), std::ptr::read(&put_off)) };
         are_told.push(is_told(of_t.call(0, "inc:1")));
@@ -102,6 +102,14 @@ fn a_fork_is_told_that_it_is_one() {
     store.close().unwrap();
 }
 
+/// Whether each read and each attempt says that this is a fork.
+fn are_attempts_told(store: &SharedStore) -> bool {
+    let reads = [is_told(store.moment()), is_told(store.snapshot()), is_told(store.committed_states([0])), is_told(store.peek([(0, "inc:1")]))];
+    let attempts = [is_told(store.attempt([(0, "inc:1")])), is_told(store.attempt_within([(0, "inc:1")], LONG))];
+    let named = [is_told(store.peek([("a", "inc:1")])), is_told(store.attempt([("a", "inc:1")])), is_told(store.committed_states(["a"]))];
+    [&reads[..], &attempts, &named].concat().iter().all(|is_told| *is_told)
+}
+
 /// Whether each call of a store that needs its lock says that this is a fork.
 fn are_told(store: &SharedStore) -> bool {
     let read = [
@@ -115,7 +123,7 @@ fn are_told(store: &SharedStore) -> bool {
     let in_memory = [is_told(store.forgotten_count()), is_told(store.forget(1)), is_told(store.renew()), is_told(store.abort_all())];
     let named = [is_told(store.find("a")), is_told(store.kept("a")), is_told(store.extend([&counter()]))];
     let followed = store.follow(&[]).map_err(|followed| followed.error);
-    [&read[..], &done, &in_memory, &named, &[is_told(followed), store.stats().commits == 0]].concat().iter().all(|is_told| *is_told)
+    [&read[..], &done, &in_memory, &named, &[is_told(followed), store.stats().commits == 0, are_attempts_told(store)]].concat().iter().all(|is_told| *is_told)
 }
 
 #[test]

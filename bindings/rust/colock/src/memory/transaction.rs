@@ -343,8 +343,9 @@ impl LeftOpen {
     }
 }
 
+/// What a call of the library answers.
 #[inline(always)]
-fn answered(call: impl FnOnce(*mut sys::Answer) -> u32) -> Result<Outcome, Error> {
+pub(crate) fn answered(call: impl FnOnce(*mut sys::Answer) -> u32) -> Result<Outcome, Error> {
     let mut answer = sys::Answer::default();
     done(call(&mut answer))?;
     match answer.kind {

@@ -6,7 +6,7 @@ use crate::shared::state::{resumed, Held, State, Ticket};
 use crate::shared::{Guard, Guarded, Lock, SharedStore};
 use crate::wire::child::ok;
 use crate::wire::remote::Remote;
-use crate::wire::request::Request;
+use crate::wire::request::{Commits, Request};
 use colock_waiting::Touched;
 use std::mem::ManuallyDrop;
 use std::sync::atomic::Ordering;
@@ -81,7 +81,7 @@ impl SharedStore {
     /// lines in their order, and who was let go first and is kept out looks again.
     fn end_remote(&self, remote: &Remote, mut guard: Guard<'_>, ticket: Ticket, request: Request<'_>, when: When) -> Result<(), Error> {
         guard.is_of_life(ticket)?;
-        let is_abort = request.committed().is_none();
+        let is_abort = request.commits() == Commits::Nothing;
         // who waits is woken now, and is to find that it has ended
         let goes_last = when == When::OthersFirst && guard.waiters.is_empty();
         let slot = if goes_last { guard.remote_state()?.send_last(request)? } else { guard.send(request)? };

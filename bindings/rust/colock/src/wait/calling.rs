@@ -133,7 +133,7 @@ impl SharedStore {
     }
 
     /// Sleeps until the call may be free.
-    fn sleep<'s>(&'s self, mut guard: Guard<'s>, wait: Wait, blocker: Blocker) -> Guarded<'s, ()> {
+    fn sleep<'s>(&'s self, guard: Guard<'s>, wait: Wait, blocker: Blocker) -> Guarded<'s, ()> {
         // the number of a transaction of an epoch that has ended may be another one's
         if let Some(error) = guard.is_of_life(wait.ticket).err().or_else(|| self.lost()) {
             return (guard, Err(error));
@@ -141,14 +141,8 @@ impl SharedStore {
         if is_over(wait.deadline) {
             return (guard, Err(Error::TimedOut));
         }
-        guard.stats.count_sleep(wait.caller.object);
-        let start = Instant::now();
-        let bell = guard.waiters.wait(wait.caller, blocker);
-        guard.settle();
-        let mut guard = asleep(guard, &bell, wait.deadline);
-        guard.waiters.stop(wait.caller.number, &bell);
-        guard.stats.waited += start.elapsed();
-        let woken = match bell.woken() {
+        let (guard, woken) = self.rest(guard, wait.caller, blocker, wait.deadline);
+        let woken = match woken {
             Some(Woken::Again) => Ok(()),
             Some(Woken::Victim { waited_for }) => Err(Error::Deadlock { waited_for: TransactionId::new(wait.ticket.id.life, waited_for) }),
             Some(Woken::Over(Verdict::Lost)) => Err(self.lost().unwrap_or_else(|| Error::ConnectionLost(String::new()))),
@@ -156,6 +150,18 @@ impl SharedStore {
             None => Err(Error::TimedOut),
         };
         (guard, woken)
+    }
+
+    /// Sleeps behind a blocker, up to a moment. It says why the sleep is over, or nothing where the limit is.
+    pub(crate) fn rest<'s>(&'s self, mut guard: Guard<'s>, caller: Caller, blocker: Blocker, deadline: Option<Instant>) -> (Guard<'s>, Option<Woken>) {
+        guard.stats.count_sleep(caller.object);
+        let start = Instant::now();
+        let bell = guard.waiters.wait(caller, blocker);
+        guard.settle();
+        let mut guard = asleep(guard, &bell, deadline);
+        guard.waiters.stop(caller.number, &bell);
+        guard.stats.waited += start.elapsed();
+        (guard, bell.woken())
     }
 
     /// Waits for the end of a transaction, at most this long, and holds nothing meanwhile.

@@ -28,7 +28,7 @@ impl SharedStore {
     }
 
     /// Waits for another end than those that were when they were so many. It gives how many they are.
-    fn wait_for_an_end(&self, seen: u64, deadline: Option<Instant>) -> Result<u64, Error> {
+    pub(crate) fn wait_for_an_end(&self, seen: u64, deadline: Option<Instant>) -> Result<u64, Error> {
         let guard = self.enter()?;
         let waits = guard.ends == seen && self.lost().is_none();
         let guard = if waits { watched(guard, None, deadline) } else { guard };

@@ -6,6 +6,9 @@ use colock_waiting::{Age, Asker, Class, Conflicts, Decision, Number, ObjectIndex
 use std::collections::BTreeMap;
 use std::sync::{Arc, Condvar, OnceLock};
 
+/// The numbers of attempts that wait are greater: no transaction has one.
+const ATTEMPTS: u64 = 1 << 32;
+
 /// Why a sleep is over.
 #[derive(Clone, Copy, Debug, PartialEq, Eq)]
 pub(crate) enum Woken {
@@ -156,6 +159,12 @@ impl Waiters {
         self.waiting.leave(Number(number));
     }
 
+    /// An attempt that begins to wait: it has an age, and a number that is nobody's.
+    pub(crate) fn next_attempt(&mut self, object: u32, call: OperationId) -> Caller {
+        let age = self.next_age();
+        Caller { number: ATTEMPTS + age, age, object, call }
+    }
+
     // ---- what others do
 
     /// A transaction has ended, which had touched some objects.
@@ -168,6 +177,11 @@ impl Waiters {
     /// A transaction has taken back operations of its own.
     pub(crate) fn took_back(&mut self, number: u64, touched: Touched) {
         self.waiting.took_back(Number(number), touched);
+    }
+
+    /// Somebody for whom nobody waits has changed what is at some objects.
+    pub(crate) fn let_go(&mut self, touched: Touched) {
+        self.waiting.took_back(Number(ATTEMPTS), touched);
     }
 
     /// Any transaction may have ended.

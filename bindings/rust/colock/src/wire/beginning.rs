@@ -8,6 +8,9 @@
 //! or refused. Nothing else is asked by a name that wasn't answered.
 //!
 //! What else a thread asks, and what is asked of the whole store, comes after the begins that it put off.
+//!
+//! An attempt, which is a whole transaction in one line, takes a number too, where it isn't refused. So for what is foretold
+//! it counts as a begin, whose name nobody is told.
 
 use crate::error::Error;
 use crate::reply::Outcome;
@@ -29,8 +32,11 @@ use std::time::{Duration, Instant};
 /// With this many transactions none is put off any more: 1,024 may be open, and the begin of one more is refused at once.
 const MOST_PUT_OFF: usize = 512;
 
+/// The greatest number in a request.
+const GREATEST_NUMBER: u64 = u32::MAX as u64;
+
 /// How long it is waited before a full epoch is asked again for a begin.
-const WHILE_FULL: Duration = Duration::from_millis(5);
+pub(crate) const WHILE_FULL: Duration = Duration::from_millis(5);
 
 /// The begins of a client over a child.
 #[derive(Debug, Default)]
@@ -93,10 +99,12 @@ impl Names {
         self.written
     }
 
-    /// The name of a begin that is written next. It isn't known where the last one was refused.
+    /// The name of a begin that is written next. It isn't known where the last one was refused, nor where so many attempts were
+    /// written since that no number is left: they may have been those of many epochs.
     fn next(&self) -> Option<TransactionId> {
         let ahead = self.written - self.seen + 1;
-        self.last.map(|id| TransactionId { life: id.life, number: id.number.saturating_add(ahead) })
+        let named = self.last.map(|id| TransactionId { life: id.life, number: id.number.saturating_add(ahead) });
+        named.filter(|id| id.number <= GREATEST_NUMBER)
     }
 
     /// A begin was answered, maybe after one that was written later.
@@ -156,6 +164,28 @@ impl RemoteState {
         let slot = self.conversation.put_last(commit);
         self.conversation.ask_all()?;
         Ok(slot)
+    }
+
+    /// Asks for a whole transaction, which takes a number where it begins.
+    pub(crate) fn send_attempt(&mut self, attempt: Request<'_>) -> Result<Arc<Slot>, Error> {
+        self.put_due(Some(thread::current().id()));
+        self.begins.names.write();
+        let slot = self.conversation.put(attempt);
+        self.conversation.ask_all()?;
+        Ok(slot)
+    }
+
+    /// Asks for what a thread asks in several requests, one right after the other.
+    pub(crate) fn send_together<'a>(&mut self, requests: impl ExactSizeIterator<Item = Request<'a>>) -> Result<Vec<Arc<Slot>>, Error> {
+        self.put_due(Some(thread::current().id()));
+        let last = requests.len() - 1;
+        let slots = requests.enumerate().map(|(at, request)| match at == last {
+            true => self.conversation.put(request),
+            false => self.conversation.put_part(request),
+        });
+        let slots = slots.collect();
+        self.conversation.ask_all()?;
+        Ok(slots)
     }
 
     /// Asks for something that may be answered late, with a question after it: the answer to that says that it was read.
@@ -321,7 +351,7 @@ impl SharedStore {
 
 #[cfg(test)]
 mod tests {
-    use super::Names;
+    use super::{Names, GREATEST_NUMBER};
     use crate::TransactionId;
 
     fn id(life: u64, number: u64) -> Option<TransactionId> {
@@ -341,6 +371,22 @@ mod tests {
         names.see(3, id(3, 9));
         names.see(2, id(3, 8)); // seen after the later one
         assert_eq!(names.next(), id(3, 10));
+    }
+
+    #[test]
+    fn an_attempt_takes_a_name_that_nobody_is_told() {
+        let mut names = Names::default();
+        names.write();
+        names.see(1, id(3, 7));
+        names.write(); // an attempt, which gets 8
+        assert_eq!((names.next(), names.write()), (id(3, 9), 3));
+        names.see(3, id(3, 9));
+        names.write(); // an attempt that is refused
+        assert_eq!(names.next(), id(3, 11));
+        // so many attempts that no number is left
+        names.written += GREATEST_NUMBER - 11;
+        assert_eq!(names.next(), id(3, GREATEST_NUMBER));
+        assert_eq!((names.write(), names.next()), (GREATEST_NUMBER - 6, None));
     }
 
     #[test]

@@ -9,7 +9,7 @@ use crate::wire::flight::{no_line, Flight};
 use crate::wire::past::Found;
 use crate::wire::pipe::taken_at_once;
 use crate::wire::program::{found_in, nameless_file, said_in};
-use crate::wire::request::{answer, Answer, Request};
+use crate::wire::request::{answer, Answer, Commits, Request};
 use crate::wire::slot::{Form, Pending, Slot};
 use std::fs::File;
 use std::io::{self, ErrorKind, Read, Write};
@@ -74,7 +74,7 @@ impl Link {
         };
         let (input, output) = (Mutex::new(Some(Unforked::new(input))), Unforked::new(output));
         let greeting = Arc::new(Slot::default());
-        let first = Pending { tag: 0, form: Form::Greeting, commits: None, wakes: false, is_last: false, slot: Arc::clone(&greeting) };
+        let first = Pending { tag: 0, form: Form::Greeting, commits: Commits::Nothing, wakes: false, is_last: false, slot: Arc::clone(&greeting) };
         let (child, flight, origin) = (Mutex::new(child), Mutex::new(Flight::new(first)), Origin::here());
         let link = Arc::new(Link { child, input, flight, said, limit, origin, reason: OnceLock::new(), store: OnceLock::new() });
         let reading = Arc::clone(&link);
@@ -339,6 +339,15 @@ impl Conversation {
         self.put_so(request, true)
     }
 
+    /// The same, of a part of what a thread asks, which waits for a later part too.
+    pub(crate) fn put_part(&mut self, request: Request<'_>) -> Arc<Slot> {
+        let slot = self.put(request);
+        if let Some(pending) = self.requests.last_mut() {
+            pending.wakes = false;
+        }
+        slot
+    }
+
     fn put_so(&mut self, request: Request<'_>, is_last: bool) -> Arc<Slot> {
         self.tag += 1;
         // a write into memory doesn't fail
@@ -351,7 +360,7 @@ impl Conversation {
         };
         let slot = Arc::new(Slot::default());
         let wakes = !matches!(request, Request::Begin | Request::Abort(_) | Request::Extend(_));
-        self.requests.push(Pending { tag: self.tag, form, commits: request.committed(), wakes, is_last, slot: Arc::clone(&slot) });
+        self.requests.push(Pending { tag: self.tag, form, commits: request.commits(), wakes, is_last, slot: Arc::clone(&slot) });
         slot
     }
 

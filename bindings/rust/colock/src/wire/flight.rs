@@ -212,6 +212,7 @@ fn shown(line: &[u8]) -> String {
 #[cfg(test)]
 mod tests {
     use super::{Flight, NEXT_OF_LATE, WRITTEN_AT_ONCE};
+    use crate::wire::request::Commits;
     use crate::wire::slot::{Form, Pending, Slot};
     use crate::Error;
     use std::sync::Arc;
@@ -220,7 +221,7 @@ mod tests {
     const ROOM: usize = 65_536;
 
     fn pending(tag: u64, is_last: bool) -> Pending {
-        Pending { tag, form: Form::One, commits: None, wakes: true, is_last, slot: Arc::new(Slot::default()) }
+        Pending { tag, form: Form::One, commits: Commits::Nothing, wakes: true, is_last, slot: Arc::new(Slot::default()) }
     }
 
     /// A flight whose greeting is there.

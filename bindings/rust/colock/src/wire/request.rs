@@ -2,6 +2,7 @@
 
 use crate::error::Error;
 use crate::event::Event;
+use crate::moment::Moment;
 use crate::operation_id::OperationId;
 use crate::transaction_id::{decimal, TransactionId};
 use std::fmt;
@@ -15,6 +16,12 @@ pub(crate) enum Request<'a> {
     Commit(TransactionId),
     Abort(TransactionId),
     Rollback(TransactionId, u32),
+    /// Calls of a whole transaction, as `X NAME X NAME..`.
+    Do(&'a str),
+    /// Calls of a read, in the same way.
+    Peek(&'a str),
+    /// Objects, whose committed states are asked for.
+    Committed(&'a str),
     Kept(u32),
     Objects,
     Types,
@@ -36,11 +43,12 @@ impl Request<'_> {
         matches!(self, Request::Events(..) | Request::Stats)
     }
 
-    /// The transaction that it commits.
-    pub(crate) fn committed(&self) -> Option<TransactionId> {
+    /// What it commits.
+    pub(crate) fn commits(&self) -> Commits {
         match self {
-            Request::Commit(id) => Some(*id),
-            _ => None,
+            Request::Commit(id) => Commits::Transaction(*id),
+            Request::Do(_) => Commits::Attempt,
+            _ => Commits::Nothing,
         }
     }
 }
@@ -54,6 +62,9 @@ impl fmt::Display for Request<'_> {
             Request::Commit(id) => write!(f, "commit {id}"),
             Request::Abort(id) => write!(f, "abort {id}"),
             Request::Rollback(id, count) => write!(f, "rollback {id} {count}"),
+            Request::Do(calls) => write!(f, "do {calls}"),
+            Request::Peek(calls) => write!(f, "peek {calls}"),
+            Request::Committed(objects) => write!(f, "committed {objects}"),
             Request::Kept(object) => write!(f, "kept {object}"),
             Request::Objects => f.write_str("objects"),
             Request::Types => f.write_str("types"),
@@ -63,6 +74,15 @@ impl fmt::Display for Request<'_> {
             Request::End => f.write_str("end"),
         }
     }
+}
+
+/// What a request commits. Where no answer comes, nothing is known of that.
+#[derive(Clone, Copy, Debug, PartialEq, Eq)]
+pub(crate) enum Commits {
+    Nothing,
+    Transaction(TransactionId),
+    /// A transaction without a name that the client knows.
+    Attempt,
 }
 
 /// The last line of an answer, without the tag.
@@ -75,6 +95,14 @@ pub(crate) enum Answer<'a> {
     /// The epoch is full, or others add objects.
     Drain,
     None,
+    /// The replies of an attempt.
+    Done(&'a str),
+    /// How the call at a place ended an attempt, or kept a read from its answer.
+    BusyAt(usize, TransactionId),
+    NoneAt(usize),
+    RefusedAt(usize, Error),
+    /// What was read, and at which moment.
+    Seen(Moment, &'a str),
     /// Why no objects are added.
     No(&'a str),
     Refused(Error),
@@ -87,12 +115,42 @@ pub(crate) fn answer(line: &str) -> Option<Answer<'_>> {
         ("ok", rest) => Some(Answer::Ok(rest)),
         ("reply", name) if !name.is_empty() => Some(Answer::Reply(name)),
         ("busy", "drain") => Some(Answer::Drain),
-        ("busy", id) => id.parse().ok().map(Answer::Busy),
+        ("busy", rest) => busy(rest),
         ("none", "") => Some(Answer::None),
+        ("none", at) => place(at).map(Answer::NoneAt),
+        ("done", replies) if !replies.is_empty() => Some(Answer::Done(replies)),
+        ("seen", rest) => seen(rest),
         ("no", why) if !why.is_empty() => Some(Answer::No(why)),
-        ("refused", kind) => refusal(kind).map(Answer::Refused),
+        ("refused", rest) => refused(rest),
         _ => None,
     }
+}
+
+/// Who is in the way of a call, which may be told by its place.
+fn busy(rest: &str) -> Option<Answer<'_>> {
+    match rest.split_once(' ') {
+        None => rest.parse().ok().map(Answer::Busy),
+        Some((at, id)) => Some(Answer::BusyAt(place(at)?, id.parse().ok()?)),
+    }
+}
+
+/// Why a call is refused, which may be told by its place.
+fn refused(rest: &str) -> Option<Answer<'_>> {
+    match rest.split_once(' ') {
+        None => refusal(rest).map(Answer::Refused),
+        Some((at, kind)) => Some(Answer::RefusedAt(place(at)?, refusal(kind)?)),
+    }
+}
+
+/// What was seen at a moment, which is spelled as the name of a transaction.
+fn seen(rest: &str) -> Option<Answer<'_>> {
+    let (at, words) = rest.split_once(' ')?;
+    let TransactionId { life, number } = at.parse().ok()?;
+    Some(Answer::Seen(Moment::new(life, number), words)).filter(|_| !words.is_empty())
+}
+
+fn place(word: &str) -> Option<usize> {
+    decimal(word).and_then(small)
 }
 
 fn refusal(kind: &str) -> Option<Error> {
@@ -104,6 +162,7 @@ fn refusal(kind: &str) -> Option<Error> {
         "HistoryFull" => Error::HistoryFull,
         "NoMemory" => Error::NoMemory,
         "BadRollback" => Error::BadRollback,
+        "Changes" => Error::Changes,
         _ => return None,
     })
 }
@@ -146,7 +205,7 @@ fn small<N: TryFrom<u64>>(number: u64) -> Option<N> {
 #[cfg(test)]
 mod tests {
     use super::{answer, event, Answer, Request};
-    use crate::{Error, Event, OperationId, TransactionId};
+    use crate::{Error, Event, Moment, OperationId, TransactionId};
 
     #[test]
     fn requests_are_spelled() {
@@ -157,6 +216,9 @@ mod tests {
             (Request::Would(id, 2, "inc:1"), "would 3.14 2 inc:1"),
             (Request::Rollback(id, 4_294_967_295), "rollback 3.14 4294967295"),
             (Request::Events(5, 65_536), "events 5 65536"),
+            (Request::Do("2 inc:1 3 hold"), "do 2 inc:1 3 hold"),
+            (Request::Peek("2 value"), "peek 2 value"),
+            (Request::Committed("2 3"), "committed 2 3"),
             (Request::Extend("a b.type"), "extend a b.type"),
         ];
         for (request, line) in rows {
@@ -180,7 +242,22 @@ mod tests {
             ("fault BadTag", None),
             ("busy 3", None),
             ("busy 3.+4", None),
-            ("none 4", None),
+            ("done ok 7", Some(Answer::Done("ok 7"))),
+            ("busy 2 3.14", Some(Answer::BusyAt(2, TransactionId { life: 3, number: 14 }))),
+            ("none 4", Some(Answer::NoneAt(4))),
+            ("refused 1 NoCall", Some(Answer::RefusedAt(1, Error::NoCall))),
+            ("seen 3.14 ok 7", Some(Answer::Seen(Moment::new(3, 14), "ok 7"))),
+            ("refused Changes", Some(Answer::Refused(Error::Changes))),
+            ("done", None),
+            ("busy 2 drain", None),
+            ("busy x 3.14", None),
+            ("none x", None),
+            ("none +4", None),
+            ("refused x NoCall", None),
+            ("refused 1 Else", None),
+            ("seen 3.14", None),
+            ("seen 3.14 ", None),
+            ("seen 14 ok", None),
             ("reply", None),
             ("", None),
         ];

@@ -2,7 +2,7 @@
 
 use crate::error::Error;
 use crate::locks::locked;
-use crate::transaction_id::TransactionId;
+use crate::wire::request::Commits;
 use std::mem;
 use std::sync::{Arc, Condvar, Mutex, PoisonError};
 use std::time::Instant;
@@ -96,7 +96,7 @@ pub(crate) enum Form {
 pub(crate) struct Pending {
     pub(crate) tag: u64,
     pub(crate) form: Form,
-    pub(crate) commits: Option<TransactionId>,
+    pub(crate) commits: Commits,
     /// Whether a thread waits for it that may ask again at once.
     pub(crate) wakes: bool,
     /// Whether what others ask may go before it.
@@ -129,33 +129,39 @@ impl Pending {
 
     /// No answer comes, by this error. Whether a commit is done isn't known then.
     pub(crate) fn fail(&self, error: &Error) {
-        self.slot.close("", Err(self.commits.map_or_else(|| error.clone(), Error::OutcomeUnknown)));
+        let told = match self.commits {
+            Commits::Nothing => error.clone(),
+            Commits::Transaction(id) => Error::OutcomeUnknown(id),
+            Commits::Attempt => Error::AttemptUnknown,
+        };
+        self.slot.close("", Err(told));
     }
 }
 
 #[cfg(test)]
 mod tests {
     use super::{Form, Pending, Slot};
+    use crate::wire::request::Commits;
     use crate::{Error, TransactionId};
     use std::sync::Arc;
     use std::time::{Duration, Instant};
 
-    fn pending(form: Form, commits: Option<TransactionId>) -> (Pending, Arc<Slot>) {
+    fn pending(form: Form, commits: Commits) -> (Pending, Arc<Slot>) {
         let slot = Arc::new(Slot::default());
         (Pending { tag: 12, form, commits, wakes: true, is_last: false, slot: Arc::clone(&slot) }, slot)
     }
 
     #[test]
     fn lines_have_owners() {
-        let (one, _) = pending(Form::One, None);
+        let (one, _) = pending(Form::One, Commits::Nothing);
         assert_eq!((one.own("12 ok 3"), one.own("13 ok"), one.own("12"), one.own("12 ")), (Some("ok 3"), None, None, Some("")));
-        let (greeting, _) = pending(Form::Greeting, None);
+        let (greeting, _) = pending(Form::Greeting, Commits::Nothing);
         assert_eq!(greeting.own("colock 4 1"), Some("colock 4 1"));
     }
 
     #[test]
     fn lists_end_with_ok() {
-        let (list, slot) = pending(Form::List, None);
+        let (list, slot) = pending(Form::List, Commits::Nothing);
         assert!(!list.ends_with("op ok ok") && !list.ends_with("") && list.ends_with("ok") && list.ends_with("refused NoMemory"));
         list.add("op ok ok");
         list.add("");
@@ -165,14 +171,17 @@ mod tests {
 
     #[test]
     fn what_is_lost_is_told() {
-        let (one, slot) = pending(Form::One, None);
+        let (one, slot) = pending(Form::One, Commits::Nothing);
         let gone = Error::ConnectionLost("gone".to_string());
         one.fail(&gone);
         assert_eq!(slot.answer_until(None), Some(Err(gone.clone())));
-        let (commit, slot) = pending(Form::One, Some(TransactionId::new(3, 4)));
+        let (commit, slot) = pending(Form::One, Commits::Transaction(TransactionId::new(3, 4)));
         commit.fail(&gone);
         assert_eq!(slot.answer_until(None), Some(Err(Error::OutcomeUnknown(TransactionId::new(3, 4)))));
-        let (_, nothing) = pending(Form::One, None);
+        let (attempt, slot) = pending(Form::One, Commits::Attempt);
+        attempt.fail(&gone);
+        assert_eq!(slot.answer_until(None), Some(Err(Error::AttemptUnknown)));
+        let (_, nothing) = pending(Form::One, Commits::Nothing);
         assert_eq!(nothing.answer_until(Some(Instant::now() + Duration::from_millis(5))), None);
     }
 }

@@ -1,6 +1,8 @@
 //! What the tests of shared stores have in common: a store in memory or in a file, from one list of types.
 #![allow(dead_code, unused_macros)] // each file of tests uses a part
 
+pub mod teller;
+
 use colock::{Error, Kind, OpenOptions, OperationId, Reply, SharedStore, SharedTransaction, TransactionId, Type};
 use std::env;
 use std::fs;
