@@ -84,6 +84,21 @@ A store in memory has 256 objects at most, and 1,024 open transactions, or limit
     >>> many.kept(9_999)
     0
 
+A whole transaction may be one call, which commits, or ends at the first call that isn't executed; and what is committed is
+read without waiting for anybody, all at one moment:
+
+    >>> pair = colock.Store({"one": stock, "other": stock}, max_events=1_000_000)
+    >>> pair.attempt([("one", "inc:2"), ("other", "inc:1")])
+    Done(replies=(Operation('inc:2', 'ok', place=2), Operation('inc:1', 'ok', place=0)))
+    >>> pair.attempt([("other", "dec:1"), ("one", "inc:2"), ("one", "inc:2")])
+    Ended(index=2, how=Illegal())
+    >>> with pair.begin() as transaction:
+    ...     done = transaction.call("one", "dec:2")
+    ...     pair.snapshot()  # without what is open
+    States(at=Moment(epoch=0, commits=1), states=(2, 1))
+    >>> pair.snapshot()
+    States(at=Moment(epoch=0, commits=2), states=(0, 1))
+
 Objects may have names, by which calls then have them; and more may be added while the store lives:
 
     >>> hall = colock.Store({"A1": seat, "A2": seat}, max_events=1_000_000)
@@ -100,6 +115,7 @@ A store has a lock, which each call takes: threads may share it and its transact
 """
 from typing import TYPE_CHECKING as _TYPE_CHECKING
 
+from ._attempts import Attempt, Done, Ended
 from ._errors import (
     BadMax,
     BadName,
@@ -109,6 +125,7 @@ from ._errors import (
     BusyError,
     CannotExtend,
     CannotOpen,
+    Changes,
     ClosedError,
     ConnectionLost,
     DeadlockError,
@@ -146,6 +163,7 @@ from ._errors import (
 from ._events import Event, EventKind
 from ._limits import Limits
 from ._old_names import renamed as _renamed
+from ._reads import Moment, Seen, States
 from ._replies import Busy, Illegal, Operation, Reply
 from ._stats import Stats
 from ._store import Store
@@ -155,6 +173,7 @@ from ._types import Kind, Type, TypeOperation
 __version__ = "0.2.0"
 
 __all__ = [
+    "Attempt",
     "BadMax",
     "BadName",
     "BadParameter",
@@ -164,9 +183,12 @@ __all__ = [
     "BusyError",
     "CannotExtend",
     "CannotOpen",
+    "Changes",
     "ClosedError",
     "ConnectionLost",
     "DeadlockError",
+    "Done",
+    "Ended",
     "EpochEndedError",
     "Error",
     "Event",
@@ -180,6 +202,7 @@ __all__ = [
     "InUse",
     "Kind",
     "Limits",
+    "Moment",
     "NameTaken",
     "NeedsEscrow",
     "NoCall",
@@ -197,6 +220,8 @@ __all__ = [
     "Refused",
     "Reply",
     "Retryable",
+    "Seen",
+    "States",
     "Stats",
     "StillOpenError",
     "Store",

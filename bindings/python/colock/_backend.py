@@ -3,15 +3,17 @@ import threading
 from abc import ABC, abstractmethod
 from collections import deque
 from types import GeneratorType
-from typing import TYPE_CHECKING, Callable, Deque, Dict, Generator, Iterable, List, Optional, TypeVar, Union, cast
+from typing import TYPE_CHECKING, Callable, Deque, Dict, Generator, Iterable, List, NamedTuple, Optional, Sequence, Tuple, TypeVar, Union, cast
 from weakref import ref
 
+from ._attempts import Attempt
 from ._connection import Slot
 from ._errors import Error, InMemoryOnly, NoObject
 from ._events import Event
 from ._let_go import warn_of_transaction
 from ._library import unsigned
 from ._objects import Given, ObjectRef
+from ._reads import Moment, Seen, States
 from ._replies import Reply
 from ._sleepers import Blocker, Sleepers
 from ._stats import Counts
@@ -25,8 +27,22 @@ T = TypeVar("T")
 SECONDS_TO_MEND = 1.0
 # An object's number is below.
 NUMBERS = 1 << 32
+# The number of no transaction.
+NOBODY = (1 << 64) - 1
 # What is left to do, once the lock is free, of what was begun under it.
 Finish = Optional[Callable[[], None]]
+
+
+# Calls that are asked for: each at the object of this number, by its name.
+Pairs = Sequence[Tuple[int, str]]
+
+
+class CallAt(NamedTuple):
+    """A call that is there: the number of its object, its own, and its name."""
+
+    object: int
+    call: int
+    name: str
 
 
 class Holder(ref["Transaction"]):
@@ -260,6 +276,14 @@ class Backend(ABC):
         """The number of the call of this name at an object; None where it isn't there."""
         return self.types[x]._calls.number(name) if x < len(self.types) else None
 
+    def calls_at(self, pairs: Pairs) -> List[CallAt]:
+        """The calls with their numbers. Raises `NoObject` or `NoCall` of the first that isn't there."""
+        return [CallAt(x, self._number_at(x, name), name) for x, name in pairs]
+
+    def _number_at(self, x: int, name: str) -> int:
+        call = self.call_of(x, name)
+        return self.call_number(x, name) if call is None else call
+
     @abstractmethod
     def begin(self, t: "Transaction") -> Asked[bool]:
         """Begins a transaction, which has a life and a number then. False where none begins now, but soon."""
@@ -307,6 +331,27 @@ class Backend(ABC):
     @abstractmethod
     def abort(self, t: "Transaction") -> Finish:
         """Aborts it: for all others it has ended after this."""
+
+    @abstractmethod
+    def attempt(self, pairs: Pairs, worker: int) -> Callable[[], Optional[Attempt]]:
+        """Does a whole transaction: for all others it has ended after this. What it gives says, outside the lock, what came of
+        it; None where none begins now, but soon."""
+
+    @abstractmethod
+    def moment(self) -> Asked[Moment]:
+        """How many transactions have committed."""
+
+    @abstractmethod
+    def peek(self, pairs: Pairs) -> Asked[Seen]:
+        """What these calls are replied to a transaction that only reads what is committed."""
+
+    @abstractmethod
+    def states(self, objects: Sequence[int]) -> Asked[States]:
+        """The committed states of these objects."""
+
+    @abstractmethod
+    def snapshot(self) -> Asked[States]:
+        """The committed states of all objects."""
 
     @abstractmethod
     def call_number(self, x: int, name: str) -> int:

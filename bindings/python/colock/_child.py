@@ -1,14 +1,13 @@
 """A durable store, over a child process `colock serve`."""
-import re
 import threading
 import time
 from contextlib import suppress
 from functools import partial
-from typing import TYPE_CHECKING, Callable, Collection, Dict, List, NoReturn, Optional, Sequence, Tuple
-from typing import Type as Class
+from typing import TYPE_CHECKING, Callable, Collection, Dict, List, NoReturn, Optional, Sequence, Tuple, Union
 
-from ._backend import Backend, Finish, Steps
-from ._calls import Calls
+from ._asking import MOST_ASKED, MOST_EVENTS, REFUSALS, Asking
+from ._attempts import Attempt, Done, Ended
+from ._backend import NOBODY, CallAt, Finish, Pairs
 from ._connection import Connection, Slot
 from ._errors import (
     BadRollback,
@@ -17,45 +16,28 @@ from ._errors import (
     ConnectionLost,
     EpochEndedError,
     Error,
-    HistoryFullError,
     InMemoryOnly,
     NoCall,
-    NoMemory,
     NoObject,
     NotOpenError,
     OutcomeUnknown,
     TimedOut,
-    TooManyOpenError,
 )
-from ._events import Event, read_event
 from ._extensions import Extending, Work, check_addition, refuse_objects
 from ._object_files import room_for_words, write_objects
 from ._objects import Given
-from ._outcomes import Archive, outcome_in
-from ._replies import Busy, Operation, Reply
+from ._outcomes import Archive
+from ._replies import Busy, Illegal, Operation, Reply
 
 if TYPE_CHECKING:
     from ._transaction import Transaction
 
-# A request for events is answered with at most this many.
-MOST_TOLD = 65_536
-MOST_EVENTS = 1 << 32
-REFUSALS: Dict[str, Class[Error]] = {
-    "NotOpen": EpochEndedError,
-    "NoObject": NoObject,
-    "NoCall": NoCall,
-    "TooManyOpen": TooManyOpenError,
-    "HistoryFull": HistoryFullError,
-    "NoMemory": NoMemory,
-    "BadRollback": BadRollback,
-}
-STATS = re.compile(rb"ok events ([0-9]+) begun [0-9]+ open ([0-9]+)")
 # The most bytes of a request, and how long it is waited before one is made again that was answered `busy drain`.
 LONGEST_REQUEST = 4_096
 SECONDS_OF_DRAIN = 0.01
 
 
-class Child(Backend):
+class Child(Asking):
     """Transactions behind a pipe. Requests are put under the lock, so their order is that of the decisions here.
 
     Answers are awaited without the lock.
@@ -63,57 +45,20 @@ class Child(Backend):
 
     def __init__(self, connection: Connection, life: int, objects: List[Given], archive: Optional[Archive], extending: Extending) -> None:
         """The store that was opened in this life."""
-        self._connection, self._is_closed, self._has_finished = connection, False, False
-        super().__init__()
+        super().__init__(connection, life, archive)
         # one extension goes on at a time, in a thread of its own, which no signal handler interrupts
         self._extending, self._one_extension = extending, threading.Lock()
-        self.life = self._first_life = life
-        self._archive = archive
-        self._found = connection.found()
         # the open transactions of this life, each with the number of the request by which it last rolled back
         self._open: Dict[int, int] = {}
         # the number of the last end or rollback, and for each object of the last one that let go there
         self._last_end = 0
         self._let_go: Dict[int, int] = {}
-        self._calls: List[Calls] = []
         self.know(0, objects)
         # the request for the end
         self._last: Optional[Slot] = None
         connection.on_loss = self.sleepers.ring_all
-        self.put, self.answer = connection.put, connection.wait
-
-    # ---- requests
-
-    def _check_connection(self) -> None:
-        if self._is_closed:
-            raise ClosedError(ClosedError.__doc__)
-        if self._connection.lost is not None:
-            raise ConnectionLost(self._connection.lost)
-
-    def _request(self, words: str, then: Callable[[bytes], object], cut: Optional[Callable[[], None]] = None) -> Slot:
-        """A request, with what is made of its answer."""
-        slot = self._connection.made(words)
-        slot.then, slot.cut = then, cut
-        return slot
-
-    def _break(self, answer: bytes) -> NoReturn:
-        """The answer is none."""
-        self._connection.lose(f"the program answered {answer[:80]!r}")
-        raise ConnectionLost(self._connection.lost or "")
-
-    def _refuse(self, answer: bytes) -> NoReturn:
-        """Raises what an answer says that isn't what was asked for."""
-        words = answer.decode("ascii", "replace").split(" ")
-        kind = REFUSALS.get(words[1]) if words[0] == "refused" and len(words) == 2 else None
-        if kind is None:
-            self._break(answer)
-        raise kind(kind.__doc__)
 
     # ---- objects
-
-    def know(self, first: int, added: List[Given]) -> None:
-        super().know(first, added)
-        self._calls[first:] = [of._calls for of, _ in added]
 
     def extend(self, added: List[Given]) -> int:
         self.run(self._check_connection)
@@ -203,9 +148,7 @@ class Child(Backend):
     def _begun(self, answer: bytes) -> Tuple[int, int]:
         """The life and the number of a transaction that has begun."""
         life, number = self._named(answer, answer[3:])
-        if life > self.life:
-            self._end_life()
-            self.life = life
+        self._is_in(life)
         # where another answer was of a later life meanwhile, this one has ended already
         if life == self.life:
             self._open[number] = 0
@@ -233,12 +176,11 @@ class Child(Backend):
             # at which objects it let go isn't known
             self._put_with(slot, lambda: self._has_ended(slot, number, range(len(self.types)), aborts))
 
-    def _named(self, answer: bytes, name: bytes) -> Tuple[int, int]:
-        """The life and the number of a transaction."""
-        life, _, number = name.partition(b".")
-        if not (life.isdigit() and number.isdigit()):
-            self._break(answer)
-        return int(life), int(number)
+    def _is_in(self, life: int) -> None:
+        """The store was in this life."""
+        if life > self.life:
+            self._end_life()
+            self.life = life
 
     def _end_life(self) -> None:
         """Another epoch has begun: what was open is aborted."""
@@ -277,9 +219,6 @@ class Child(Backend):
 
     def is_open(self, life: int, number: int) -> bool:
         return not self.is_lost() and life == self.life and number in self._open
-
-    def is_lost(self) -> bool:
-        return self._is_closed or self._connection.lost is not None
 
     def is_stale(self, x: int, blocker: int) -> bool:
         # an end or a rollback that was asked after the call, while its answer was awaited
@@ -443,113 +382,82 @@ class Child(Backend):
                 raise EpochEndedError(EpochEndedError.__doc__)
             self._refuse(answer)
 
-    # ---- the store
+    # ---- whole transactions
 
-    def call_number(self, x: int, name: str) -> int:
+    def attempt(self, pairs: Pairs, worker: int) -> Callable[[], Optional[Attempt]]:
         self._check_connection()
-        if x >= len(self._calls):
-            raise NoObject(NoObject.__doc__)
-        call = self._calls[x].number(name)
-        if call is None:
-            raise NoCall(NoCall.__doc__)
-        return call
+        if worker != 0:
+            raise InMemoryOnly("a worker other than 0 attempts a transaction only in memory")
+        if len(pairs) > MOST_ASKED:
+            raise ValueError(f"an attempt of a store in a file has {MOST_ASKED} calls at most, and not {len(pairs)}")
+        calls = self.calls_at(pairs)
+        slot = self._connection.made(" ".join(["do", *(f"{x} {name}" for x, _, name in calls)]))
+        self._put_with(slot, lambda: self._lets_go(slot, {x for x, _, _ in calls}))
+        return lambda: self._finish_attempt(slot, calls)
 
-    def kept(self, x: int) -> Slot:
-        self._check_connection()
-        if x >= len(self.types):
-            raise NoObject(NoObject.__doc__)
-        return self._request(f"kept {x}", self._state_in)
+    def _lets_go(self, slot: Slot, touched: Collection[int]) -> None:
+        """A whole transaction was asked for, where it was written: who sleeps at one of its objects may be free behind it."""
+        if not slot.written:
+            return
+        for x in touched:
+            self._let_go[x] = slot.number
+        if self.sleepers.calls:
+            self.sleepers.took_back(NOBODY, touched)
 
-    def _state_in(self, answer: bytes) -> int:
-        if not (answer.startswith(b"ok ") and answer[3:].isdigit()):
-            self._refuse(answer)
-        return int(answer[3:])
-
-    def _counts_in(self, answer: bytes) -> Tuple[int, int]:
-        """How many events there are, and how many transactions are open."""
-        told = STATS.fullmatch(answer)
-        if told is None:
-            self._refuse(answer)
-        return int(told[1]), int(told[2])
-
-    def open_count(self) -> Slot:
-        self._check_connection()
-        return self._request("stats", lambda answer: self._counts_in(answer)[1])
-
-    def event_count(self) -> Slot:
-        self._check_connection()
-        return self._request("stats", lambda answer: self._counts_in(answer)[0])
-
-    def events(self, start: int) -> Steps[Callable[[], List[Event]]]:
-        lines: Optional[List[bytes]] = None
-        while lines is None:
-            lines = yield from self._event_lines(start)
-        told = lines
-        return lambda: self._read_events(told)
-
-    def _read_events(self, lines: List[bytes]) -> List[Event]:
-        """The events of these lines."""
+    def _finish_attempt(self, slot: Slot, calls: List[CallAt]) -> Optional[Attempt]:
+        """What came of it, outside the lock. From when it was written it isn't known what becomes of it."""
         try:
-            return [read_event(line.decode("ascii").split(" ")) for line in lines]
-        except ValueError as error:
-            self._connection.lose(f"the program told what is no event: {error}")
-            raise ConnectionLost(self._connection.lost or "") from error
+            answer = self._connection.wait(slot)
+        except ConnectionLost as lost:
+            if not slot.written:
+                raise
+            raise OutcomeUnknown("") from lost
+        with self.lock:
+            self.put_right()
+            if answer == b"busy drain":
+                return None
+            told = self._done(calls, answer)
+            if told is not None:
+                self.counts.commits += 1
+                return told
+            ended = self._ended_at(calls, answer)
+            self.counts.aborts += 1
+            if isinstance(ended.how, Busy):
+                self.counts.busy[calls[ended.index].object] += 1
+            return ended
 
-    def _event_lines(self, start: int) -> Steps[Optional[List[bytes]]]:
-        """The lines of the events from a place on; None where another epoch has begun meanwhile."""
-        lines: List[bytes] = []
-        life = self.life
-        while start + len(lines) < MOST_EVENTS:
-            # it may have been closed while an answer was awaited, and then the pipe's number may be a stranger's
-            self._check_connection()
-            slot = self._connection.send(f"events {start + len(lines)} {MOST_TOLD}", True)
-            answer = yield from self.answer_to(slot)
-            if answer != b"ok":
-                self._refuse(answer)
-            lines += slot.lines
-            if len(slot.lines) < MOST_TOLD:
-                break
-        return lines if self.life == life else None
-
-    def committed(self, life: int, number: int) -> Steps[Optional[bool]]:
-        self._check_connection()
-        if life == self.life:
-            return (yield from self._of_this_life(number))
-        if life + 1 == self._first_life:
-            return (yield from self._of_the_life_before(number))
-        # An archived history is named by the store and the last life of its epoch. Of an earlier life of the epoch it
-        # isn't certain: what was lost by a crash left its number to a later transaction. So only the file of this very
-        # life says it.
-        return outcome_in(self._archived(life), number)
-
-    def _of_this_life(self, number: int) -> Steps[Optional[bool]]:
-        """By the events of this life: those after what was found and aborted as the store was opened."""
-        if self.life != self._first_life:
-            return outcome_in((yield from self._event_lines(0)), number)
-        return None if self._found is None else outcome_in((yield from self._event_lines(sum(self._found))), number)
-
-    def _of_the_life_before(self, number: int) -> Steps[Optional[bool]]:
-        """By the events that were found when this opening began, in the life that followed.
-
-        Each opening and each new epoch is a life of its own, so the file was last in that life, and all that was
-        durable of it was found. What isn't among them is gone for ever, and its number may be another's now.
-        """
-        if self._found is None:
+    def _done(self, calls: List[CallAt], answer: bytes) -> Optional[Done]:
+        """The operations of its calls, where it was committed."""
+        verb, *words = answer.decode("ascii", "replace").split(" ")
+        if verb != "done":
             return None
-        lines, count = (yield from self._first_lines()), self._found[0]
-        if lines is None or len(lines) < count:
-            return None
-        return outcome_in(lines[:count], number) or False
+        replies = [self._calls[x].replied(call, reply) for (x, call, _), reply in zip(calls, words)]
+        operations = tuple(operation for operation in replies if operation is not None)
+        if not len(operations) == len(calls) == len(words):
+            self._break(answer)
+        return Done(operations)
 
-    def _first_lines(self) -> Steps[Optional[List[bytes]]]:
-        """The lines of the events of the epoch in which the store was opened, where they are still to be had."""
-        if self._found == (0, 0):
-            return []
-        return (yield from self._event_lines(0)) if self.life == self._first_life else self._archived(self._first_life)
+    def _ended_at(self, calls: List[CallAt], answer: bytes) -> Ended:
+        """Which of its calls ended it, and how. Raises why it wasn't begun."""
+        verb, *words = answer.split(b" ")
+        if len(words) + (verb == b"none") != 2:
+            self._refuse(answer)
+        if not (words[0].isdigit() and int(words[0]) < len(calls)):
+            self._break(answer)
+        return Ended(int(words[0]), self._how(answer, verb, words[-1]))
 
-    def _archived(self, life: int) -> Optional[List[bytes]]:
-        """The lines of the events of the epoch whose last life this was, by the archive, if there is one."""
-        return None if self._archive is None else self._archive.lines(life)
+    def _how(self, answer: bytes, verb: bytes, word: bytes) -> Union[Busy, Illegal, Error]:
+        """How a call ended it."""
+        if verb == b"none":
+            return Illegal()
+        if verb == b"busy":
+            life, number = self._named(answer, word)
+            self._is_in(life)
+            return Busy(number)
+        kind = REFUSALS.get(word.decode("ascii", "replace")) if verb == b"refused" else None
+        if kind is None:
+            self._break(answer)
+        return kind(kind.__doc__)
 
     # ---- the end
 

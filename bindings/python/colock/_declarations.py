@@ -33,6 +33,7 @@ NO_OPERATION = 23
 NOT_LEGAL = 24
 NO_ROOM = 25
 NEEDS_ESCROW = 26
+CHANGES = 27
 
 _P = ctypes.POINTER
 _TEXT = ctypes.c_char_p
@@ -70,6 +71,14 @@ class Shape(ctypes.Structure):
         ("initial", _64),
         ("ops", _64),
         ("kind", _64),
+    ]
+
+
+class Outcome(ctypes.Structure):
+    _fields_ = [
+        ("kind", _64),
+        ("at", _64),
+        ("number", _64),
     ]
 
 
@@ -116,12 +125,17 @@ SIGNATURES: Dict[str, Any] = {
     "call_number": (_H, _32, _TEXT, _SIZE, _P(_64)),
     "would": (_H, _64, _32, _TEXT, _SIZE, _P(Answer)),
     "would_op": (_H, _64, _32, _64, _P(Answer)),
+    "attempt": (_H, _8, _P(_32), _SIZE, _TEXT, _SIZE, _P(_64), _SIZE, _P(Outcome)),
     "commit": (_H, _8, _64),
     "abort": (_H, _8, _64),
     "rollback": (_H, _8, _64, _64),
     "kept": (_H, _32, _P(_64)),
     "open_count": (_H, _P(_64)),
     "abort_all": (_H,),
+    "peek": (_H, _32, _TEXT, _SIZE, _P(Answer), _P(_64)),
+    "committed": (_H, _32, _P(_64), _P(_64)),
+    "snapshot": (_H, _P(_64), _SIZE, _P(_64)),
+    "commit_count": (_H, _P(_64)),
     "events": (_H, _64, _P(Event), _SIZE, _P(_64)),
     "event_count": (_H, _P(_64), _P(_64)),
     "forget": (_H, _64),

@@ -60,6 +60,10 @@ class NoCall(Error, LookupError):
     """No operation of the object's type has this call."""
 
 
+class Changes(Error, ValueError):
+    """An operation of the call may change something, so it isn't a read."""
+
+
 class TooManyOpenError(Error):
     """As many transactions are open as may be."""
 
@@ -116,6 +120,16 @@ class BusyError(Retryable):
 class IllegalError(Error):
     """What `executed` says of an `Illegal`: no operation of the call was legal."""
 
+    index: Optional[int] = None
+    """Of `Store.peek` the place of the call among those that were given, from 0; else None."""
+
+    @classmethod
+    def at(cls, index: int) -> "IllegalError":
+        """No operation of the call at this place was legal."""
+        error = cls(f"no operation of call {index} is legal")
+        error.index = index
+        return error
+
 
 class UnexpectedError(Error):
     """What `expect` says of an operation with another reply than the one that was expected.
@@ -147,7 +161,8 @@ class ConnectionLost(Error, ConnectionError):
 class OutcomeUnknown(Error, ConnectionError):
     """A commit was in flight when the program was lost: it may be durable or not.
 
-    `id` names the transaction: `Store.committed` of a later opening says what became of it.
+    `id` names the transaction: `Store.committed` of a later opening says what became of it. It is empty of an attempt,
+    whose number nobody told.
     """
 
     def __init__(self, id: str) -> None:
@@ -155,7 +170,8 @@ class OutcomeUnknown(Error, ConnectionError):
         self.id = id
 
     def __str__(self) -> str:
-        return f"whether transaction {self.id} is committed isn't known"
+        who = f"transaction {self.id}" if self.id else "the attempt"
+        return f"whether {who} is committed isn't known"
 
 
 class CannotOpen(Error, OSError):
@@ -319,6 +335,7 @@ CODES: Dict[int, Type[Error]] = {
     22: NoState,
     23: NoOperation,
     26: NeedsEscrow,
+    27: Changes,
 }
 
 # The checker's refusals, with how many numbers each names.

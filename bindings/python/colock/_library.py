@@ -5,12 +5,12 @@ from operator import index
 from typing import Callable, Dict
 
 from ._declarations import BAD_TEXT, LONGEST_NAME, NO_CALL, NO_OPERATION, NOT_HELD, NOT_LEGAL, NOT_OPEN, OK, REFUSED
-from ._declarations import SIGNATURES, VERSION, Answer, Event, Fault, Handle, Shape
+from ._declarations import SIGNATURES, VERSION, Answer, Event, Fault, Handle, Outcome, Shape
 
 # what other modules have of this one: parts of the declarations, the functions and their numbers
 __all__ = [
     "BAD_TEXT", "LONGEST_NAME", "NO_CALL", "NO_OPERATION", "NOT_HELD", "NOT_LEGAL", "NOT_OPEN", "OK", "REFUSED",
-    "Answer", "Event", "Fault", "Handle", "Shape", "functions", "quick", "unsigned",
+    "Answer", "Event", "Fault", "Handle", "Outcome", "Shape", "functions", "quick", "unsigned",
 ]
 
 

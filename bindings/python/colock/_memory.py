@@ -1,16 +1,19 @@
 """A store in memory, over the library."""
 import ctypes
 import time
-from typing import TYPE_CHECKING, Callable, Dict, Iterable, List, Optional, Tuple
+from functools import partial
+from typing import TYPE_CHECKING, Callable, Dict, Iterable, List, Optional, Sequence, Tuple, Union
 
 from . import _library
-from ._backend import Backend, Finish
-from ._errors import Error, NotFollowedError, NotOpenError, done, error_of
+from ._attempts import Attempt, Done, Ended
+from ._backend import NOBODY, Backend, CallAt, Finish, Pairs
+from ._errors import Error, IllegalError, NotFollowedError, NotOpenError, done, error_of
 from ._events import Event, event_of, words_of
 from ._library import functions, quick, unsigned
 from ._limits import Limits
 from ._objects import Given, check_names
 from ._outcomes import outcome_among
+from ._reads import Moment, Seen, States
 from ._replies import Busy, Illegal, Operation, Reply
 from ._sleepers import Blocker, Sleeper
 
@@ -19,13 +22,12 @@ if TYPE_CHECKING:
 
 _BEGIN, _CALL, _CALL_OP, _WOULD, _WOULD_OP = (quick[name] for name in ("begin", "call", "call_op", "would", "would_op"))
 _COMMIT, _ABORT, _ROLLBACK = (quick[name] for name in ("commit", "abort", "rollback"))
+_ATTEMPT, _PEEK, _COMMITTED, _COMMIT_COUNT = (quick[name] for name in ("attempt", "peek", "committed", "commit_count"))
 _ILLEGAL = Illegal()
 # What the library may have done of which the client doesn't know yet.
 Half = Tuple[Optional["Transaction"], int, int]
 # That a transaction was begun.
 _BEGINS: Half = (None, 0, 0)
-# The number of no transaction.
-_NOBODY = (1 << 64) - 1
 
 
 class Memory(Backend):
@@ -42,9 +44,9 @@ class Memory(Backend):
         # the replies are made once, and what a call writes into is used again: all of it is under the lock
         self._replies: List[Dict[int, Operation]] = []
         self.know(0, first)
-        self._answer, self._number = _library.Answer(), ctypes.c_uint64()
+        self._answer, self._number, self._commits = _library.Answer(), ctypes.c_uint64(), ctypes.c_uint64()
         # the number that was begun last
-        self._begun = ctypes.c_uint64(_NOBODY)
+        self._begun = ctypes.c_uint64(NOBODY)
         # a transaction that ends, and how many commits and aborts there are with it; or `_BEGINS`
         self._half: Optional[Half] = None
         done(functions["store_open_with"](self._handle, events, opens, objects))
@@ -204,6 +206,38 @@ class Memory(Backend):
         if not self.sleepers.is_empty():
             self.sleepers.ended(t._number, t._touched)
 
+    def attempt(self, pairs: Pairs, worker: int) -> Callable[[], Attempt]:
+        calls = self.calls_at(pairs)
+        self.put_right()
+        names, count = " ".join(name for _, _, name in calls).encode("ascii"), len(calls)
+        objects, operations, outcome = (ctypes.c_uint32 * count)(*(x for x, _, _ in calls)), (ctypes.c_uint64 * count)(), _library.Outcome()
+        self.sleepers.has_woken = False
+        # who sleeps may be free behind it
+        self.doing = self.sleepers.begin_anew
+        code = _ATTEMPT(self._handle, worker, objects, count, names, len(names), operations, count, outcome)
+        told = None if code else self._came(calls, list(operations), outcome)
+        self.doing = None
+        if told is None:
+            raise error_of(code)
+        return partial(_told_after, told, self.sleepers.has_woken)
+
+    def _came(self, calls: List[CallAt], operations: List[int], outcome: _library.Outcome) -> Attempt:
+        """What came of an attempt, which is counted. Whoever sleeps at an object that it changed may be free by now."""
+        if outcome.kind:
+            self.counts.aborts += 1
+            return Ended(outcome.at, self._how(calls[outcome.at].object, outcome))
+        self.counts.commits += 1
+        if self.sleepers.calls:
+            self.sleepers.took_back(NOBODY, {x for x, _, _ in calls})
+        return Done(tuple(self._replies[x][number] for (x, _, _), number in zip(calls, operations)))
+
+    def _how(self, x: int, outcome: _library.Outcome) -> Union[Busy, Illegal, Error]:
+        """How a call at an object ended it."""
+        if outcome.kind == 1:
+            self.counts.busy[x] += 1
+            return Busy(outcome.number)
+        return _ILLEGAL if outcome.kind == 2 else error_of(outcome.number)
+
     def abort_all(self) -> int:
         self.put_right()
         count = self.open_count()
@@ -213,6 +247,39 @@ class Memory(Backend):
         self.sleepers.all_ended()
         self.doing = None
         return count
+
+    # ---- what is committed
+
+    def moment(self) -> Moment:
+        done(_COMMIT_COUNT(self._handle, self._number))
+        return Moment(self.life, self._number.value)
+
+    def peek(self, pairs: Pairs) -> Seen:
+        replies = [self._peeked(index, call) for index, call in enumerate(self.calls_at(pairs))]
+        return Seen(self.moment(), tuple(replies))
+
+    def _peeked(self, index: int, call: CallAt) -> Operation:
+        """The operation of the call at this place."""
+        name = call.name.encode("ascii")
+        done(_PEEK(self._handle, call.object, name, len(name), self._answer, self._number))
+        if self._answer.kind:
+            raise IllegalError.at(index)
+        return self._replies[call.object][self._answer.number]
+
+    def states(self, objects: Sequence[int]) -> States:
+        states = [self._state(x) for x in objects]
+        return States(self.moment(), tuple(states))
+
+    def _state(self, x: int) -> int:
+        """The committed state of an object."""
+        done(_COMMITTED(self._handle, x, self._number, self._commits))
+        return self._number.value
+
+    def snapshot(self) -> States:
+        count = len(self.types)
+        room = (ctypes.c_uint64 * count)()
+        done(functions["snapshot"](self._handle, room, count, self._number))
+        return States(Moment(self.life, self._number.value), tuple(room))
 
     # ---- the store
 
@@ -283,7 +350,7 @@ class Memory(Backend):
         """What follows from a renewal. It may be done twice, and a signal handler may have gone on in this life meanwhile."""
         if self.life != life:
             self.holders.clear()
-            self._begun.value = _NOBODY
+            self._begun.value = NOBODY
             self.life = life
 
     def extend(self, added: List[Given]) -> int:
@@ -355,6 +422,13 @@ def _begin_store(handle: _library.Handle, objects: List[Given]) -> None:
     done(functions["store_new"](handle))
     for of, _ in objects:
         of._add_to(handle)
+
+
+def _told_after(told: Attempt, has_woken: bool) -> Attempt:
+    """What came of an attempt. Who was woken by it goes first."""
+    if has_woken:
+        _let_others_run()
+    return told
 
 
 def _let_others_run() -> None:

@@ -8,7 +8,7 @@ from ._operations import number_of
 
 @dataclass(frozen=True, repr=False)
 class Operation:
-    """An operation that was executed, in words: its call and its reply.
+    """An operation that was executed, or seen by a peek, in words: its call and its reply.
 
     `place` is where its type lists it. It has an amount where its call may have any, and where a value was asked for,
     which is the amount.

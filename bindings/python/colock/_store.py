@@ -10,7 +10,8 @@ from types import TracebackType
 from typing import Callable, Iterable, List, Optional, Tuple, TypeVar, Union
 from typing import Type as Class
 
-from ._backend import Asked, Backend, Finish
+from ._attempts import Attempt, Ended
+from ._backend import Asked, Backend, Finish, Pairs
 from ._errors import ConnectionLost, DeadlockError, OutcomeUnknown, Retryable, TimedOut
 from ._events import Event
 from ._let_go import warn_of_store
@@ -20,12 +21,16 @@ from ._memory import Memory
 from ._objects import ObjectRef, Objects, given
 from ._opening import Opening, open_child
 from ._outcomes import read_id
+from ._reads import Moment, Seen, States
+from ._replies import Busy
 from ._stats import Stats
 from ._transaction import Transaction
-from ._waiting import Waiting, finished
+from ._waiting import Waiting, deadline_of, finished
 
 T = TypeVar("T")
 Path = Union[str, "os.PathLike[str]"]
+# Calls, each of an object by its number or name, and the name of the call.
+CallsOf = Iterable[Tuple[ObjectRef, str]]
 
 # How long a victim waits for the end of whom it waited for, before it is tried again.
 SECONDS_FOR_BLOCKER = 10.0
@@ -33,8 +38,9 @@ SECONDS_FOR_BLOCKER = 10.0
 SECONDS_FOR_ROOM = 10.0
 # How long a try waits at most for its next one.
 LONGEST_BACKOFF = 1.0
-# How long it waits for the next epoch, each time.
+# How long it waits for the next epoch, each time, and what is said where that doesn't come.
 SECONDS_OF_DRAIN = 0.01
+NO_EPOCH = "the epoch is full, or objects are added, and the next one doesn't begin"
 
 
 class Store:
@@ -156,7 +162,7 @@ class Store:
             time.sleep(SECONDS_OF_DRAIN)
             if self._begins_now(t):
                 return
-        raise TimedOut("the epoch is full, or objects are added, and the next one doesn't begin")
+        raise TimedOut(NO_EPOCH)
 
     def _begin_in_room(self, t: Transaction) -> None:
         """Begins a transaction, where too many are open when one has ended."""
@@ -258,7 +264,7 @@ class Store:
                     finished(done[1])
                     return done[0]
                 if time.monotonic() >= deadline:
-                    raise TimedOut("the epoch is full, or objects are added, and the next one doesn't begin")
+                    raise TimedOut(NO_EPOCH)
                 time.sleep(SECONDS_OF_DRAIN)
         except BaseException as error:
             self._backend.end_turn()
@@ -281,6 +287,56 @@ class Store:
             t._abort_quietly()
             raise
 
+    def attempt(self, calls: CallsOf, wait: Optional[float] = None, worker: int = 0) -> Attempt:
+        """A whole transaction: it begins, makes these calls in their order, and commits.
+
+        `Done` has their operations. At the first call that isn't executed it aborts, and is `Ended`, with the place of that call
+        and `Busy`, `Illegal` or an error. It commits whatever is replied: who wants to look first takes `transact`. Nobody comes
+        between its calls, so nobody waits for it, and it needn't go behind those that wait.
+
+        With `wait`, 0 or more seconds, it isn't ended by `Busy`: it is tried again when the transaction that was in the way has
+        ended, and each second. It holds nothing while it sleeps, and has no turn among those that wait.
+
+        `calls` are 1 or more pairs of an object and the name of a call, in a file at most 64. Raises `NoObject`, `NoCall`,
+        `TooManyOpenError`, `HistoryFullError`, `NoMemory`, `ClosedError`, and `ValueError` of no calls, a negative `wait` or inside
+        of `transact`; with `wait` `TimedOut`. Nothing has changed then. Of a store in a file also `ConnectionLost`, `OutcomeUnknown`
+        where the program was lost before it answered, `TimedOut` where the next epoch doesn't come, and `InMemoryOnly` of a
+        worker other than 0. Where a signal handler raises in it, it may have committed.
+        """
+        who, deadline = unsigned("the worker", worker, 8), None if wait is None else deadline_of(wait)
+        pairs = self._pairs(calls)
+        if not pairs:
+            raise ValueError("an attempt has 1 call or more")
+        self._check_no_turn()
+        while True:
+            told = self._attempted(pairs, who)
+            if deadline is None or not (isinstance(told, Ended) and isinstance(told.how, Busy)):
+                return told
+            try:
+                self._waiting.out_of_the_way(told.how.blocker, deadline)
+            except BaseException as error:
+                self._backend.interrupted(error)
+                raise
+
+    def _attempted(self, pairs: Pairs, worker: int) -> Attempt:
+        """What comes of an attempt, where an epoch is full of one in the next."""
+        deadline = time.monotonic() + self._limit
+        while True:
+            try:
+                told: Optional[Attempt] = self._backend.run(lambda: self._backend.attempt(pairs, worker))()
+            except BaseException as error:
+                self._backend.interrupted(error)
+                raise
+            if told is not None:
+                return told
+            if time.monotonic() >= deadline:
+                raise TimedOut(NO_EPOCH)
+            time.sleep(SECONDS_OF_DRAIN)
+
+    def _pairs(self, calls: CallsOf) -> Pairs:
+        """Calls by the numbers of their objects."""
+        return [(self._number_of(object), name) for object, name in calls]
+
     def committed(self, id: str) -> Optional[bool]:
         """What became of the transaction of this id, `S.N`, as `Transaction.id` and `OutcomeUnknown` give it.
 
@@ -292,6 +348,44 @@ class Store:
         life, number = read_id(id)
         self._check_no_turn()
         return self._told(lambda: self._backend.committed(life, number))
+
+    # ---- what is committed
+
+    def moment(self) -> Moment:
+        """The present moment. What is read from now on is of this one or a later one.
+
+        Raises `ClosedError` or `ConnectionLost`.
+        """
+        self._check_no_turn()
+        return self._told(self._backend.moment)
+
+    def peek(self, calls: CallsOf) -> Seen:
+        """What these calls are replied to a transaction that only reads what is committed, all at one moment.
+
+        It holds nothing, is no event, and waits for nobody, and nobody waits for it. `calls` are pairs of an object and the name
+        of a call. Raises `NoObject` or `NoCall` where one isn't there. Else the first call without a reply says what is raised:
+        `IllegalError`, with its `index`, where no operation of it is legal; `Changes` where an operation of it may change
+        something. Also `ClosedError`; of a store in a file `ConnectionLost`, or `TimedOut` of more than 64 calls of which not
+        all are of one moment.
+        """
+        pairs = self._pairs(calls)
+        self._check_no_turn()
+        return self._told(lambda: self._backend.peek(pairs))
+
+    def committed_states(self, objects: Iterable[ObjectRef]) -> States:
+        """The committed states of these objects, all at one moment: what is left where open transactions are left out.
+
+        Unlike `kept` it is so of each kind. It holds nothing, is no event, and waits for nobody. Raises `NoObject`, `ClosedError`,
+        `ConnectionLost`, or `TimedOut` as `peek`.
+        """
+        numbers = list(map(self._number_of, objects))
+        self._check_no_turn()
+        return self._told(lambda: self._backend.states(numbers))
+
+    def snapshot(self) -> States:
+        """The committed states of all objects, by their numbers, at one moment. As `committed_states`."""
+        self._check_no_turn()
+        return self._told(self._backend.snapshot)
 
     # ---- what is there
 

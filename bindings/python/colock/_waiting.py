@@ -58,7 +58,7 @@ class Waiting:
 
     def call(self, t: "Transaction", x: int, call: int, wait: float) -> Reply:
         """A call that waits this many seconds at most. The lock isn't held."""
-        deadline = _deadline(wait)
+        deadline = deadline_of(wait)
         sleeper = Sleeper(t._number, t._age, x, call)
         try:
             try:
@@ -181,6 +181,21 @@ class Waiting:
         """Waits until a transaction has ended, this many seconds at most. The lock isn't held."""
         self._watch(number, seconds, lambda: self._backend.is_open(life, number))
 
+    def out_of_the_way(self, blocker: int, deadline: float) -> None:
+        """Sleeps until the transaction that was in the way of an attempt has ended, or for a nap. The lock isn't held.
+
+        Raises `TimedOut` where the time is over.
+        """
+        start = time.monotonic()
+        if start >= deadline:
+            with self._backend.lock:
+                self._counts.timeouts += 1
+            raise TimedOut("the limit of a wait is over, and nothing was executed")
+        self.await_end(self._backend.life, blocker, min(deadline - start, SECONDS_OF_NAP))
+        with self._backend.lock:
+            self._counts.waits += 1
+            self._counts.waited += time.monotonic() - start
+
     def in_room(self, begin: Callable[[], None], seconds: float) -> None:
         """Begins a transaction. Where too many are open it waits for an end, this many seconds at most, and then begins."""
         deadline = time.monotonic() + seconds
@@ -223,7 +238,7 @@ def finished(finish: Finish) -> None:
         finish()
 
 
-def _deadline(wait: float) -> float:
+def deadline_of(wait: float) -> float:
     """When a wait is over, by the monotonic clock. Raises `ValueError` where it is negative or no number."""
     if not wait >= 0:
         raise ValueError(f"a wait is {wait!r} seconds")

@@ -7,7 +7,7 @@ import support
 from support import SOON, Run
 
 import colock
-from colock import Busy, Illegal, Type, _child, _memory
+from colock import Busy, Illegal, Type, _asking, _memory
 
 COUNTER = Type.counter(2, [1])
 
@@ -86,7 +86,7 @@ class Calls:
     def test_events_are_read_outside_the_lock(self):
         store, asked = self.make([COUNTER]), []
         store.begin().commit()
-        where, name = (_child, "read_event") if self.is_child else (_memory, "event_of")
+        where, name = (_asking, "read_event") if self.is_child else (_memory, "event_of")
         read = getattr(where, name)
 
         def slowly(words):

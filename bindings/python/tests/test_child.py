@@ -160,7 +160,7 @@ class Opening(Files):
                 for _ in range(100):
                     t.call(0, "take")
             # more than one answer has: the most of one is cut down for this
-            with mock.patch("colock._child.MOST_TOLD", 40):
+            with mock.patch("colock._asking.MOST_TOLD", 40):
                 events = store.events(1)
         self.assertEqual((len(events), str(events[0]), str(events[-1])), (101, "op 0 0 0 0", "commit 0 0"))
 
@@ -180,7 +180,7 @@ class Opening(Files):
                 strangers.extend(end for _ in range(8) for end in socket.socketpair())
             return answer
 
-        with mock.patch("colock._child.MOST_TOLD", 40), mock.patch.object(store._backend, "answer", wait_and_close):
+        with mock.patch("colock._asking.MOST_TOLD", 40), mock.patch.object(store._backend, "answer", wait_and_close):
             self.assertRaises(colock.ClosedError, store.events)
         self.assertIn(pipe, [end.fileno() for end in strangers])
         for end in strangers:

@@ -15,7 +15,7 @@ import support
 from support import LONG, QUICK, SOON, Run, is_running, pid_of, until
 
 import colock
-from colock import Type
+from colock import Kind, Type
 
 INSIDE = os.path.dirname(os.path.abspath(colock.__file__)) + os.sep
 STEP = 7 if QUICK else 1
@@ -89,9 +89,12 @@ class Handler:
 class Calls:
     """Each call at a store, of which nothing is left open by the one that is interrupted."""
 
+    def made(self, types):
+        """A store of these types. In memory a history is as long as some seconds make it."""
+        return self.make(types, **({"fast": True} if self.is_child else {"max_events": 1_000_000_000}))
+
     def setUp(self):
-        # in memory a history is as long as some seconds make it
-        self.store = self.make([COUNTER] * 3, **({"fast": True} if self.is_child else {"max_events": 1_000_000_000}))
+        self.store = self.made([COUNTER] * 3)
         with self.store.begin() as t:
             for x, middle in enumerate(MIDDLE):
                 for _ in range(middle // 100):
@@ -155,9 +158,32 @@ class Calls:
     def test_questions(self):
         for act in (
             lambda: self.store.kept(0), lambda: self.store.events(self.store.event_count() - 2), self.store.stats, self.store.event_count, self.store.open_count,
-            lambda: self.store.call_number(0, "inc:1"), lambda: self.store.committed("99.0"),
+            lambda: self.store.call_number(0, "inc:1"), lambda: self.store.committed("99.0"), self.store.moment, self.store.snapshot,
+            lambda: self.store.committed_states([0, 1, 2]), lambda: self.store.peek([]),
         ):
             self.alone(act)
+
+    def test_peek(self):
+        store = self.made([Type(support.PURSE, Kind.ESCROW)])
+        with store.begin() as t:
+            t.call(0, "give:17").executed()
+
+            def turn(handler):
+                was_raised = handler.during(lambda: store.peek([(0, "value")] * 70))
+                self.assertEqual([of.amount for of in store.peek([(0, "value")] * 2).replies], [500, 500])
+                self.assertEqual((t.call(0, "value").executed().amount, store.open_count(), store.moment().commits), (517, 1, 0))
+                return was_raised
+
+            # so many calls have thousands of bytecodes
+            self.at_each(turn, 41)
+
+    def test_attempt(self):
+        self.alone(lambda: self.store.attempt([(0, "inc:1"), (0, "inc:1")]))
+        self.assertGreater(self.back(), 1)
+
+    def test_attempt_that_is_ended(self):
+        self.alone(lambda: self.store.attempt([(0, "inc:1"), (1, "dec:1")]))
+        self.assertEqual(self.store.kept(0), MIDDLE[0])
 
     def test_retry(self):
         self.alone(lambda: self.store.retry(lambda t: t.call(0, "inc:1").executed()))
@@ -240,6 +266,55 @@ class Calls:
             return was_raised
 
         self.at_each(turn)
+
+    def test_an_attempt_that_waits(self):
+        def turn(handler):
+            holder, is_over = self.store.begin(), threading.Event()
+            holder.call(0, "dec:1").executed()
+            watches, busy = self.store._backend.sleepers.bells, self.store.stats().busy[0]
+
+            def ends():
+                until(lambda: watches or is_over.is_set() or self.store.stats().busy[0] > busy, "the sleep")
+                holder.abort()
+
+            ending = Run(ends)
+            was_raised = handler.during(lambda: self.store.attempt([(0, "inc:1")], wait=LONG).executed())
+            is_over.set()
+            ending.result()
+            self.assertEqual(watches, {})
+            self.store.attempt([(0, "inc:1")], wait=0).executed()
+            self.assertIn(self.back(), (1, 2))
+            self.holds()
+            return was_raised
+
+        self.at_each(turn)
+
+    def test_an_attempt_that_frees_one_who_sleeps(self):
+        """It lets who sleeps behind another transaction go where it commits, wherever it is interrupted."""
+        store = self.made([Type.counter(9, [1, 2], Kind.ESCROW)])
+
+        def turn(handler):
+            low = store.kept(0)
+            store.retry(lambda t: [t.call(0, "dec:1") for _ in range(low - 1)])
+            if low == 0:
+                store.attempt([(0, "inc:1")])
+            holder, t = store.begin(), store.begin()
+            holder.call(0, "dec:1").executed()
+            sleeping = Run(t.call, 0, "dec:1", LONG)
+            until(lambda: store._backend.sleepers.calls, "the sleep")
+            was_raised = handler.during(lambda: store.attempt([(0, "inc:2")]))
+            is_done = store.kept(0) > 1
+            self.assertTrue(is_done or was_raised)
+            if not is_done:
+                holder.abort()
+            self.assertEqual(sleeping.result().executed().reply, "ok")
+            t.abort()
+            if is_done:
+                holder.abort()
+            return was_raised
+
+        self.at_each(turn)
+        self.assertEqual(store.open_count(), 0)
 
     # ---- ends, and who sleeps behind them
 
