@@ -43,7 +43,9 @@ def of_rust(folder, program):
     parts = [[program, part, SECONDS] for part in ("think", "mixed", "turns")]
     best = most(folder, [*parts, [program, "child", SECONDS, os.path.join(folder, "rust.db")]])
     for name, number in best.items():
-        plain = best.get(name.replace("store", "mutex"), 0)
+        # a thread that thinks of nothing counts by the same mutex, in whatever way it counts by the store
+        of_mutex = name.replace("attempts", "turns").replace("begun", "turns").replace("store", "mutex")
+        plain = best.get(of_mutex, 0)
         ratio = f", {number / plain:.2f} of the mutex" if "store" in name and plain else ""
         print(f"Rust: {name} {number:,.0f} commits a second{ratio}")
 

@@ -1,5 +1,6 @@
 //! durable serve PROGRAM DATABASE WINDOW COUNT [--fast]: COUNT transactions at `PROGRAM serve [--fast] DATABASE`, WINDOW of
 //! them at a time.
+//! durable whole PROGRAM DATABASE WINDOW COUNT [--fast]: the same by `do`, a line for each transaction.
 //! durable fill PROGRAM DATABASE COUNT: the same, 1,000 at a time, and then the service is killed.
 //! durable open PROGRAM DATABASE: how long it takes to be greeted; the service is killed then.
 //! durable epoch PROGRAM DATABASE COUNT [OPTIONS]: COUNT transactions, 1,000 at a time, and one that aborts, by which the epoch
@@ -74,10 +75,39 @@ fn transactions(input: &mut ChildStdin, output: &mut ChildStdout, window: usize,
     reads
 }
 
-fn serve(program: &str, database: &str, options: &[String], window: usize, count: usize) {
+/// `count` transactions of one line each, `window` at a time. How many reads of the answers there were.
+fn whole_transactions(input: &mut ChildStdin, output: &mut ChildStdout, window: usize, count: usize) -> usize {
+    let mut buffer = vec![0; 1 << 16];
+    let (mut begun, mut ended, mut reads, mut half) = (window.min(count), 0, 0, String::new());
+    let mut asked = "d do 0 inc:1\n".repeat(begun);
+    while ended < count {
+        input.write_all(asked.as_bytes()).unwrap();
+        asked.clear();
+        let read = output.read(&mut buffer).unwrap();
+        assert!(read > 0, "the service is gone");
+        reads += 1;
+        half.push_str(std::str::from_utf8(&buffer[..read]).unwrap());
+        let whole = half.rfind('\n').map_or(0, |at| at + 1);
+        let lines: String = half.drain(..whole).collect();
+        for line in lines.lines() {
+            assert!(line == "d done ok", "{line}");
+            ended += 1;
+            if begun < count {
+                asked.push_str("d do 0 inc:1\n");
+                begun += 1;
+            }
+        }
+    }
+    reads
+}
+
+/// Makes transactions, so many at a time, in one way or the other.
+type Way = fn(&mut ChildStdin, &mut ChildStdout, usize, usize) -> usize;
+
+fn serve(way: Way, program: &str, database: &str, options: &[String], window: usize, count: usize) {
     let (mut child, mut input, mut output) = greeted(program, database, options);
     let start = Instant::now();
-    let reads = transactions(&mut input, &mut output, window, count);
+    let reads = way(&mut input, &mut output, window, count);
     let seconds = start.elapsed().as_secs_f64();
     input.write_all(b"e end\n").unwrap();
     drop(input);
@@ -165,7 +195,8 @@ fn main() {
     let words: Vec<String> = args().skip(1).collect();
     let number = |at: usize| words[at].parse().unwrap();
     match words[0].as_str() {
-        "serve" => serve(&words[1], &words[2], &words[5..], number(3), number(4)),
+        "serve" => serve(transactions, &words[1], &words[2], &words[5..], number(3), number(4)),
+        "whole" => serve(whole_transactions, &words[1], &words[2], &words[5..], number(3), number(4)),
         "fill" => fill(&words[1], &words[2], number(3)),
         "epoch" => epoch(&words[1], &words[2], number(3), &words[4..]),
         "open" => open(&words[1], &words[2]),
