@@ -107,7 +107,7 @@ class Rooms:
             while Handler(n).during(up):
                 self.assertTrue(store._backend.sleepers.is_bare(), n)
                 n += STEP
-        self.assertGreater(n, 300)
+        self.assertGreater(n, 200)
         begun.pop().abort()
         self.assertEqual(self.up(store), "ok")
 
