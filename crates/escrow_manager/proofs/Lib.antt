@@ -1,6 +1,7 @@
 pub mod Blocking
 pub mod Changing
 pub mod Counting
+pub mod Idling
 pub mod Keeping
 pub mod KeptAmounts
 pub mod KeptMarks

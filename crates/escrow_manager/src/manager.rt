@@ -1,9 +1,9 @@
 ghost use Rattle.type_table.specs.declared.kind.Kind.TheVariants.{Escrow};
-ghost use Rattle.std.specs.Prelude.{IsOk, IfOk, IfErr, ◌≡◌, ◌<◌, ◌↔◌, ◌≤◌, true, List, Some};
+ghost use Rattle.std.specs.Prelude.{IsOk, IfOk, IfErr, ◌≡◌, ◌<◌, ◌↔◌, ◌≤◌, true, List, [], Some};
 ghost use Rattle.escrow_laws.specs.Marks.{mark_of};
 ghost use Rattle.escrow_laws.specs.declared.mark.OpenMark.{OpenMark as MarkOfOne};
 ghost use Rattle.object_trait.specs.Meaning.{own_of, view_of};
-ghost use Rattle.object_trait.specs.Steps.{IsFresh};
+ghost use Rattle.object_trait.specs.Steps.{IsFresh, MayApply, applied, IsCommit};
 ghost use Rattle.escrow_manager.specs.Numeric.{bounds_in, greatest};
 ghost use Rattle.escrow_manager.specs.Kept.{IsKeptInEscrow};
 
@@ -34,7 +34,8 @@ use type_table::{Kind, Operation};
 /// Beside the log it keeps a mark for each transaction that is open here, in the order of their
 /// numbers, and the totals of all marks. `legal` and `apply` look at the transaction's mark, found by
 /// halves; so does `blocker`, and at the totals, where by these nobody keeps anybody. Else it goes
-/// through the log once or twice. `commit`, `abort` and `strike` go through log and marks.
+/// through the log once or twice. `commit`, `abort` and `strike` go through log and marks. Where no
+/// transaction is open, `apply_and_commit` moves the number alone.
 #[derive(Drop)]
 pub struct EscrowManager {
     checked: Arc<CheckedType>,
@@ -120,6 +121,17 @@ impl EscrowManager {
         let mark = self.mark_of(t);
         let number = u64::from(self.base) + mark.above - mark.fall;
         number as u32
+    }
+
+    /// Executes operation k for t, which commits, where no transaction is open: base is the number after it.
+    fn commit_alone(&mut self, t: u32, k: Operation)
+        requires may { MayApply self.old t k }
+        requires idle { self.old.log ≡ [] }
+        ensures { IsCommit (applied self.old t k) t self.new }
+    {
+        let op = bounded(&self.checked, k);
+        // (taken first: with what is given, the number may be more than 32 bits hold)
+        self.base = self.base - op.takes + op.gives;
     }
 }
 
@@ -222,6 +234,17 @@ impl Recovery for EscrowManager {
         take_out(&mut self.log, t);
         drop_mark(&mut self.marks, t);
         self.totals = Totals::of(&self.marks, greatest(&self.checked));
+    }
+
+    #[inline(always)]
+    fn apply_and_commit(&mut self, t: u32, k: Operation) -> Result<(), AllocError> {
+        if self.log.is_empty() {
+            self.commit_alone(t, k);
+            return Ok(());
+        }
+        self.apply(t, k)?;
+        self.commit(t);
+        Ok(())
     }
 
     fn abort(&mut self, t: u32) {

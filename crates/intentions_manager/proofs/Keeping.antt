@@ -89,7 +89,7 @@ legal-told {m} {views} t k h =
 -- ---- a further operation
 
 -- the entry of t that is put after a log
-abbrev entry : ℕ → ℕ → LogEntry
+abbrev pub entry : ℕ → ℕ → LogEntry
 entry t k = record { by = t; op = k; done = false }
 
 -- what t sees after operation k

@@ -3,6 +3,7 @@ pub mod Blocking
 pub mod Committing
 pub mod Counting
 pub mod Cutting
+pub mod Idling
 pub mod Keeping
 pub mod Rewinding
 pub mod Seeing

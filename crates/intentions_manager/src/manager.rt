@@ -1,6 +1,6 @@
-ghost use Rattle.std.specs.Prelude.{◌≡◌, ◌↔◌, IsOk, IfOk, IfErr};
+ghost use Rattle.std.specs.Prelude.{◌≡◌, ◌↔◌, [], IsOk, IfOk, IfErr};
 ghost use Rattle.type_table.specs.declared.kind.Kind.TheVariants.{Intentions};
-ghost use Rattle.object_trait.specs.Steps.{IsFresh};
+ghost use Rattle.object_trait.specs.Steps.{IsFresh, MayApply, applied, IsCommit};
 
 use crate::entries::{carry_from, first_conflict, place_of_last, take_out, word_of};
 use crate::views::{View, drop_view, place_of, put_view, seen_at, seen_by, stepped, walked};
@@ -24,7 +24,8 @@ use type_table::{
 /// Beside the log it keeps one state for each transaction that is open here, in the order of their
 /// numbers. `legal` and `apply` search among these by halves. `view` goes through the log. `commit`,
 /// `abort` and `strike` go through it from the back, and only as far as the transaction's entries reach; a
-/// commit steps each of the other states by each of these entries.
+/// commit steps each of the other states by each of these entries. Where no transaction is open,
+/// `apply_and_commit` steps the base alone.
 #[derive(Drop)]
 pub struct IntentionsManager {
     checked: Arc<CheckedType>,
@@ -82,6 +83,15 @@ impl IntentionsManager {
             word: 0,
             views: Vec::new(alloc),
         }
+    }
+
+    /// Executes operation k for t, which commits, where no transaction is open: base is the state after it.
+    fn commit_alone(&mut self, t: u32, k: Operation)
+        requires may { MayApply self.old t k }
+        requires idle { self.old.log ≡ [] }
+        ensures { IsCommit (applied self.old t k) t self.new }
+    {
+        self.base = stepped(self.checked.table(), self.base, k);
     }
 }
 
@@ -178,6 +188,17 @@ impl Recovery for IntentionsManager {
             self.checked.table(),
         );
         self.word = word_of(&self.log);
+    }
+
+    #[inline(always)]
+    fn apply_and_commit(&mut self, t: u32, k: Operation) -> Result<(), AllocError> {
+        if self.log.is_empty() {
+            self.commit_alone(t, k);
+            return Ok(());
+        }
+        self.apply(t, k)?;
+        self.commit(t);
+        Ok(())
     }
 
     fn abort(&mut self, t: u32) {

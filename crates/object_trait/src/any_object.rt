@@ -70,6 +70,10 @@ impl Recovery for AnyObject {
         self.object.commit(t)
     }
 
+    fn apply_and_commit(&mut self, t: u32, k: Operation) -> Result<(), AllocError> {
+        self.object.apply_and_commit(t, k)
+    }
+
     fn abort(&mut self, t: u32) {
         self.object.abort(t)
     }

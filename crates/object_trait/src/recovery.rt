@@ -81,6 +81,22 @@ pub trait Recovery: Send + Drop {
     fn commit(&mut self, t: u32)
         ensures { IsCommit (meaning self.old) t (meaning self.new) };
 
+    /// Executes operation k for transaction t, and commits t: as `apply`, and then `commit`. An object where no
+    /// transaction is open may do both at once.
+    ///
+    /// # Errors
+    ///
+    /// Memory was refused, and the meaning is as it was.
+    fn apply_and_commit(&mut self, t: u32, k: Operation) -> Result<(), AllocError>
+        requires { MayApply (meaning self.old) t k }
+        ensures committed { OnOk result (IsCommit (applied (meaning self.old) t k) t (meaning self.new)) }
+        ensures unchanged { OnErr result (meaning self.new ≡ meaning self.old) }
+    {
+        self.apply(t, k)?;
+        self.commit(t);
+        Ok(())
+    }
+
     /// Aborts transaction t: its open entries leave the log. With deferred update and in escrow the state
     /// stays, as the same number.
     fn abort(&mut self, t: u32)

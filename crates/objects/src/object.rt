@@ -120,6 +120,15 @@ impl Recovery for Object {
         }
     }
 
+    #[inline(always)]
+    fn apply_and_commit(&mut self, t: u32, k: Operation) -> Result<(), AllocError> {
+        match self {
+            Object::Undo(manager) => manager.apply_and_commit(t, k),
+            Object::Intentions(manager) => manager.apply_and_commit(t, k),
+            Object::Escrow(manager) => manager.apply_and_commit(t, k),
+        }
+    }
+
     fn abort(&mut self, t: u32) {
         match self {
             Object::Undo(manager) => manager.abort(t),

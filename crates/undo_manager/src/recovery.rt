@@ -1,7 +1,8 @@
 //! What the object does at each call.
 
-ghost use Rattle.std.specs.Prelude.{◌≡◌, length};
+ghost use Rattle.std.specs.Prelude.{◌≡◌, [], length};
 ghost use Rattle.object_trait.specs.Meaning.{open_of};
+ghost use Rattle.object_trait.specs.Steps.{MayApply, applied, IsCommit};
 
 use crate::log::{append, mark, place_of, settle, state_before};
 use crate::opened::{count_of, leave_count};
@@ -25,6 +26,21 @@ impl UndoManager {
         ensures { result ≡ length (open_of t self.now.log) }
     {
         count_of(&self.opened, t)
+    }
+
+    /// Executes operation k for t, which commits, where no transaction is open: base and state are the state after it.
+    fn commit_alone(&mut self, t: u32, k: Operation)
+        requires may { MayApply self.old t k }
+        requires idle { self.old.log ≡ [] }
+        ensures { IsCommit (applied self.old t k) t self.new }
+    {
+        sound_after_apply();
+        sound_after_commit();
+        steps_within();
+        ends_within();
+        let state = next_state(self.checked.table(), self.state, k);
+        self.base = state;
+        self.state = state;
     }
 }
 
@@ -93,6 +109,17 @@ impl Recovery for UndoManager {
         leave_count(&mut self.opened, t, 0);
         self.base = settle(&mut self.log, self.state);
         self.held.release(t);
+    }
+
+    #[inline(always)]
+    fn apply_and_commit(&mut self, t: u32, k: Operation) -> Result<(), AllocError> {
+        if self.log.is_empty() {
+            self.commit_alone(t, k);
+            return Ok(());
+        }
+        self.apply(t, k)?;
+        self.commit(t);
+        Ok(())
     }
 
     fn abort(&mut self, t: u32) {
