@@ -1,5 +1,5 @@
 -- One call of an open transaction.
-use Rattle.std.proofs.Common.{◌≡◌, ℕ, ◌+◌, true, false, [], ◌∷◌, length, Option, Some, None, is_some, Ok, Err, refl, sym, ap, ◌∙◌, inl, inr, arith, append-nil}
+use Rattle.std.proofs.Common.{◌≡◌, ℕ, ◌+◌, true, false, [], ◌∷◌, length, Option, Some, None, is_some, Result, Ok, Err, refl, sym, ap, ◌∙◌, inl, inr, arith, append-nil}
 use Rattle.std.specs.Prelude.{if◌then◌else◌}
 use Rattle.std.proofs.lemmas.List.{length-append}
 use Rattle.object_trait.specs.declared.event.Event.{Event}
@@ -16,7 +16,7 @@ use Rattle.store.specs.Calls.{NotesAnswer}
 use Rattle.attempts.specs.declared.outcome.Ending.TheVariants as ending
 use Rattle.attempts.specs.Commands.{CallAt, call_command, is_for_memory, with_kinds, commands_replayed}
 use Rattle.attempts.specs.Answers.{asked_number, missing_call}
-use Rattle.attempts.specs.Made.{replied, CallsAreMade, IsLastCall, MakesCall}
+use Rattle.attempts.specs.Made.{replied, reply_to, CallsAreMade, IsLastCall, MakesCall}
 use Rattle.attempts.proofs.Refusals.{has-number, refused-for, no-memory_fault}
 
 -- ---- what an answer leaves
@@ -107,7 +107,7 @@ module _ (after : SummaryAfter) (s : Stored) (w t : ℕ) (call : CallAt) (now : 
         }
 
     -- an answer
-    pub answered : (a : Answer) → MayStep s w (call_command t call) (Ok a) now
+    answered : (a : Answer) → MayStep s w (call_command t call) (Ok a) now
         → ((c : ℕ) → asked_number (objects s) call ≡ Some c → NotesAnswer s w t (call.0) c (Ok a) now) → MakesCall s w t call (replied a) now
     answered (answer.Reply k) step told = got-reply k step told
     answered (answer.Busy u) step told = kept-out u step told
@@ -119,11 +119,11 @@ module _ (after : SummaryAfter) (s : Stored) (w t : ℕ) (call : CallAt) (now : 
     unchanged : now ≡ s → now ≡ with_kinds s w []
     unchanged same = same ∙ sym (ap (λ H. record s { history = H }) (append-nil s.history))
 
-    refused-stays : (r : Refusal) → refusal_of s (call_command t call) ≡ Some r → stored_after s w (call_command t call) ≡ s
+    pub refused-stays : (r : Refusal) → refusal_of s (call_command t call) ≡ Some r → stored_after s w (call_command t call) ≡ s
     refused-stays r reason =
         ap (λ (o : Option Refusal). record s { history = if is_some o then s.history else appended s.history w (event_of (objects s) (summary s.history) (call_command t call)) }) reason
 
-    pub refused-call : is_history_full s.limits s.history 1 ≡ false → (r : Refusal) → MayStep {T = Answer} s w (call_command t call) (Err r) now → IsLastCall s w t call (ending.Refused r) now
+    refused-call : is_history_full s.limits s.history 1 ≡ false → (r : Refusal) → MayStep {T = Answer} s w (call_command t call) (Err r) now → IsLastCall s w t call (ending.Refused r) now
     refused-call room r (inl steps) =
         let reason : refusal_of s (call_command t call) ≡ Some r = sym steps.0 in
         let fault : missing_call (objects s) call ≡ Some r = sym (refused-for s t call going room) ∙ reason in
@@ -147,3 +147,10 @@ module _ (after : SummaryAfter) (s : Stored) (w t : ℕ) (call : CallAt) (now : 
           events = unchanged memory.2;
           going = ap (λ (z : Stored). is_open (summary z.history) t) memory.2 ∙ going;
         }
+
+    -- ---- a call, however it comes out
+
+    pub came : is_history_full s.limits s.history 1 ≡ false → (r : Result Answer Refusal) → MayStep s w (call_command t call) r now
+        → ((c : ℕ) → asked_number (objects s) call ≡ Some c → NotesAnswer s w t (call.0) c r now) → MakesCall s w t call (reply_to r) now
+    came room (Ok a) step told = answered a step told
+    came room (Err r) step told = refused-call room r step

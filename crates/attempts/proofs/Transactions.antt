@@ -1,5 +1,5 @@
 -- The calls of a transaction that began, one after another, and its end.
-use Rattle.std.proofs.Common.{◌≡◌, ℕ, suc, ◌+◌, ◌<◌, ◌≤◌, Bool, true, false, not, ◌&&◌, ◌==◌, List, [], ◌∷◌, ◌++◌, length, map, take, get_or, Some, None, is_some, slice_get, refl, sym, ap, subst, ◌∙◌, arith, append-nil, add-zero}
+use Rattle.std.proofs.Common.{◌≡◌, ℕ, suc, ◌+◌, ◌<◌, ◌≤◌, Bool, true, false, not, ◌&&◌, ◌==◌, List, [], ◌∷◌, ◌++◌, length, map, take, get_or, Some, None, is_some, slice_get, Result, Ok, Err, refl, sym, ap, subst, ◌∙◌, arith, append-nil, add-zero}
 use Rattle.std.specs.Prelude.{if◌then◌else◌}
 use Rattle.std.specs.Option.{option_map}
 use Rattle.std.proofs.lemmas.Bool.Decides.{nat_tests}
@@ -16,9 +16,10 @@ use Rattle.serial_order.specs.declared.refusal.Refusal.TheVariants.{NotOpen}
 use Rattle.store_laws.specs.Stored.{Stored, objects, stored_after}
 use Rattle.attempts.specs.declared.outcome.AttemptCall.{AttemptCall}
 use Rattle.attempts.specs.declared.outcome.Ending.{Ending}
+use Rattle.attempts.specs.declared.outcome.Stop.{Stop}
 use Rattle.attempts.specs.Commands.{CallAt, asked_call, asked_calls, call_command, is_for_memory, with_kinds, commands_replayed}
 use Rattle.attempts.specs.Answers.{operation_events, EndsSo}
-use Rattle.attempts.specs.Made.{never, CallsAreMade, CallsAreStopped, TransactionCommits, TransactionAborts}
+use Rattle.attempts.specs.Made.{never, CallsAreMade, CallsAreStopped, MakesCalls, TransactionCommits, TransactionAborts, EndsCalls}
 use Rattle.attempts.proofs.Replays.{replayed-more, never-more}
 use Rattle.attempts.proofs.Events.{events-more, operations-more}
 
@@ -107,7 +108,7 @@ just-there true i at same = grind (arith, nat_tests, same)
 just-there false i at same = refl
 
 -- a call that isn't replied to, and the abort behind it
-pub aborted : ReplaysJoin → (s mid now : Stored) (w t : ℕ) (calls : List CallAt) (ks : List ℕ) (at : ℕ) (how : Ending) → CallsAreStopped s w t calls ks at how mid
+aborted : ReplaysJoin → (s mid now : Stored) (w t : ℕ) (calls : List CallAt) (ks : List ℕ) (at : ℕ) (how : Ending) → CallsAreStopped s w t calls ks at how mid
     → now ≡ stored_after mid w (command.Abort t) → TransactionAborts s w t calls at how now
 aborted joins s mid now w t calls ks at how stopped is =
     let call = stopped.call in
@@ -143,3 +144,17 @@ aborted joins s mid now w t calls ks at how stopped is =
       replays = ended ∙ ap (λ cs. commands_replayed s (λ i. m && i == at) w (cs ++ command.Abort t ∷ [])) asked;
       events = events-more s mid now w (operation_events t (take at calls) ks ++ stopped.last.answer) (Abort t ∷ []) answered (is ∙ abort-appends mid w t stopped.last.going);
     }
+
+-- either, of calls that were made or stopped
+module _ (joins : ReplaysJoin) (s mid now : Stored) (w t : ℕ) (calls : List CallAt) (ks : List ℕ) where
+  pub ends-commit : (made : Result (Unit {0}) Stop) (x : Unit {0}) → made ≡ Ok x → now ≡ stored_after mid w (command.Commit t) → MakesCalls s w t calls ks made mid
+      → EndsCalls s w t calls ks (Ok x) now
+  ends-commit (Ok y) x is to did = committed joins s mid now w t calls ks did to
+  ends-commit (Err stop) x is to did = absurd cc
+
+  pub ends-abort : (made : Result (Unit {0}) Stop) (stop : Stop) → made ≡ Err stop → now ≡ stored_after mid w (command.Abort t) → MakesCalls s w t calls ks made mid
+      → EndsCalls s w t calls ks (Err stop) now
+  ends-abort (Ok y) stop is to did = absurd cc
+  ends-abort (Err other) stop is to did =
+      let same : other ≡ stop = cc in
+      subst (λ (z : Stop). TransactionAborts s w t calls z.at z.how now) same (aborted joins s mid now w t calls ks other.at other.how did to)

@@ -1,4 +1,5 @@
 pub mod Commands
+pub mod Numbered
 pub mod Answers
 pub mod Made
 pub mod Examples

@@ -1,10 +1,11 @@
 -- The calls of a transaction that began, and its end.
-use Rattle.std.specs.Prelude.{◌≡◌, ℕ, suc, ◌+◌, List, [], ◌∷◌, ◌++◌, length, map, take, Bool, true, false, ◌&&◌, ◌==◌, Some, slice_get, Result, Ok, Err}
+use Rattle.std.specs.Prelude.{◌≡◌, ℕ, suc, ◌+◌, List, [], ◌∷◌, ◌++◌, length, map, take, Bool, true, false, ◌&&◌, ◌==◌, Option, Some, None, slice_get, Result, Ok, Err}
 use Rattle.object_trait.specs.declared.event.EventKind.{EventKind}
-use Rattle.object_trait.specs.declared.event.EventKind.TheVariants.{Commit, Abort}
-use Rattle.serial_order.specs.History.{summary, is_open}
-use Rattle.serial_order.specs.Replay.{open_count}
+use Rattle.object_trait.specs.declared.event.EventKind.TheVariants.{Begin, Commit, Abort}
+use Rattle.serial_order.specs.History.{begins, summary, is_open}
+use Rattle.serial_order.specs.Replay.{open_count, is_history_full}
 use Rattle.serial_order.specs.declared.command.Command.TheVariants as command
+use Rattle.serial_order.specs.declared.refusal.Refusal.{Refusal}
 use Rattle.object_calls.specs.declared.answer.Answer.{Answer}
 use Rattle.object_calls.specs.declared.answer.Answer.TheVariants as answer
 use Rattle.store_laws.specs.Stored.{Stored, objects}
@@ -13,12 +14,23 @@ use Rattle.attempts.specs.declared.outcome.Attempt.TheVariants.{Done, Ended, Not
 use Rattle.attempts.specs.declared.outcome.Ending.{Ending}
 use Rattle.attempts.specs.declared.outcome.Ending.TheVariants as ending
 use Rattle.attempts.specs.declared.outcome.Stop.{Stop}
-use Rattle.attempts.specs.Commands.{CallAt, call_command, is_for_memory, commands_replayed, with_kinds}
-use Rattle.attempts.specs.Answers.{operation_events, EndsSo}
+use Rattle.attempts.specs.Commands.{CallAt, call_command, begin_and_calls, is_for_memory, commands_replayed, with_kinds}
+use Rattle.attempts.specs.Answers.{HasAttemptRoom, operation_events, EndsSo, IsDoneAttempt}
 
 -- memory is refused nowhere
 abbrev pub never : ℕ → Bool
 never place = false
+
+-- ---- the begin
+
+-- the transaction of an attempt of so many calls began, and there is room for them
+pub record HasBegun (old : Stored) (w t calls : ℕ) (begun : Stored) : Type 0 where
+  pub number : t ≡ begins old.history
+  pub enough : HasAttemptRoom old calls
+  pub replays : begun ≡ commands_replayed old never w (command.Begin ∷ [])
+  pub events : begun ≡ with_kinds old w (Begin t ∷ [])
+  pub going : is_open (summary begun.history) t ≡ true
+  pub room : is_history_full begun.limits begun.history calls ≡ false
 
 -- ---- calls
 
@@ -43,6 +55,11 @@ abbrev pub replied : Answer → Result ℕ Ending
 replied (answer.Reply k) = Ok k
 replied (answer.Busy u) = Err (ending.Busy u)
 replied answer.None = Err ending.None
+
+-- and so of what comes of a call, which may be refused
+abbrev pub reply_to : Result Answer Refusal → Result ℕ Ending
+reply_to (Ok a) = replied a
+reply_to (Err r) = Err (ending.Refused r)
 
 -- a call is made
 abbrev pub MakesCall : Stored → ℕ → ℕ → CallAt → Result ℕ Ending → Stored → Type 0
@@ -81,7 +98,24 @@ pub record TransactionAborts (s : Stored) (w t : ℕ) (calls : List CallAt) (at 
   pub replays : now ≡ commands_replayed s (λ place. is_for_memory how && place == at) w (map (call_command t) (take (suc at) calls) ++ command.Abort t ∷ [])
   pub events : now ≡ with_kinds s w ((operation_events t (take at calls) operations ++ answer) ++ Abort t ∷ [])
 
+-- calls that were made up to their end, or to one that isn't replied to, and the end of their transaction
+abbrev pub EndsCalls : Stored → ℕ → ℕ → List CallAt → List ℕ → Result (Unit {0}) Stop → Stored → Type 0
+EndsCalls s w t calls ks (Ok x) now = TransactionCommits s w t calls ks now
+EndsCalls s w t calls ks (Err stop) now = TransactionAborts s w t calls stop.at stop.how now
+
 abbrev pub Transacts : Stored → ℕ → ℕ → List CallAt → Attempt → Stored → Type 0
 Transacts s w t calls (Done ks) now = TransactionCommits s w t calls ks.items now
 Transacts s w t calls (Ended at how) now = TransactionAborts s w t calls at how now
 Transacts s w t calls (NotBegun r) now = ⊥
+
+-- ---- calls that are made all at once
+
+-- they committed, and their history is the replay of their commands
+pub record AreDone (old : Stored) (w : ℕ) (calls : List CallAt) (ks : List ℕ) (new : Stored) : Type 0 where
+  pub answers : IsDoneAttempt old w calls ks new
+  pub replays : new ≡ commands_replayed old never w (begin_and_calls (begins old.history) calls ++ command.Commit (begins old.history) ∷ [])
+
+-- so a call has this operation, or nothing has changed
+abbrev pub DoesCalls : Stored → ℕ → List CallAt → Option ℕ → Stored → Type 0
+DoesCalls old w calls None new = new ≡ old
+DoesCalls old w calls (Some k) new = AreDone old w calls (k ∷ []) new

@@ -3,12 +3,14 @@
 ghost use Rattle.std.specs.Prelude.{◌≡◌, ◌≤◌, [], length, true, false, vec_capacity};
 ghost use Rattle.serial_order.specs.History.{summary, is_open};
 ghost use Rattle.serial_order.specs.Replay.{is_history_full};
+ghost use Rattle.store_laws.specs.Stored.{objects};
 ghost use Rattle.attempts.specs.Commands.{asked_call, asked_calls};
-ghost use Rattle.attempts.specs.Made.{replied, MakesCall, MakesCalls};
+ghost use Rattle.attempts.specs.Made.{replied, reply_to, MakesCall, MakesCalls};
+ghost use Rattle.attempts.specs.Numbered.{named_call};
 
 use crate::outcome::{AttemptCall, Ending, Stop};
 use object_trait::Recovery;
-use serial_order::{replays_join, summary_after};
+use serial_order::{Refusal, replays_join, summary_after};
 use store::{Answer, Store};
 use type_table::Operation;
 
@@ -45,7 +47,7 @@ pub(crate) fn make_calls<R: Recovery>(
 /// # Errors
 ///
 /// How it isn't replied to.
-fn make_call<R: Recovery>(
+pub fn make_call<R: Recovery>(
     store: &mut Store<R>,
     w: u8,
     t: u32,
@@ -56,7 +58,39 @@ fn make_call<R: Recovery>(
     ensures { MakesCall store.old w t (asked_call call.now) result store.new }
 {
     summary_after();
-    match store.call_bytes(w, t, call.at, call.name) {
+    reply_to(store.call_bytes(w, t, call.at, call.name))
+}
+
+/// Makes the call with this number at object x of transaction t, as `make_call` the one with its name.
+///
+/// # Errors
+///
+/// As `make_call`. Where no call there has this number it is refused as one with an empty name.
+#[inline(always)]
+pub fn make_call_op<R: Recovery>(
+    store: &mut Store<R>,
+    w: u8,
+    t: u32,
+    x: u32,
+    c: Operation,
+) -> Result<Operation, Ending>
+    requires going { is_open (summary store.old.history) t ≡ true }
+    requires room { is_history_full store.old.limits store.old.history 1 ≡ false }
+    ensures { MakesCall store.old w t (named_call (objects store.old) x c) result store.new }
+{
+    summary_after();
+    reply_to(store.call_op(w, t, x, c))
+}
+
+/// The operation of a reply to a call.
+///
+/// # Errors
+///
+/// How there is none.
+fn reply_to(came: Result<Answer, Refusal>) -> Result<Operation, Ending>
+    ensures { result ≡ reply_to came }
+{
+    match came {
         Ok(answer) => replied(answer),
         Err(refusal) => Err(Ending::Refused(refusal)),
     }

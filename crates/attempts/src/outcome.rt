@@ -34,9 +34,10 @@ pub enum Ending {
     Refused(Refusal),
 }
 
-/// The call that ended a transaction, by its place.
+/// The call that isn't replied to, behind which none is made.
 #[derive(Clone, Copy)]
-pub(crate) struct Stop {
-    pub(crate) at: usize,
-    pub(crate) how: Ending,
+pub struct Stop {
+    /// Its place, counted from 0.
+    pub at: usize,
+    pub how: Ending,
 }

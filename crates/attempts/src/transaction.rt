@@ -1,13 +1,15 @@
 //! An attempt: a transaction from its begin to its end.
 
-ghost use Rattle.std.specs.Prelude.{◌≡◌, ◌<◌, ◌≤◌, ◌+◌, [], length, true, false, None, IfOk, IfErr, IfSome, vec_capacity};
+ghost use Rattle.std.specs.Prelude.{◌≡◌, ℕ, ◌<◌, ◌≤◌, ◌+◌, List, [], length, true, false, None, IfOk, IfErr, IfSome, OnOk, vec_capacity};
 ghost use Rattle.serial_order.specs.History.{begins, summary, is_open};
 ghost use Rattle.serial_order.specs.Replay.{is_history_full};
-ghost use Rattle.attempts.specs.Commands.{asked_calls, attempt_commands, is_memory_refused_at, commands_replayed};
+ghost use Rattle.store_laws.specs.Stored.{Stored};
+ghost use Rattle.attempts.specs.Commands.{CallAt, asked_calls, attempt_commands, is_memory_refused_at, commands_replayed};
 ghost use Rattle.attempts.specs.Answers.{HasAttemptRoom, IsNotBegunFor, AttemptAnswers};
-ghost use Rattle.attempts.specs.Made.{Transacts};
+ghost use Rattle.attempts.specs.Made.{HasBegun, MakesCalls, EndsCalls, Transacts};
 
 use crate::calls::make_calls;
+use crate::one_call::do_only;
 use crate::outcome::{Attempt, AttemptCall, Stop};
 use object_trait::Recovery;
 use serial_order::{Refusal, opens_after, replays_join, summary_after, transactions_in_run};
@@ -29,16 +31,34 @@ pub fn attempt<R: Recovery>(
     ensures replays { store.new ≡ commands_replayed store.old (is_memory_refused_at result) w (attempt_commands (begins store.old.history) (asked_calls calls.now) result) }
     ensures answers { AttemptAnswers store.old w (asked_calls calls.now) result store.new }
 {
-    summary_after();
-    transactions_in_run();
-    opens_after();
-    replays_join();
-    store.history();
-    let operations = match room_for(store, alloc, calls.len()) {
+    let mut operations = match room_for(store, alloc, calls.len()) {
         Ok(operations) => operations,
         Err(refusal) => return Attempt::NotBegun(refusal),
     };
-    match store.begin(w) {
+    match do_only(store, w, calls) {
+        Some(k) => {
+            operations.push_reserved(k);
+            Attempt::Done(operations)
+        }
+        None => attempt_in_room(store, w, calls, operations),
+    }
+}
+
+/// Begins a transaction, makes these calls, and ends it, where there is room for their events and operations.
+fn attempt_in_room<R: Recovery>(
+    store: &mut Store<R>,
+    w: u8,
+    calls: &[AttemptCall],
+    operations: Vec<Operation>,
+) -> Attempt
+    requires room { HasAttemptRoom store.old (length calls.now) }
+    requires none_yet { operations.items ≡ [] }
+    requires places { length calls.now ≤ vec_capacity operations }
+    ensures replays { store.new ≡ commands_replayed store.old (is_memory_refused_at result) w (attempt_commands (begins store.old.history) (asked_calls calls.now) result) }
+    ensures answers { AttemptAnswers store.old w (asked_calls calls.now) result store.new }
+{
+    replays_join();
+    match begin_in_room(store, w) {
         Ok(t) => transact(store, w, t, calls, operations),
         Err(refusal) => Attempt::NotBegun(refusal),
     }
@@ -59,6 +79,23 @@ fn room_for<R: Recovery>(
     ensures places { IfOk result (λ v. (v.items ≡ []) × (calls ≤ vec_capacity v)) }
     ensures refused { IfErr result (IsNotBegunFor store.old calls) }
 {
+    make_event_room(store, calls)?;
+    match Vec::with_capacity(alloc, calls) {
+        Ok(operations) => Ok(operations),
+        Err(_) => Err(Refusal::NoMemory),
+    }
+}
+
+/// Makes room for the events of an attempt of this many calls.
+///
+/// # Errors
+///
+/// `TooManyOpen`, `HistoryFull` or `NoMemory`, the first that holds.
+fn make_event_room<R: Recovery>(store: &mut Store<R>, calls: usize) -> Result<(), Refusal>
+    ensures same { store.new ≡ store.old }
+    ensures room { OnOk result (HasAttemptRoom store.old calls) }
+    ensures refused { IfErr result (IsNotBegunFor store.old calls) }
+{
     let limits = store.limits();
     if store.open_count() >= limits.open {
         return Err(Refusal::TooManyOpen);
@@ -66,11 +103,7 @@ fn room_for<R: Recovery>(
     let Some(events) = events_of(calls, limits.events) else {
         return Err(Refusal::HistoryFull);
     };
-    store.make_room(events)?;
-    match Vec::with_capacity(alloc, calls) {
-        Ok(operations) => Ok(operations),
-        Err(_) => Err(Refusal::NoMemory),
-    }
+    store.make_room(events)
 }
 
 /// How many events an attempt of this many calls has at most, where no more than `most` are allowed.
@@ -82,6 +115,35 @@ fn events_of(calls: usize, most: u32) -> Option<u32>
         return None;
     }
     Some(calls as u32 + 2)
+}
+
+/// Makes room for the events of an attempt of this many calls, and begins its transaction, as worker w.
+///
+/// # Errors
+///
+/// `TooManyOpen`, `HistoryFull` or `NoMemory`, the first that holds, and the store is as it was.
+pub fn begin_attempt<R: Recovery>(store: &mut Store<R>, w: u8, calls: usize) -> Result<u32, Refusal>
+    ensures begun { IfOk result (λ t. HasBegun store.old w t calls store.new) }
+    ensures refused { IfErr result (λ r. IsNotBegunFor store.old calls r × (store.new ≡ store.old)) }
+{
+    make_event_room(store, calls)?;
+    begin_in_room(store, w)
+}
+
+/// Begins the transaction of an attempt, as worker w, for whose events there is room.
+///
+/// # Errors
+///
+/// `NoMemory`, and the store is as it was.
+fn begin_in_room<R: Recovery>(store: &mut Store<R>, w: u8) -> Result<u32, Refusal>
+    ensures begun { (calls : ℕ) → HasAttemptRoom store.old calls → IfOk result (λ t. HasBegun store.old w t calls store.new) }
+    ensures refused { (calls : ℕ) → HasAttemptRoom store.old calls → IfErr result (λ r. IsNotBegunFor store.old calls r × (store.new ≡ store.old)) }
+{
+    summary_after();
+    transactions_in_run();
+    opens_after();
+    store.history();
+    store.begin(w)
 }
 
 /// Makes the calls of transaction t, which began, and ends it.
@@ -98,16 +160,37 @@ fn transact<R: Recovery>(
     requires places { length calls.now ≤ vec_capacity operations }
     ensures { Transacts store.old w t (asked_calls calls.now) result store.new }
 {
+    let made = make_calls(store, w, t, calls, &mut operations);
+    match end_calls(store, w, t, made) {
+        Ok(()) => Attempt::Done(operations),
+        Err(Stop { at, how }) => Attempt::Ended { at, how },
+    }
+}
+
+/// Ends transaction t, as worker w, whose calls were made: it commits. Or it aborts, where they were stopped.
+///
+/// # Errors
+///
+/// The call at which they were.
+pub fn end_calls<R: Recovery>(
+    store: &mut Store<R>,
+    w: u8,
+    t: u32,
+    made: Result<(), Stop>,
+) -> Result<(), Stop>
+    ensures same { result ≡ made }
+    ensures ends { (s : Stored) (calls : List CallAt) (ks : List ℕ) → MakesCalls s w t calls ks made store.old → EndsCalls s w t calls ks result store.new }
+{
     replays_join();
-    match make_calls(store, w, t, calls, &mut operations) {
+    // t is open, so its end isn't refused
+    match made {
         Ok(()) => {
-            // t is open, so it isn't refused
             let _ = store.commit(w, t);
-            Attempt::Done(operations)
+            Ok(())
         }
-        Err(Stop { at, how }) => {
+        Err(stop) => {
             let _ = store.abort(w, t);
-            Attempt::Ended { at, how }
+            Err(stop)
         }
     }
 }

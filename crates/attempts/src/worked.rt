@@ -8,6 +8,7 @@ ghost use Rattle.store_laws.specs.Examples.{stored, one_up};
 ghost use Rattle.store.specs.Examples.{roomy, up_beside_another};
 ghost use Rattle.attempts.specs.Commands.{attempt_commands, is_memory_refused_at, commands_replayed, with_kinds};
 ghost use Rattle.attempts.specs.Answers.{attempt_refusal, missing_call, EndsSo, IsDoneAttempt, IsEndedAttempt};
+ghost use Rattle.attempts.specs.Numbered.{named_calls};
 ghost use Rattle.attempts.specs.Examples.{one_up_call, up_then_down, up_then_away, after_seven, went_up, not_down, came_back};
 ghost use Rattle.store_laws.specs.Stored.{objects};
 
@@ -21,6 +22,13 @@ pub fn an_attempt_is_these_commands()
         ≡ Command.Begin ∷ Command.Call 3 1 (codes "inc:1") ∷ Command.Call 3 0 (codes "dec:1") ∷ Command.Commit 3 ∷ [] }
     ensures first { attempt_commands 3 up_then_down (Attempt.Ended 0 Ending.None) ≡ Command.Begin ∷ Command.Call 3 1 (codes "inc:1") ∷ Command.Abort 3 ∷ [] }
     ensures none { attempt_commands 3 up_then_down (Attempt.NotBegun Refusal.NoMemory) ≡ [] }
+{}
+
+/// A call's number names it at its object. It names none where the object isn't there, or where no call has it.
+pub fn numbers_name_calls()
+    ensures names { named_calls (objects (roomy [])) (1 ∷ 0 ∷ []) (0 ∷ 1 ∷ []) ≡ up_then_down }
+    ensures none { named_calls (objects (roomy [])) (9 ∷ 0 ∷ []) (0 ∷ 7 ∷ []) ≡ (9, []) ∷ (0, []) ∷ [] }
+    ensures in_pairs { named_calls (objects (roomy [])) (1 ∷ 0 ∷ []) (0 ∷ []) ≡ one_up_call }
 {}
 
 /// Their replay: of a whole attempt, of one whose second call is `None`, and of one at whose second call memory was refused.

@@ -12,6 +12,9 @@ weight o = cond (is_some o) 1 0
 pub count-more : (rows : List (Option Row)) (r : Row) → count_open (rows ++ Some r ∷ []) ≡ count_open rows + 1
 count-more rows r = sum_by-append weight rows (Some r ∷ [])
 
+pub count-none : (rows : List (Option Row)) → count_open (rows ++ None ∷ []) ≡ count_open rows
+count-none rows = omega (arith, sum_by-append weight rows (None ∷ []))
+
 pub count-same : (rows : List (Option Row)) (t : ℕ) (r : Row) → has_row rows t ≡ true → count_open (set rows t (Some r)) ≡ count_open rows
 count-same rows t r opened =
     omega (arith, sum_by-set weight rows t (Some r) None (open-began rows t opened), ap {B = ℕ} (λ b. cond b 1 0) opened)

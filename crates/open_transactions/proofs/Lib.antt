@@ -4,3 +4,4 @@ pub mod Ended
 pub mod InSlots
 pub mod Counts
 pub mod Calls
+pub mod Passed

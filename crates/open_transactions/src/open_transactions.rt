@@ -142,6 +142,19 @@ impl OpenTransactions {
         number
     }
 
+    /// Begins a transaction that has ended, and answers its number. It takes no memory.
+    #[inline(always)]
+    pub fn pass(&mut self) -> u32
+        requires room { 0 < self.old.room_to_begin }
+        requires fits { length self.old.rows < 4294967295 }
+        ensures number { result ≡ length self.old.rows }
+        ensures rows { self.new.rows ≡ self.old.rows ++ None ∷ [] }
+    {
+        let number = self.index.begun();
+        self.index.push_reserved(ENDED);
+        number
+    }
+
     /// Makes room for one more place of t.
     #[inline(always)]
     pub fn reserve_place(&mut self, t: u32) -> Result<(), AllocError>

@@ -119,12 +119,11 @@ impl SlotIndex {
         Ok(())
     }
 
-    /// One more begins, with this slot. It takes no memory.
+    /// One more begins, with this slot, or has ended. It takes no memory.
     #[inline(always)]
     pub fn push_reserved(&mut self, slot: u32)
         requires room { 0 < self.old.room }
         requires fits { length self.old.slots < 4294967295 }
-        requires slot { slot ≢ ended }
         ensures slots { self.new.slots ≡ self.old.slots ++ slot ∷ [] }
         ensures room { self.new.room + 1 ≡ self.old.room }
     {

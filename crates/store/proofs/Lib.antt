@@ -14,6 +14,7 @@ pub mod Known
 pub mod Calls
 pub mod Executed
 pub mod Answered
+pub mod WholeCalls
 pub mod Pasts
 pub mod Commits
 pub mod OpCalls

@@ -57,13 +57,13 @@ if-err old new w t x c a (Err r) comes = comes.0
 
 module _ (old new : Stored) (w t x c : ℕ) (name : List ℕ) (o : Object) (there : slice_get (objects old) x ≡ Some o) (going : is_open (summary old.history) t ≡ true)
     (named : call_at (slice_get (objects old) x) name ≡ Some c) where
-  with-room : is_history_full old.limits old.history 1 ≡ false → refusal_of old (Call t x name) ≡ None
+  pub with-room : is_history_full old.limits old.history 1 ≡ false → refusal_of old (Call t x name) ≡ None
   with-room room = rw (going, named, there, room) refl
 
-  without-room : is_history_full old.limits old.history 1 ≡ true → refusal_of old (Call t x name) ≡ Some HistoryFull
+  pub without-room : is_history_full old.limits old.history 1 ≡ true → refusal_of old (Call t x name) ≡ Some HistoryFull
   without-room full = rw (going, named, there, full) refl
 
-  its-event : call_event (slice_get (objects old) x) (summary old.history) x t (call_at (slice_get (objects old) x) name) ≡ call_event (slice_get (objects old) x) (summary old.history) x t (Some c)
+  pub its-event : call_event (slice_get (objects old) x) (summary old.history) x t (call_at (slice_get (objects old) x) name) ≡ call_event (slice_get (objects old) x) (summary old.history) x t (Some c)
   its-event = ap (call_event (slice_get (objects old) x) (summary old.history) x t) named
 
   pub calls-if : (a : Answer) (result : Result Bool Refusal) → ComesIf old w t x c a result new → CallsIf old w t x name c a result new

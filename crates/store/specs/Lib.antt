@@ -1,6 +1,7 @@
 pub mod Whole
 pub mod Executed
 pub mod Calls
+pub mod WholeCalls
 pub mod Room
 pub mod Ends
 pub mod KeptState

@@ -216,7 +216,7 @@ fn call_of_operation(declared: &DeclaredType, k: Operation) -> Option<Operation>
 }
 
 /// What is known of the answer of a call: its event may follow, and its operation may be executed.
-fn answers_are_known()
+pub(crate) fn answers_are_known()
     ensures least { FirstOpIsLeast }
     ensures follows { AnswerMayFollow }
     ensures applies { MachineMayApply }

@@ -4,7 +4,7 @@ ghost use Rattle.std.specs.Prelude.{◌≡◌, ℕ, ◌<◌, true, map, length, 
 ghost use Rattle.object_trait.specs.Meaning.{Meaning};
 ghost use Rattle.object_trait.specs.Steps.{MayApply};
 ghost use Rattle.open_transactions.specs.Transactions.{has_row};
-ghost use Rattle.store.specs.Executed.{IsExecuted, ExecutesAnswer};
+ghost use Rattle.store.specs.Executed.{IsExecuted, IsCommittedAt, ExecutesAnswer};
 ghost use Rattle.object_calls.specs.declared.answer.Answer.TheVariants as answered;
 
 use object_calls::Answer;
@@ -65,4 +65,24 @@ fn execute<R: Recovery>(
     objects[x.number() as usize].apply(t, k)?;
     transactions.push_place(t, x);
     Ok(())
+}
+
+/// Executes operation k of transaction t at object x, and commits t there.
+///
+/// # Errors
+///
+/// Memory was refused, and nothing has changed.
+#[inline(always)]
+pub(crate) fn commit_at<R: Recovery>(
+    objects: &mut Vec<R>,
+    t: u32,
+    x: ObjectIndex,
+    k: Operation,
+) -> Result<(), AllocError>
+    requires inside { x < length objects.old.items }
+    requires may { (m : Meaning) → slice_get (map R.meaning objects.old.items) x ≡ Some m → MayApply m t k }
+    ensures done { OnOk result (IsCommittedAt t x k (map R.meaning objects.old.items) (map R.meaning objects.new.items)) }
+    ensures objects { OnErr result (map R.meaning objects.new.items ≡ map R.meaning objects.old.items) }
+{
+    objects[x.number() as usize].apply_and_commit(t, k)
 }

@@ -16,6 +16,7 @@ mod refusals;
 mod renewed_objects;
 mod room;
 mod store;
+mod whole_call;
 
 pub use committed::Snapshot;
 pub use event_replay::{ReplayFault, Stray, follow, replay};

@@ -1,51 +1,27 @@
-use Rattle.std.proofs.Common.{◌≡◌, false, length, subst, sym}
-use Rattle.std.proofs.lemmas.List.{length-map}
-use Rattle.serial_order.specs.Replay.{is_history_full}
-use Rattle.attempts.specs.Commands.{asked_call, asked_calls}
-use Rattle.attempts.specs.Answers.{IsNotBegunFor}
-use Rattle.attempts.proofs.Attempts.{began, not-begun, replays-all, answers-all}
+use Rattle.std.proofs.Common.{length}
+use Rattle.attempts.specs.Commands.{asked_calls}
+use Rattle.attempts.proofs.OneCall.{only-replays, only-answers, room-still, replays-still, answers-still}
 use Rattle.attempts.proofs.transaction.attempt.Goals as goal
 
-pub transact-requires-clause-going : goal.transact-requires-clause-going
-transact-requires-clause-going g c κs within =
-    let its =
-    began c.summary_after.ensures c.transactions_in_run.ensures c.opens_after.ensures c.args.store.now c.room_for.new.store c.begin.new.self c.args.w c.in-Ok-begin.t c.args.calls.now
-    c.history.ensures.run c.in-Ok.ensures.same c.in-Ok.ensures.room c.in-Ok-begin.ensures.number c.in-Ok-begin.ensures.step
-    in
-    its.2.going
+pub returns-in-Some-clause-replays : goal.returns-in-Some-clause-replays
+returns-in-Some-clause-replays g c =
+    only-replays c.args.store.now c.room_for.new.store c.do_only.new.store c.args.w (asked_calls c.args.calls.now) c.in-Some.k c.push_reserved.new.self c.in-Ok.ensures.same c.in-Some.ensures
 
-pub transact-requires-clause-room : goal.transact-requires-clause-room
-transact-requires-clause-room g c κs within =
-    let its =
-    began c.summary_after.ensures c.transactions_in_run.ensures c.opens_after.ensures c.args.store.now c.room_for.new.store c.begin.new.self c.args.w c.in-Ok-begin.t c.args.calls.now
-    c.history.ensures.run c.in-Ok.ensures.same c.in-Ok.ensures.room c.in-Ok-begin.ensures.number c.in-Ok-begin.ensures.step
-    in
-    subst (λ n. is_history_full c.begin.new.self.limits c.begin.new.self.history n ≡ false) (length-map c.args.calls.now asked_call) its.2.room
+pub returns-in-Some-clause-answers : goal.returns-in-Some-clause-answers
+returns-in-Some-clause-answers g c =
+    only-answers c.args.store.now c.room_for.new.store c.do_only.new.store c.args.w (asked_calls c.args.calls.now) c.in-Some.k c.in-Ok.operations.items c.push_reserved.new.self c.in-Ok.ensures.same c.in-Some.ensures
+    c.in-Ok.ensures.places.0 c.push_reserved.ensures.items
 
-pub returns-in-Ok-begin-clause-replays : goal.returns-in-Ok-begin-clause-replays
-returns-in-Ok-begin-clause-replays g c =
-    let its =
-    began c.summary_after.ensures c.transactions_in_run.ensures c.opens_after.ensures c.args.store.now c.room_for.new.store c.begin.new.self c.args.w c.in-Ok-begin.t c.args.calls.now
-    c.history.ensures.run c.in-Ok.ensures.same c.in-Ok.ensures.room c.in-Ok-begin.ensures.number c.in-Ok-begin.ensures.step
-    in
-    replays-all c.replays_join.ensures c.args.store.now c.begin.new.self c.transact.new.store c.args.w c.in-Ok-begin.t (asked_calls c.args.calls.now) its.0 its.1 its.2 c.transact.result c.transact.ensures
+pub attempt_in_room-requires-clause-room : goal.attempt_in_room-requires-clause-room
+attempt_in_room-requires-clause-room g c κs within =
+    room-still c.args.store.now c.room_for.new.store c.do_only.new.store c.args.w (asked_calls c.args.calls.now) (length c.args.calls.now) c.in-Ok.ensures.same c.in-None.ensures c.in-Ok.ensures.room
 
-pub returns-in-Ok-begin-clause-answers : goal.returns-in-Ok-begin-clause-answers
-returns-in-Ok-begin-clause-answers g c =
-    let its =
-    began c.summary_after.ensures c.transactions_in_run.ensures c.opens_after.ensures c.args.store.now c.room_for.new.store c.begin.new.self c.args.w c.in-Ok-begin.t c.args.calls.now
-    c.history.ensures.run c.in-Ok.ensures.same c.in-Ok.ensures.room c.in-Ok-begin.ensures.number c.in-Ok-begin.ensures.step
-    in
-    answers-all c.replays_join.ensures c.args.store.now c.begin.new.self c.transact.new.store c.args.w c.in-Ok-begin.t (asked_calls c.args.calls.now) its.0 its.1 its.2 c.transact.result c.transact.ensures
+pub returns-in-None-clause-replays : goal.returns-in-None-clause-replays
+returns-in-None-clause-replays g c =
+    replays-still c.args.store.now c.room_for.new.store c.do_only.new.store c.args.w (asked_calls c.args.calls.now) c.attempt_in_room.new.store c.attempt_in_room.result c.in-Ok.ensures.same c.in-None.ensures
+    c.attempt_in_room.ensures.replays
 
-pub returns-in-Err-begin-clause-replays : goal.returns-in-Err-begin-clause-replays
-returns-in-Err-begin-clause-replays g c =
-    (not-begun c.args.store.now c.room_for.new.store c.begin.new.self c.args.w (length c.args.calls.now) c.in-Err-begin.refusal c.in-Ok.ensures.same c.in-Ok.ensures.room c.in-Err-begin.ensures.step).1
-
-pub returns-in-Err-begin-clause-answers : goal.returns-in-Err-begin-clause-answers
-returns-in-Err-begin-clause-answers g c =
-    let refused =
-    not-begun c.args.store.now c.room_for.new.store c.begin.new.self c.args.w (length c.args.calls.now) c.in-Err-begin.refusal c.in-Ok.ensures.same c.in-Ok.ensures.room c.in-Err-begin.ensures.step
-    in
-    let as_many : length c.args.calls.now ≡ length (asked_calls c.args.calls.now) = sym (length-map c.args.calls.now asked_call) in
-    (subst (λ n. IsNotBegunFor c.args.store.now n c.in-Err-begin.refusal) as_many refused.0, refused.1)
+pub returns-in-None-clause-answers : goal.returns-in-None-clause-answers
+returns-in-None-clause-answers g c =
+    answers-still c.args.store.now c.room_for.new.store c.do_only.new.store c.args.w (asked_calls c.args.calls.now) c.attempt_in_room.new.store c.attempt_in_room.result c.in-Ok.ensures.same c.in-None.ensures
+    c.attempt_in_room.ensures.answers

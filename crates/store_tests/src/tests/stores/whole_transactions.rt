@@ -163,6 +163,49 @@ fn an_attempt_is_its_commands(rt: HostRuntime) {
     let _ = (store.close(), other.close());
 }
 
+/// Attempts of one call, at objects where nobody is open.
+static ALONE: [Tried; 9] = [
+    (1, &[(0, "inc:1")], Came::Done),
+    (2, &[(0, "dec:1")], Came::Done),
+    (3, &[(0, "dec:1")], Came::Ended(0, Ending::None)),
+    (1, &[(1, "inc:1")], Came::Done),
+    (2, &[(1, "dec:1")], Came::Done),
+    (3, &[(1, "dec:1")], Came::Ended(0, Ending::None)),
+    (1, &[(2, "take:5")], Came::Done),
+    (2, &[(2, "give:1")], Came::Done),
+    (
+        3,
+        &[(2, "give")],
+        Came::Ended(0, Ending::Refused(Refusal::NoCall)),
+    ),
+];
+
+/// And where transaction 0 is open at the first.
+static BESIDE: [Tried; 4] = [
+    (1, &[(0, "inc:1")], Came::Done),
+    (2, &[(0, "dec:1")], Came::Ended(0, Ending::Busy(0))),
+    (3, &[(1, "inc:1")], Came::Done),
+    (4, &[(2, "take:1")], Came::Done),
+];
+
+#[test]
+fn an_only_call_is_its_commands(rt: HostRuntime) {
+    let mut store = store_of(&rt, objects_of(&rt, OBJECTS), 100);
+    let mut other = store_of(&rt, objects_of(&rt, OBJECTS), 100);
+    for row in &ALONE {
+        is_as_one_by_one(&rt, &mut store, &mut other, row);
+    }
+    let states = (store.kept(0), store.kept(1), store.kept(2));
+    assert!(rt; states == (Some(0), Some(0), Some(16)));
+    let _ = (store.close(), other.close());
+    let mut store = counting(&rt);
+    let mut other = counting(&rt);
+    for row in &BESIDE {
+        is_as_one_by_one(&rt, &mut store, &mut other, row);
+    }
+    let _ = (store.close(), other.close());
+}
+
 /// What came of an attempt.
 fn came_of(attempt: Attempt) -> Came {
     match attempt {
