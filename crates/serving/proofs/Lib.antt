@@ -20,4 +20,9 @@ pub mod FirstLines
 pub mod LeftLines
 pub mod Acknowledgements
 pub mod Parts
+pub mod Places
+pub mod InTurns
+pub mod Growth
+pub mod Moments
 pub mod CommitEvents
+pub mod AnswersFound

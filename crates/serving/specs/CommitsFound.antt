@@ -1,5 +1,5 @@
 -- Commits that were answered are found after a crash.
-use Rattle.std.specs.Prelude.{◌≡◌, ◌⊎◌, ℕ, suc, ◌≤◌, Bool, true, false, List, [], ◌∷◌, MatchBool, Option, Ok, Contains}
+use Rattle.std.specs.Prelude.{◌≡◌, ℕ, suc, ◌≤◌, List, Option, Ok, Contains}
 use Rattle.sqlite_trees.specs.declared.store.Store.{Ghosts}
 use Rattle.sqlite_trees.specs.Tree.{Trees}
 use Rattle.object_trait.specs.declared.event.EventKind.TheVariants as kind
@@ -11,28 +11,21 @@ use Rattle.durable_store.specs.Durable.{kinds}
 use Rattle.request_text.specs.Requests.{asked_by}
 use Rattle.request_text.specs.declared.request.Request.TheVariants as request
 use Rattle.request_text.specs.declared.request.TransactionName.{TransactionName}
-use Rattle.serving.specs.declared.answer_line.AnswerLine.{AnswerLine}
-use Rattle.serving.specs.declared.answer_line.AnswerLine.TheVariants.{Committed, Extended}
+use Rattle.serving.specs.declared.answer_line.AnswerLine.TheVariants.{Committed}
 use Rattle.serving.specs.declared.answer_line.Answered.{Answered}
 use Rattle.serving.specs.declared.extension.Extension.{Extension}
 use Rattle.serving.specs.Archives.{life_in}
 use Rattle.serving.specs.Left.{Began, IsFileAfter}
 use Rattle.serving.specs.NextEpoch.{IsNextStore}
+use Rattle.serving.specs.Places.{TellsSuch}
 
 -- a line asks that this transaction commit, and is answered that it has
 abbrev pub AnswersCommit : List ℕ → Answered → TransactionName → Type 0
 AnswersCommit line a t = ((asked_by line).request ≡ Ok (request.Commit t)) × (a.answer ≡ Committed)
 
--- an extension is answered once it is durable, after later lines
-abbrev pub comes_late : AnswerLine → Bool
-comes_late (Extended first) = true
-comes_late answer = false
-
 -- one of these lines does, with the answer at its place among those that aren't late
 abbrev pub TellsCommit : List (List ℕ) → List Answered → TransactionName → Type 0
-TellsCommit [] answers t = ⊥
-TellsCommit (line ∷ lines) [] t = ⊥
-TellsCommit (line ∷ lines) (a ∷ answers) t = MatchBool (comes_late a.answer) (TellsCommit (line ∷ lines) answers t) (AnswersCommit line a t ⊎ TellsCommit lines answers t)
+TellsCommit lines answers t = TellsSuch lines answers (λ line a. AnswersCommit line a t)
 
 -- a store in a life has the commit of a transaction: in the transaction's own life it is one of the events; in a later one the history began at the
 -- states that the store of the life before had kept, and that one had it

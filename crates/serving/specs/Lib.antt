@@ -16,4 +16,6 @@ pub mod EpochEnd
 pub mod Whole
 pub mod Left
 pub mod Acknowledged
+pub mod Places
 pub mod CommitsFound
+pub mod AnswersFound

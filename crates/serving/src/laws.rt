@@ -1,10 +1,11 @@
-//! A law: a function that does nothing, whose contract is the law.
+//! Laws: functions that do nothing, whose contracts are the laws.
 
 ghost use Rattle.std.specs.Prelude.{List, ℕ, ◌++◌, Option};
 ghost use Rattle.durable_store.specs.declared.durable.Durable.{Durable};
 ghost use Rattle.serving.specs.declared.answer_line.Answered.{Answered};
 ghost use Rattle.request_text.specs.declared.request.Asked.{Asked};
 ghost use Rattle.serving.specs.Acknowledged.{AreLast};
+ghost use Rattle.serving.specs.AnswersFound.{AnswersAreFound, TransactionsAreFound};
 ghost use Rattle.serving.specs.CommitsFound.{CommitsAreFound};
 ghost use Rattle.serving.specs.Left.{Began, Survives};
 ghost use Rattle.serving.specs.Lines.{AreLines};
@@ -17,4 +18,17 @@ use sqlite_trees::store::Alter;
 pub fn told_commits_are_found<S: Alter>()
     ensures { (b : Began) (all : List (List ℕ)) (ended : Option Asked) (given_now : Option (List ℕ)) (seen rest half : List ℕ) (lines : List (List ℕ)) (answers : List Answered) (now : Durable S)
         → AreLines seen lines half → Survives S.Store b (AreLast all ended given_now) (seen ++ rest) answers now → CommitsAreFound S.Store b (AreLast all ended given_now) lines answers now }
+{}
+
+/// Each answer that no crash takes away is found so: whatever file a crash leaves goes on from the moment at which a line
+/// was answered.
+pub fn told_answers_are_found<S: Alter>()
+    ensures { (b : Began) (all : List (List ℕ)) (ended : Option Asked) (given_now : Option (List ℕ)) (seen rest half : List ℕ) (lines : List (List ℕ)) (answers : List Answered) (now : Durable S)
+        → AreLines seen lines half → Survives S.Store b (AreLast all ended given_now) (seen ++ rest) answers now → AnswersAreFound S.Store b (AreLast all ended given_now) lines answers now }
+{}
+
+/// So is each whole transaction that was answered as done, with its calls, its replies and its commit.
+pub fn told_transactions_are_found<S: Alter>()
+    ensures { (b : Began) (all : List (List ℕ)) (ended : Option Asked) (given_now : Option (List ℕ)) (seen rest half : List ℕ) (lines : List (List ℕ)) (answers : List Answered) (now : Durable S)
+        → AreLines seen lines half → Survives S.Store b (AreLast all ended given_now) (seen ++ rest) answers now → TransactionsAreFound S.Store b (AreLast all ended given_now) lines answers now }
 {}

@@ -24,7 +24,7 @@ pub use archive::{Archive, ArchiveFault, NoArchive};
 pub use client::Client;
 pub use epoch_limits::EpochLimits;
 pub use extension::Extension;
-pub use laws::told_commits_are_found;
+pub use laws::{told_answers_are_found, told_commits_are_found, told_transactions_are_found};
 pub use serve_fault::ServeFault;
 pub use server::Server;
 pub use service::serve;

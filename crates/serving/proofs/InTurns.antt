@@ -1,0 +1,164 @@
+-- An answer comes in its turn, but for that of an extension.
+use Rattle.serving.specs.Places.{comes_late}
+use Rattle.serving.proofs.Places.{in_turn, turn-append, turn-epoch, turn-one}
+use Rattle.std.proofs.Common.{◌≡◌, ◌∙◌, ℕ, ◌≤◌, Bool, true, false, Option, None, Some, Result, Ok, Err, List, [], ◌∷◌, length, refl, sym, ap, arith}
+use Rattle.std.proofs.lemmas.List.{length-append}
+use Rattle.std.specs.Prelude.{◌==◌, MatchBool, MatchOption, MatchResult, slice_get}
+use Rattle.type_table.specs.declared.op.Op.{Op}
+use Rattle.object_trait.specs.Object.{Object}
+use Rattle.object_calls.specs.declared.answer.Answer as calls
+use Rattle.object_calls.specs.declared.answer.Answer.TheVariants as call
+use Rattle.object_trait.specs.declared.event.EventKind.{EventKind}
+use Rattle.serial_order.specs.declared.refusal.Refusal.{Refusal}
+use Rattle.serial_order.specs.declared.refusal.Refusal.TheVariants.{NoObject}
+use Rattle.store_laws.specs.Stored.{Stored, objects}
+use Rattle.store.specs.KeptState.{IsKeptState}
+use Rattle.attempts.specs.declared.outcome.Attempt.{Attempt}
+use Rattle.attempts.specs.declared.outcome.Attempt.TheVariants as attempt
+use Rattle.attempts.specs.declared.outcome.Ending.{Ending}
+use Rattle.attempts.specs.declared.outcome.Ending.TheVariants as ending
+use Rattle.attempts.specs.Commands.{CallAt}
+use Rattle.store_text.specs.declared.line.ObjectLine.{ObjectLine}
+use Rattle.journal.specs.Contents.{Contents}
+use Rattle.request_text.specs.Requests.{asked_by, calls_asked, objects_asked}
+use Rattle.request_text.specs.declared.fault.RequestFault.{RequestFault}
+use Rattle.request_text.specs.declared.request.Asked.{Asked}
+use Rattle.request_text.specs.declared.request.AskedCall.{AskedCall}
+use Rattle.request_text.specs.declared.request.ObjectWord.{ObjectWord}
+use Rattle.request_text.specs.declared.request.Request.{Request}
+use Rattle.request_text.specs.declared.request.Request.TheVariants as request
+use Rattle.serving.specs.declared.answer_line.AnswerLine.{AnswerLine}
+use Rattle.serving.specs.declared.answer_line.AnswerLine.TheVariants.{Committed, Completed, Done, Events, Fault, NotAdded, Nothing, NothingSeen, Objects, Refused, Seen, SeenStates, State, Types, Unseen}
+use Rattle.serving.specs.declared.answer_line.Answered.{Answered}
+use Rattle.serving.specs.declared.extension.Extension.{Extension}
+use Rattle.serving.specs.Does.{begin_answer, call_answer, done_or, is_epoch_full, op_of_object, reply_of}
+use Rattle.serving.specs.NextEpoch.{MayWait, is_not_added, limit_while}
+use Rattle.serving.specs.Requests.{DoesRequest, found_answer, TellsEvents, TellsObjects, TellsTypes, events_from}
+use Rattle.serving.specs.Served.{IsAnswered, Serves}
+use Rattle.serving.specs.Several.{DoesCommitted, DoesPeek, TellsAttempt, TellsReplies, ended_answer, replies_of}
+
+pub either : {P Q G : Type 0} (b : Bool) → MatchBool b P Q → (P → G) → (Q → G) → G
+either true p first second = first p
+either false p first second = second p
+
+turn-begin : (life : ℕ) (r : Result ℕ Refusal) → comes_late (begin_answer life r) ≡ false
+turn-begin life (Ok n) = refl
+turn-begin life (Err e) = refl
+
+turn-reply : (op : Option Op) → comes_late (reply_of op) ≡ false
+turn-reply None = refl
+turn-reply (Some op) = refl
+
+turn-call : (s : Stored) (life x : ℕ) (r : Result calls.Answer Refusal) → comes_late (call_answer s life x r) ≡ false
+turn-call s life x (Ok (call.Reply k)) = turn-reply (op_of_object s x k)
+turn-call s life x (Ok (call.Busy u)) = refl
+turn-call s life x (Ok call.None) = refl
+turn-call s life x (Err e) = refl
+
+turn-done : (r : Result (Unit {0}) Refusal) → comes_late (done_or Done r) ≡ false
+turn-done (Ok u) = refl
+turn-done (Err e) = refl
+
+turn-committed : (r : Result (Unit {0}) Refusal) → comes_late (done_or Committed r) ≡ false
+turn-committed (Ok u) = refl
+turn-committed (Err e) = refl
+
+turn-kept : (o : Option Object) (old : Stored) (x : ℕ) (answer : AnswerLine) → MatchOption o (answer ≡ Refused NoObject) (λ o. (state : ℕ) × IsKeptState old x state × (answer ≡ State state)) → comes_late answer ≡ false
+turn-kept None old x answer it = ap comes_late it
+turn-kept (Some o) old x answer it = ap comes_late it.2
+
+turn-objects : (clean : Type 0) (answer : AnswerLine) (objects : List ObjectLine) → TellsObjects clean answer objects → comes_late answer ≡ false
+turn-objects clean (Objects told) objects tells = refl
+turn-objects clean answer objects tells = absurd tells
+
+turn-types : (clean : Type 0) (answer : AnswerLine) (texts : List (List ℕ)) → TellsTypes clean answer texts → comes_late answer ≡ false
+turn-types clean (Types told) texts tells = refl
+turn-types clean answer texts tells = absurd tells
+
+turn-events : (clean : Type 0) (answer : AnswerLine) (events : List EventKind) → TellsEvents clean answer events → comes_late answer ≡ false
+turn-events clean (Events told) events tells = refl
+turn-events clean answer events tells = absurd tells
+
+turn-found : (found : Option ℕ) → comes_late (found_answer found) ≡ false
+turn-found None = refl
+turn-found (Some x) = refl
+
+turn-peek : (clean : Type 0) (answer : AnswerLine) (life : ℕ) (lines : List ObjectLine) (old : Stored) (calls : List AskedCall) (new : Stored) → DoesPeek clean life lines old calls answer new → comes_late answer ≡ false
+turn-peek clean (Seen moment replies) life lines old calls new does = refl
+turn-peek clean (NothingSeen at) life lines old calls new does = refl
+turn-peek clean (Unseen refusal) life lines old calls new does = refl
+turn-peek clean answer life lines old calls new does = absurd does
+
+turn-states : (clean : Type 0) (answer : AnswerLine) (life : ℕ) (lines : List ObjectLine) (old : Stored) (xs : List ObjectWord) (new : Stored) → DoesCommitted clean life lines old xs answer new → comes_late answer ≡ false
+turn-states clean (SeenStates moment states) life lines old xs new does = refl
+turn-states clean (Refused NoObject) life lines old xs new does = refl
+turn-states clean answer life lines old xs new does = absurd does
+
+turn-replies : (replies : List (Option (List ℕ))) (answer : AnswerLine) → TellsReplies replies answer → comes_late answer ≡ false
+turn-replies replies (Completed told) tells = refl
+turn-replies replies Nothing tells = refl
+turn-replies replies answer tells = absurd tells
+
+turn-ended : (life at : ℕ) (how : Ending) → comes_late (ended_answer life at how) ≡ false
+turn-ended life at (ending.Busy u) = refl
+turn-ended life at ending.None = refl
+turn-ended life at (ending.Refused refusal) = refl
+
+turn-attempt : (s : Stored) (life : ℕ) (calls : List CallAt) (came : Attempt) (answer : AnswerLine) → TellsAttempt s life calls came answer → comes_late answer ≡ false
+turn-attempt s life calls (attempt.Done ks) answer tells = turn-replies (replies_of s calls ks.items) answer tells
+turn-attempt s life calls (attempt.Ended at how) answer tells = ap comes_late tells ∙ turn-ended life at how
+turn-attempt s life calls (attempt.NotBegun refusal) answer tells = ap comes_late tells
+
+does-turn : (clean : Type 0) (most life : ℕ) (c : Contents) (line : List ℕ) (old : Stored) (r : Request) (answer : AnswerLine) (new : Stored) → DoesRequest clean most life c line old r answer new → comes_late answer ≡ false
+does-turn clean most life c line old request.Begin answer new does = either (is_epoch_full most old) does (λ p. ap comes_late p.0) (λ p. ap comes_late p.2 ∙ turn-begin life p.0)
+does-turn clean most life c line old (request.Call t x name) answer new does = either (t.life == life) does.2 (λ p. ap comes_late p.2 ∙ turn-call new life does.0 p.0) (λ p. ap comes_late p.0)
+does-turn clean most life c line old (request.Would t x name) answer new does = either (t.life == life) does.2 (λ p. ap comes_late p.2 ∙ turn-call old life does.0 p.0) (λ p. ap comes_late p.0)
+does-turn clean most life c line old (request.Commit t) answer new does = either (t.life == life) does (λ p. ap comes_late p.2 ∙ turn-committed p.0) (λ p. ap comes_late p.0)
+does-turn clean most life c line old (request.Abort t) answer new does = either (t.life == life) does (λ p. ap comes_late p.2 ∙ turn-done p.0) (λ p. ap comes_late p.0)
+does-turn clean most life c line old (request.Rollback t count) answer new does = either (t.life == life) does (λ p. ap comes_late p.2 ∙ turn-done p.0) (λ p. ap comes_late p.0)
+does-turn clean most life c line old (request.Kept x) answer new does = turn-kept (slice_get (objects old) does.0) old does.0 answer does.2.1
+does-turn clean most life c line old request.Peek answer new does = turn-peek clean answer life c.objects old (calls_asked line) new does
+does-turn clean most life c line old request.Committed answer new does = turn-states clean answer life c.objects old (objects_asked line) new does
+does-turn clean most life c line old request.Do answer new does = either (is_epoch_full most old) does (λ p. ap comes_late p.0) (λ it. turn-attempt new life it.made it.came answer it.tells)
+does-turn clean most life c line old (request.Find name) answer new does = ap comes_late does.2 ∙ turn-found does.1
+does-turn clean most life c line old request.Objects answer new does = turn-objects clean answer c.objects does.0
+does-turn clean most life c line old request.Types answer new does = turn-types clean answer c.types does.0
+does-turn clean most life c line old (request.Events from count) answer new does = turn-events clean answer (events_from old from count) does.0
+does-turn clean most life c line old request.Stats answer new does = ap comes_late does.0
+does-turn clean most life c line old request.Extend answer new does = ap comes_late does.0
+does-turn clean most life c line old request.End answer new does = ap comes_late does.0
+
+pub answered-turn : (clean : Type 0) (most life : ℕ) (c : Contents) (line : List ℕ) (old : Stored) (a : Answered) (new : Stored) → IsAnswered clean most life c line old a new → comes_late a.answer ≡ false
+answered-turn clean most life c line old a new answered =
+    elim (asked_by line).request as (λ (q : Result Request RequestFault). MatchResult q (λ r. DoesRequest clean most life c line old r a.answer new) (λ fault. (a.answer ≡ Fault fault) × (new ≡ old)) → comes_late a.answer ≡ false) [
+      | Ok r ↦ λ does. does-turn clean most life c line old r a.answer new does
+      | Err fault ↦ λ told. ap comes_late told.0
+    ] answered.request
+
+not-added-turn : (answer : AnswerLine) → is_not_added answer ≡ true → comes_late answer ≡ false
+not-added-turn (NotAdded why) it = refl
+not-added-turn answer it = absurd cc
+
+pub more-turn : (a : Answered) (waits : Option Extension) → MayWait a.tag a.answer waits → comes_late a.answer ≡ false
+more-turn a None it = not-added-turn a.answer it
+more-turn a (Some e) it = ap comes_late it.0
+
+-- each line but one that asks for the end has an answer
+pub serves-count : {clean : Type 0} {most : ℕ} {c : Contents} {first : ℕ} {lines : List (List ℕ)} {old : Stored} {answers : List Answered} {life : ℕ} {said : Contents} {new : Stored} {ended : Option Asked} {waits : Option Extension}
+    → Serves clean most c first lines old answers life said new ended waits → (in_turn answers ≤ length lines) × (ended ≡ None → length lines ≡ in_turn answers)
+serves-count (Serves.none s) = (omega arith, λ e. refl)
+serves-count {clean} {most} (Serves.line lines asked old mid new answers a life said waits before other may answered) =
+    let so_far = (serves-count before).1 refl in
+    let one = turn-one a (answered-turn clean (limit_while waits most) life said asked mid a new answered) in
+    (omega (arith, length-append lines (asked ∷ []), turn-append answers (a ∷ []), one, so_far), λ e. omega (arith, length-append lines (asked ∷ []), turn-append answers (a ∷ []), one, so_far))
+serves-count (Serves.more lines asked old new answers a life said waits before may more) =
+    let so_far = (serves-count before).1 refl in
+    let one = turn-one a (more-turn a waits more.told) in
+    (omega (arith, length-append lines (asked ∷ []), turn-append answers (a ∷ []), one, so_far), λ e. omega (arith, length-append lines (asked ∷ []), turn-append answers (a ∷ []), one, so_far))
+serves-count (Serves.end lines asked old new answers life said waits before ends) =
+    let so_far = (serves-count before).1 refl in
+    (omega (arith, length-append lines (asked ∷ []), so_far), λ e. absurd cc)
+serves-count (Serves.forget lines old mid answers life n said ended waits before) = serves-count before
+serves-count (Serves.epoch lines old mid new answers life next said now waits before full renews follows says) =
+    let so_far = serves-count before in
+    (omega (arith, turn-epoch waits mid answers, so_far.0), λ e. so_far.1 refl ∙ sym (turn-epoch waits mid answers))
