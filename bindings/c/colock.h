@@ -209,7 +209,7 @@ typedef struct colock_shape {
     uint64_t kind;
 } colock_shape;
 
-/* How the transaction of colock_attempt ended. */
+/* How the transaction of colock_attempt or colock_attempt_op ended. */
 typedef enum colock_outcome_kind {
     COLOCK_OUTCOME_DONE = 0,   /* it committed */
     COLOCK_OUTCOME_BUSY = 1,   /* a call was answered COLOCK_BUSY: `number` is the blocker */
@@ -366,6 +366,12 @@ uint32_t colock_would_op(colock_store *store, uint64_t transaction, uint32_t obj
 uint32_t colock_attempt(colock_store *store, uint8_t worker, const uint32_t *objects, size_t objects_count,
                         const char *names, size_t names_count, uint64_t *operations, size_t operations_count,
                         colock_outcome *outcome);
+/* The same by the numbers of the calls, each at the place of its object: with no memory but what its events and operations
+ * take. Where it aborts, the first places of the room may have operations of calls before the one that ended it; what isn't a
+ * call's number is refused at its place as COLOCK_NO_CALL. COLOCK_BAD_PARAMETER where there are more calls or fewer than objects. */
+uint32_t colock_attempt_op(colock_store *store, uint8_t worker, const uint32_t *objects, size_t objects_count,
+                           const uint64_t *calls, size_t calls_count, uint64_t *operations, size_t operations_count,
+                           colock_outcome *outcome);
 /* Ends a transaction, which needs no memory and no more room in the history. COLOCK_NOT_OPEN. */
 uint32_t colock_commit(colock_store *store, uint8_t worker, uint64_t transaction);
 uint32_t colock_abort(colock_store *store, uint8_t worker, uint64_t transaction);
@@ -507,6 +513,11 @@ COLOCK_BEFORE_(colock_attempt,
                 size_t names_count, uint64_t *operations, size_t operations_count, colock_outcome *outcome),
                (store, worker, COLOCK_THERE_(const uint32_t, objects), objects_count, COLOCK_THERE_(const char, names),
                 names_count, COLOCK_THERE_(uint64_t, operations), operations_count, outcome))
+COLOCK_BEFORE_(colock_attempt_op,
+               (colock_store *store, uint8_t worker, const uint32_t *objects, size_t objects_count, const uint64_t *calls,
+                size_t calls_count, uint64_t *operations, size_t operations_count, colock_outcome *outcome),
+               (store, worker, COLOCK_THERE_(const uint32_t, objects), objects_count, COLOCK_THERE_(const uint64_t, calls),
+                calls_count, COLOCK_THERE_(uint64_t, operations), operations_count, outcome))
 COLOCK_BEFORE_(colock_peek,
                (colock_store *store, uint32_t object, const char *name, size_t name_count, colock_answer *answer,
                 uint64_t *commits),

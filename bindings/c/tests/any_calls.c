@@ -160,6 +160,17 @@ static void attempt(int h) {
     for (uint64_t i = 0; i < 4; i++) WANT((room[i] != UNTOUCHED) == (!code && outcome.kind == COLOCK_OUTCOME_DONE && i < count));
 }
 
+/* The same by numbers, of which there may be more or fewer, and of which some are no call's. */
+static void attempt_op(int h) {
+    uint32_t objects[3] = {(uint32_t)number(), (uint32_t)number(), (uint32_t)number()};
+    uint64_t calls[3] = {operation(), operation(), operation()}, room[4] = {UNTOUCHED, UNTOUCHED, UNTOUCHED, UNTOUCHED}, count = draw(4), calls_count = draw(4), places = draw(4);
+    colock_outcome outcome = {UNTOUCHED, UNTOUCHED, UNTOUCHED};
+    uint32_t code = meant_for(h, A_STORE, colock_attempt_op(&handles[h].store, (uint8_t)number(), objects, count, calls, calls_count, room, places, &outcome));
+    WANT(code ? outcome.kind == UNTOUCHED : outcome.kind <= COLOCK_OUTCOME_REFUSED && outcome.at <= count && count == calls_count && count <= places);
+    uint64_t filled = code ? 0 : outcome.kind == COLOCK_OUTCOME_DONE ? count : outcome.at;
+    for (uint64_t i = 0; i < 4; i++) WANT(i < filled || room[i] == UNTOUCHED);
+}
+
 /* What is committed, in some room. */
 static void read_committed(int h) {
     static const char *const names[] = {"balance", "value", "member:a", "free", "inc:1", "take:5", "deq", ""};
@@ -229,6 +240,7 @@ int main(int argc, char **argv) {
         case 13: extend(h); break;
         case 16: case 17: attempt(h); break;
         case 18: read_committed(h); break;
+        case 19: case 20: attempt_op(h); break;
         case 14: case 15: meant_for(h, A_STORE, colock_begin(&handles[h].store, (uint8_t)number(), &t)); break;
         default: transact(h);
         }

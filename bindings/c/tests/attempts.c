@@ -1,4 +1,4 @@
-/* Whole transactions in one call, beside the same commands one by one. */
+/* Whole transactions in one call, by names and by numbers, beside the same commands one by one. */
 #include "want.h"
 
 enum { MOST_EVENTS = 4000, ROOM = 8 };
@@ -44,10 +44,35 @@ typedef struct attempt {
     uint64_t operations[ROOM];
 } attempt;
 
+/* Whether the calls are given by their numbers. */
+static bool by_number;
+
+/* The numbers of the calls whose names are the words of a text, each at the object at its place. What isn't there gets one that
+ * no call has: that of an operation which isn't the first of its call, or of none. */
+static size_t numbers_of(colock_store *store, const uint32_t *objects, size_t count, const char *names, uint64_t calls[ROOM]) {
+    static const uint64_t none[] = {WITHDRAW_1_SHORT, 255, COLOCK_OPERATION(0, 1), UINT64_MAX};
+    static size_t turn;
+    size_t made = 0;
+    for (size_t length; *(names += strspn(names, " ")); names += length, made++) {
+        length = strcspn(names, " ");
+        WANT(made < ROOM);
+        if (made >= count || colock_call_number(store, objects[made], names, length, &calls[made]) != COLOCK_OK) calls[made] = none[turn++ % 4];
+    }
+    return made;
+}
+
 static attempt attempted_in(colock_store *store, uint8_t w, const uint32_t *objects, size_t count, const char *names, size_t places) {
     attempt a = {UNTOUCHED, {UNTOUCHED, UNTOUCHED, UNTOUCHED}, {0}};
+    uint64_t calls[ROOM];
     for (int i = 0; i < ROOM; i++) a.operations[i] = UNTOUCHED;
-    a.code = colock_attempt(store, w, objects, count, TEXT(names), a.operations, places, &a.outcome);
+    if (!by_number) {
+        a.code = colock_attempt(store, w, objects, count, TEXT(names), a.operations, places, &a.outcome);
+        return a;
+    }
+    size_t made = numbers_of(store, objects, count, names, calls);
+    a.code = colock_attempt_op(store, w, objects, count, calls, made, a.operations, places, &a.outcome);
+    if (!a.code && a.outcome.kind) /* there may be operations of the calls before */
+        for (uint64_t i = 0; i < a.outcome.at; i++) a.operations[i] = UNTOUCHED;
     return a;
 }
 
@@ -117,7 +142,7 @@ static void no_call_is_a_transaction_too(void) {
     colock_outcome outcome = {UNTOUCHED, UNTOUCHED, UNTOUCHED};
     colock_store s = COLOCK_EMPTY;
     open_accounts(&s, 1, 4, 1);
-    WANT(colock_attempt(&s, 9, NULL, 0, NULL, 0, NULL, 0, &outcome) == COLOCK_OK);
+    WANT((by_number ? colock_attempt_op(&s, 9, NULL, 0, NULL, 0, NULL, 0, &outcome) : colock_attempt(&s, 9, NULL, 0, NULL, 0, NULL, 0, &outcome)) == COLOCK_OK);
     WANT(outcome.kind == COLOCK_OUTCOME_DONE && outcome.at == 0 && outcome.number == 0 && has_last(&s, kinds, 2, 9));
     WANT(is_done(attempted(&s, 9, NULL, 0, "   "), NULL, 0) && has_last(&s, kinds, 2, 9));
     WANT(is_not_begun(attempted(&s, 9, NULL, 0, ""), COLOCK_HISTORY_FULL) && colock_store_close(&s) == COLOCK_OK);
@@ -296,13 +321,13 @@ static void step_both(colock_store *store, colock_store *other, uint64_t *of, ui
     WANT(codes[0] == codes[1] && !memcmp(&answers[0], &answers[1], sizeof answers[0]));
 }
 
-/* Random attempts, beside transactions that are open, at a store; and the same commands one by one at another. */
+/* Random attempts, by names or by numbers, beside transactions that are open, at a store; and the same commands one by one at another. */
 static void attempts_are_the_same_one_by_one(uint64_t events, uint32_t open, long steps, long met[8]) {
     uint64_t of[MOST_OPEN] = {UINT64_MAX, UINT64_MAX, UINT64_MAX, UINT64_MAX};
     colock_store s = COLOCK_EMPTY, other = COLOCK_EMPTY;
     open_all(&s, events, open), open_all(&other, events, open);
     for (long i = 0; i < steps; i++) {
-        if (draw(2)) attempt_both(&s, &other, events, open, met);
+        if (draw(2)) by_number = draw(2), attempt_both(&s, &other, events, open, met);
         else step_both(&s, &other, &of[draw(MOST_OPEN)], open);
     }
     are_same(&s, &other);
@@ -313,13 +338,19 @@ static void attempts_are_the_same_one_by_one(uint64_t events, uint32_t open, lon
     WANT(colock_store_close(&s) == COLOCK_OK && colock_store_close(&other) == COLOCK_OK);
 }
 
-int main(void) {
-    long met[8] = {0};
+static void as_they_have_to_be(void) {
     all_calls_are_done();
     no_call_is_a_transaction_too();
     for (uint32_t at = 0; at < 3; at++) a_call_ends_it(at), a_call_of_no_legal_operation_ends_it(at);
     it_is_begun_where_there_is_room();
     parameters_fit_or_nothing_is_begun();
+}
+
+int main(void) {
+    long met[8] = {0};
+    as_they_have_to_be();
+    by_number = true;
+    as_they_have_to_be();
     for (int i = 0; i < 300; i++) attempts_are_the_same_one_by_one(i % 3 ? 60 : 3000, 2 + (uint32_t)i % 4, 200, met);
     for (int i = 0; i < 6; i++) WANT(met[i] > 0); /* each outcome, and each reason not to begin */
     puts("whole transactions in one call: as they have to be");

@@ -259,6 +259,8 @@ static void is_no_store(colock_store *handle) {
     WANT(colock_would_op(handle, 0, 0, 0, &answer) == COLOCK_NOT_HELD);
     WANT(colock_attempt(handle, 0, &(uint32_t){0}, 1, TEXT("inc:1"), &n, 1, &outcome) == COLOCK_NOT_HELD);
     WANT(colock_attempt(handle, 0, NULL, 0, TEXT("inc:1"), NULL, 0, &outcome) == COLOCK_NOT_HELD);
+    WANT(colock_attempt_op(handle, 0, &(uint32_t){0}, 1, &(uint64_t){0}, 1, &n, 1, &outcome) == COLOCK_NOT_HELD);
+    WANT(colock_attempt_op(handle, 0, NULL, 0, &(uint64_t){0}, 1, NULL, 0, &outcome) == COLOCK_NOT_HELD);
     WANT(colock_commit(handle, 0, 0) == COLOCK_NOT_HELD);
     WANT(colock_abort(handle, 0, 0) == COLOCK_NOT_HELD);
     WANT(colock_rollback(handle, 0, 0, 1) == COLOCK_NOT_HELD);

@@ -136,10 +136,22 @@ static uint64_t events_of(colock_store *store, colock_event room[9]) {
     return count;
 }
 
+/* Attempts the calls of these names, or of their numbers. */
+static uint32_t attempt_as(colock_store *store, bool by_number, uint64_t room[5], colock_outcome *outcome) {
+    static const char *const names[] = {"inc:1", "inc:2", "give:17", "enq:b"};
+    static const uint32_t objects[] = {0, 3, 7, 9};
+    uint64_t calls[4];
+    long granted = left;
+    left = -1;
+    for (int i = 0; i < 4; i++) WANT(colock_call_number(store, objects[i], TEXT(names[i]), &calls[i]) == COLOCK_OK);
+    left = granted;
+    if (by_number) return colock_attempt_op(store, 1, objects, 4, calls, 4, room, 5, outcome);
+    return colock_attempt(store, 1, objects, 4, TEXT("inc:1 inc:2 give:17 enq:b"), room, 5, outcome);
+}
+
 /* An attempt of which one allocation is refused: it isn't begun, and nothing has changed; or a call ends it, and what came
  * before is aborted; or it is done. Then the same one is done. Which it was, and whether it was refused at all, is told. */
-static int attempt(colock_type types[TYPES], long granted) {
-    static const char names[] = "inc:1 inc:2 give:17 enq:b";
+static int attempt(colock_type types[TYPES], bool by_number, long granted) {
     static const uint32_t objects[] = {0, 3, 7, 9};
     colock_store store = COLOCK_EMPTY;
     colock_outcome outcome = {UNTOUCHED, UNTOUCHED, UNTOUCHED};
@@ -149,7 +161,7 @@ static int attempt(colock_type types[TYPES], long granted) {
     make_objects(&store, types);
     WANT(colock_store_open(&store, 100) == COLOCK_OK);
     left = granted;
-    uint32_t code = colock_attempt(&store, 1, objects, 4, TEXT(names), room, 5, &outcome);
+    uint32_t code = attempt_as(&store, by_number, room, &outcome);
     bool was_refused = left < 0;
     left = -1;
     uint64_t count = events_of(&store, events);
@@ -157,29 +169,54 @@ static int attempt(colock_type types[TYPES], long granted) {
         WANT(count == 0 && outcome.kind == UNTOUCHED && room[0] == UNTOUCHED);
         met = 1;
     } else if (outcome.kind) {
-        WANT(code == COLOCK_OK && outcome.kind == COLOCK_OUTCOME_REFUSED && outcome.number == COLOCK_NO_MEMORY && room[0] == UNTOUCHED);
+        WANT(code == COLOCK_OK && outcome.kind == COLOCK_OUTCOME_REFUSED && outcome.number == COLOCK_NO_MEMORY && (by_number || room[0] == UNTOUCHED));
         WANT(outcome.at < 4 && count == outcome.at + 2 && events[0].kind == COLOCK_EVENT_BEGIN && events[count - 1].kind == COLOCK_EVENT_ABORT);
         for (uint64_t i = 0; i < outcome.at; i++) WANT(events[i + 1].kind == COLOCK_EVENT_OP && events[i + 1].object == objects[i]);
         met = 2;
     } else WANT(code == COLOCK_OK && count == 6 && events[5].kind == COLOCK_EVENT_COMMIT && room[3] != UNTOUCHED && room[4] == UNTOUCHED);
     WANT(was_refused == (met > 0) || !met);
-    WANT(colock_attempt(&store, 1, objects, 4, TEXT(names), room, 5, &outcome) == COLOCK_OK && outcome.kind == COLOCK_OUTCOME_DONE);
+    WANT(attempt_as(&store, by_number, room, &outcome) == COLOCK_OK && outcome.kind == COLOCK_OUTCOME_DONE);
     WANT(colock_store_close(&store) == COLOCK_OK);
     return was_refused ? met : 3;
 }
 
 /* Each allocation of an attempt refused in turn. */
-static long attempts(void) {
+static long attempts(bool by_number) {
     colock_type types[TYPES] = {COLOCK_EMPTY};
     long n = 0, met[4] = {0};
     make_types(types);
     do {
-        met[attempt(types, n)]++;
+        met[attempt(types, by_number, n)]++;
     } while (!met[3] && ++n);
     WANT(met[1] > 0 && met[2] > 0); /* before its begin, and at a call */
     for (int i = 0; i < TYPES; i++) WANT(colock_type_close(&types[i]) == COLOCK_OK);
     WANT(live == 0);
     return n;
+}
+
+/* One by numbers takes no memory of its own: where the store has room it needs none. One by names always does. */
+static void none_of_its_own(void) {
+    static const uint32_t objects[] = {7, 8};
+    uint64_t calls[2], room[2], done = 0;
+    colock_type types[TYPES] = {COLOCK_EMPTY};
+    colock_outcome outcome;
+    colock_store store = COLOCK_EMPTY;
+    make_types(types), make_objects(&store, types);
+    WANT(colock_store_open(&store, 1000) == COLOCK_OK && colock_call_number(&store, 7, TEXT("give:17"), &calls[0]) == COLOCK_OK);
+    WANT(colock_call_number(&store, 8, TEXT("give:1"), &calls[1]) == COLOCK_OK);
+    for (int i = 0; i < 20; i++) {
+        left = 0;
+        WANT(colock_attempt(&store, 1, objects, 2, TEXT("give:17 give:1"), room, 2, &outcome) == COLOCK_NO_MEMORY);
+        left = 0;
+        uint32_t code = colock_attempt_op(&store, 1, objects, 2, calls, 2, room, 2, &outcome);
+        bool was_refused = left < 0;
+        left = -1;
+        if (was_refused) code = colock_attempt_op(&store, 1, objects, 2, calls, 2, room, 2, &outcome);
+        WANT(code == COLOCK_OK && outcome.kind == COLOCK_OUTCOME_DONE);
+        done += !was_refused;
+    }
+    WANT(done >= 10 && colock_store_close(&store) == COLOCK_OK);
+    for (int i = 0; i < TYPES; i++) WANT(colock_type_close(&types[i]) == COLOCK_OK);
 }
 
 int main(int argc, char **argv) {
@@ -195,6 +232,7 @@ int main(int argc, char **argv) {
     for (int line = 0; line < 400; line++) met += is_met[line];
     WANT(met == 20); /* each call that may take memory, and no other */
     left = -1;
-    printf("%ld allocations, each refused in turn, at %ld calls: one code, the same call is done then, no leak; %ld of an attempt\n", n, met, attempts());
+    none_of_its_own();
+    printf("%ld allocations, each refused in turn, at %ld calls: one code, the same call is done then, no leak; %ld of an attempt, %ld of one by numbers\n", n, met, attempts(false), attempts(true));
     return 0;
 }

@@ -9,5 +9,6 @@ pub mod Typings
 pub mod Narrowed
 pub mod Becoming
 pub mod AttemptRooms
+pub mod NumberedAttempts
 pub mod Attempted
 pub mod Snapshots

@@ -12,6 +12,7 @@ pub mod Making
 pub mod Calls
 pub mod Foreseen
 pub mod Attempts
+pub mod NumberedAttempts
 pub mod Reads
 pub mod Histories
 pub mod Epochs

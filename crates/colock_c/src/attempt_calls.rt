@@ -6,6 +6,7 @@ ghost use Rattle.colock_c.specs.Attempts.{FitsRoom, IsAttempted, attempt_code, a
 ghost use Rattle.colock_c.specs.Codes.{number};
 
 use crate::code::{Code, code_of};
+use crate::one_call::{do_name, is_word};
 use crate::operations::number_of;
 use crate::parameters::words_of;
 use crate::words::ColockOutcome;
@@ -17,6 +18,29 @@ use type_table::Operation;
 
 /// Attempts the calls of these objects and names, and puts the operations into a room.
 pub(crate) fn attempt_calls(
+    store: &mut Store<Object>,
+    alloc: Global,
+    worker: u8,
+    xs: &[u32],
+    names: &[u8],
+    room: &mut [u64],
+    outcome: &mut ColockOutcome,
+) -> Code
+    ensures attempted { IsAttempted store.old worker xs.now names.now room.old (number result) room.new outcome.new store.new }
+    ensures rest { number result ≢ 0 → (room.new ≡ room.old) × (outcome.new ≡ outcome.old) }
+{
+    if xs.len() == 1
+        && !room.is_empty()
+        && is_word(names)
+        && do_name(store, worker, xs[0], names, room, outcome)
+    {
+        return Code::Done;
+    }
+    attempt_words(store, alloc, worker, xs, names, room, outcome)
+}
+
+/// The same of any calls.
+fn attempt_words(
     store: &mut Store<Object>,
     alloc: Global,
     worker: u8,
@@ -85,7 +109,7 @@ fn tell(came: Attempt, room: &mut [u64], outcome: &mut ColockOutcome) -> Code
 }
 
 /// How the call at a place ended an attempt, in words.
-fn ending_words(at: usize, how: Ending) -> ColockOutcome
+pub(crate) fn ending_words(at: usize, how: Ending) -> ColockOutcome
     ensures { result ≡ ending_words at how }
 {
     let at = at as u64;

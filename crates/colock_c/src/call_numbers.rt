@@ -43,7 +43,7 @@ pub(crate) fn no_call(store: &Store<Object>, t: u32, x: u32, c: u64) -> Code
 }
 
 /// No call at an object has a number that is no operation's.
-fn numbers_none(store: &Store<Object>, x: u32, c: u64)
+pub(crate) fn numbers_none(store: &Store<Object>, x: u32, c: u64)
     requires { operation_by_number c ≡ None }
     ensures { NumbersNone store.now x c }
 {

@@ -5,6 +5,7 @@
 #![tactic(auto)]
 
 mod attempt_calls;
+mod attempt_numbers;
 mod call_numbers;
 mod code;
 pub mod epochs;
@@ -19,6 +20,7 @@ mod loose_box;
 mod made_events;
 mod made_types;
 pub mod new_stores;
+mod one_call;
 mod operations;
 mod parameters;
 pub mod reads;

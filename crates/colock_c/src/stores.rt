@@ -11,8 +11,10 @@ ghost use Rattle.colock_c.specs.Attempts.{AttemptsCalls};
 ghost use Rattle.colock_c.specs.Codes.{number};
 ghost use Rattle.colock_c.specs.Foreseen.{Foresees, ForeseesAt};
 ghost use Rattle.colock_c.specs.Holding.{store_at};
+ghost use Rattle.colock_c.specs.NumberedAttempts.{AttemptsNumbers};
 
 use crate::attempt_calls::attempt_calls;
+use crate::attempt_numbers::attempt_numbers;
 use crate::code::Code;
 use crate::slot::Slot;
 use crate::words::{ColockAnswer, ColockOutcome};
@@ -187,6 +189,31 @@ pub extern "C" fn colock_attempt(
         operations,
         outcome,
     );
+    slot.put(held);
+    code.number()
+}
+
+/// A whole transaction, as `colock_attempt`, by the numbers of its calls, each at the place of its object. It takes no memory but
+/// for its events and operations. Where it aborts, the first places of the room may have the operations of the calls before.
+/// `BadParameter` where there are more numbers or fewer than objects.
+#[unsafe(no_mangle)]
+#[tactic(auto, using(crate::proofs::Becoming::becomes, crate::proofs::Becoming::stays))]
+pub extern "C" fn colock_attempt_op(
+    alloc: Global,
+    slot: &mut Slot,
+    worker: u8,
+    objects: &[u32],
+    calls: &[u64],
+    operations: &mut [u64],
+    outcome: &mut ColockOutcome,
+) -> u32
+    ensures attempts { AttemptsNumbers slot.old.handle.held worker objects.now calls.now operations.old result operations.new outcome.new slot.new.handle.held }
+    ensures rest { result ≢ 0 → (operations.new ≡ operations.old) × (outcome.new ≡ outcome.old) }
+{
+    let Some(mut held) = slot.take_store(alloc) else {
+        return Code::NotHeld.number();
+    };
+    let code = attempt_numbers(held.store(), worker, objects, calls, operations, outcome);
     slot.put(held);
     code.number()
 }

@@ -1,19 +1,25 @@
-use Rattle.std.proofs.Common.{◌≡◌, ◌≤◌, ◌∙◌, List, length, map, ap, arith}
-use Rattle.std.specs.List.{zip}
-use Rattle.line_text.specs.Text.{words_of}
-use Rattle.attempts.specs.Commands.{asked_calls}
-use Rattle.colock_c.proofs.Attempted.{calls-fit, fits-room}
-use Rattle.colock_c.proofs.Narrowed.{Word}
+use Rattle.std.proofs.Common.{◌≡◌, ◌∙◌, length, get_or, arith}
+use Rattle.std.proofs.lemmas.Bool.Decides.{nat_tests}
+use Rattle.colock_c.specs.Codes.{number}
+use Rattle.colock_c.proofs.Attempted.{of-word, only-one, still-attempted}
 use Rattle.colock_c.proofs.attempt_calls.attempt_calls.Goals as goal
+use Rattle.colock_c.proofs.attempt_calls.attempt_calls.Goals.{else-xs-eq1-via-then-xs-eq1+then-not-is_empty+then-is_word+else-do_name, else-xs-eq1-via-then-xs-eq1+then-not-is_empty+else-is_word, else-xs-eq1-via-then-xs-eq1+else-not-is_empty, else-xs-eq1-via-else-xs-eq1}
 
-pub tell-requires : goal.tell-requires
-tell-requires c =
+pub returns-then-do_name-clause-attempted : goal.returns-then-do_name-clause-attempted
+returns-then-do_name-clause-attempted c =
     let xs = c.args.xs.now in
-    let names = words_of c.args.names.now in
-    let calls = asked_calls c.deref-2.result.now in
-    let are : asked_calls c.deref-2.result.now ≡ zip c.args.xs.now (words_of c.args.names.now) =
-    ap asked_calls c.deref-2.ensures.value ∙ c.in-Ok-calls_of.ensures ∙ ap (λ (ws : List Word). zip c.args.xs.now (map (λ (w : Word). w.now) ws)) c.deref.ensures.value
-    ∙ ap (zip c.args.xs.now) c.in-Ok.ensures
-    in
-    let places : length c.args.xs.now ≤ length c.args.room.now = omega (arith, c.if-room-xs.false) in
-    fits-room c.args.store.now c.attempt.new.store c.args.worker calls c.attempt.result c.args.room.now c.attempt.ensures.answers (calls-fit xs names calls c.args.room.now are places)
+    let one : length xs ≡ 1 = first_of (omega arith, grind (arith, nat_tests, c.if-xs-eq1.true)) in
+    of-word c.args.store.now c.do_name.new.store c.args.worker (get_or xs 0 0) xs c.args.names.now c.args.room.now c.do_name.new.room 0 c.do_name.new.outcome
+    (only-one xs 0 one) (c.is_word.ensures c.if-is_word.true) (c.do_name.ensures.done c.if-do_name.true)
+
+pub returns-clause-attempted : goal.returns-clause-attempted
+returns-clause-attempted c =
+    let same : (c.else-xs-eq1.store ≡ c.args.store.now) × (c.else-xs-eq1.room ≡ c.args.room.now) =
+    elim c.else-xs-eq1.branch [
+      | else-xs-eq1-via-then-xs-eq1+then-not-is_empty+then-is_word+else-do_name w ↦ (w.store-is ∙ (w.do_name.ensures.none w.if-do_name.false).0, w.room-is ∙ (w.do_name.ensures.none w.if-do_name.false).1)
+      | else-xs-eq1-via-then-xs-eq1+then-not-is_empty+else-is_word w ↦ (w.store-is, w.room-is)
+      | else-xs-eq1-via-then-xs-eq1+else-not-is_empty w ↦ (w.store-is, w.room-is)
+      | else-xs-eq1-via-else-xs-eq1 w ↦ (w.store-is, w.room-is)
+    ] in
+    still-attempted c.args.store.now c.else-xs-eq1.store c.attempt_words.new.store c.args.worker c.args.xs.now c.args.names.now c.args.room.now c.else-xs-eq1.room c.attempt_words.new.room
+    (number c.attempt_words.result) c.attempt_words.new.outcome same.0 same.1 c.attempt_words.ensures.attempted
