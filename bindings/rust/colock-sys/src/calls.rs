@@ -238,6 +238,21 @@ extern "C" {
         operations_count: usize,
         outcome: *mut Outcome,
     ) -> u32;
+    /// The same by the numbers of the calls, each at the place of its object: with no memory but what its events and
+    /// operations take. Where it aborts, the first places of the room may have operations of calls before the one that
+    /// ended it; what isn't a call's number is refused at its place as [`code::NO_CALL`]. [`code::BAD_PARAMETER`] where
+    /// there are more calls or fewer than objects.
+    pub fn colock_attempt_op(
+        store: *mut Handle,
+        worker: u8,
+        objects: *const u32,
+        objects_count: usize,
+        calls: *const u64,
+        calls_count: usize,
+        operations: *mut u64,
+        operations_count: usize,
+        outcome: *mut Outcome,
+    ) -> u32;
     /// Ends a transaction, which needs no memory and no more room in the history. [`code::NOT_OPEN`].
     pub fn colock_commit(store: *mut Handle, worker: u8, transaction: u64) -> u32;
     /// Ends a transaction, which needs no memory and no more room in the history. [`code::NOT_OPEN`].

@@ -1,17 +1,20 @@
-//! `clients_bench PART SECONDS [DATABASE]`, `clients_bench herd [DATABASE]`: what waiting and turns cost, beside a plain
+//! `clients_bench PART SECONDS [DATABASE]`, `clients_bench herd [DATABASE]`: what waiting, turns and reads cost, beside a plain
 //! mutex. It prints lines `NAME VALUE`, each value a number of commits a second.
 //!
 //! - `think`: sixteen threads count one counter up, and each transaction thinks for a millisecond.
 //! - `mixed`: the same, where each thread counts down and up by turns, by calls that wait.
-//! - `turns`: nobody thinks; one thread, and four, count a counter up and down by turns: in one turn of the lock, by an attempt,
-//!   and by a begin, a call that waits and a commit.
+//! - `turns`: nobody thinks; one thread, and four, count a counter up and down by turns: in one turn of the lock, by an attempt
+//!   in words and by one by the number of its call, and by a begin, a call that waits and a commit.
 //! - `child`: sixteen threads count a wheel on at a store in a file, which is made where nothing is there.
+//! - `peeks`: sixteen threads sell from sixteen stocks, each from one drawn at random, alone and beside a thread that looks at all
+//!   stocks once a millisecond; in memory, or at a store in a file. Both take turns, each for SECONDS in all. `looks` are of the
+//!   thread that looks.
 //! - `herd`: 10 threads, 100, 400 and 800 wait for one object, and each commits as soon as it has it; in memory, or at a
 //!   store in a file.
 //!
 //! The plain counter is held for the whole of a transaction; of its log each transaction has three entries.
 
-use colock::{Attempt, Error, Event, Kind, OpenOptions, SharedStore, Type};
+use colock::{Attempt, Error, Event, Kind, OpenOptions, OperationId, Reply, SharedStore, Type};
 use std::error::Error as AnyError;
 use std::sync::atomic::{AtomicBool, AtomicU64, Ordering};
 use std::sync::Mutex;
@@ -163,15 +166,15 @@ fn turns(limit: Duration) -> Result<(), Error> {
     for threads in [1, 4] {
         let turns = counted(threads, limit, |store, at| store.transact(|turn| turn.expect_op(0, calls[at], "ok")).is_ok())?;
         let attempts = counted(threads, limit, |store, at| matches!(store.attempt([(0, DOWN_AND_UP[at])]), Ok(Attempt::Done(_))))?;
+        let by_number = counted(threads, limit, |store, at| matches!(store.attempt_op(0, calls[at]), Ok(Reply::Operation(_))))?;
         let begun = counted(threads, limit, |store, at| {
             let mut t = store.begin().unwrap();
             t.call_op_within(0, calls[at], LONG).unwrap().expected("ok").unwrap();
             t.commit().is_ok()
         })?;
         let mutex = counted_plainly(threads, limit);
-        println!(
-            "turns_store_{threads} {turns:.0}\nattempts_store_{threads} {attempts:.0}\nbegun_store_{threads} {begun:.0}\nturns_mutex_{threads} {mutex:.0}"
-        );
+        println!("turns_store_{threads} {turns:.0}\nattempts_store_{threads} {attempts:.0}\nattempts_op_store_{threads} {by_number:.0}");
+        println!("begun_store_{threads} {begun:.0}\nturns_mutex_{threads} {mutex:.0}");
     }
     Ok(())
 }
@@ -191,6 +194,92 @@ fn child(limit: Duration, path: &str) -> Result<(), Error> {
         store.close()?;
     }
     Ok(())
+}
+
+/// How many stocks there are to sell from.
+const STOCKS: u32 = 16;
+/// A stock that isn't sold out in an hour, and what is sold of it and looked at.
+const STOCK: &str = "number stock\nmax 4294967295\ninitial 4294967295\ntake 1\nvalue\nend\n";
+const SELL: &str = "take:1";
+const LOOK: &str = "value";
+/// How many turns the sellers have alone, and as many beside who looks.
+const ROUNDS: u32 = 8;
+const BETWEEN_LOOKS: Duration = Duration::from_millis(1);
+
+/// A stock that looks drawn at random, for the sale of a thread that has done so many.
+fn drawn(thread: u64, done: u64) -> u32 {
+    let mixed = (done * THREADS + thread).wrapping_mul(0x9e37_79b9_7f4a_7c15);
+    ((mixed ^ (mixed >> 29)).wrapping_mul(0xbf58_476d_1ce4_e5b9) >> 32) as u32 % STOCKS
+}
+
+/// Looks once a millisecond until all is over: how often.
+fn looked(is_over: &AtomicBool, look: impl Fn()) -> u64 {
+    let (mut next, mut looks) = (Instant::now(), 0);
+    while !is_over.load(Ordering::Relaxed) {
+        look();
+        looks += 1;
+        // who is late doesn't make up for it
+        next = Instant::now().max(next + BETWEEN_LOOKS);
+        thread::sleep(next.saturating_duration_since(Instant::now()));
+    }
+    looks
+}
+
+/// How much is sold in a second, beside who looks if anybody does, and how often that one does in a second.
+fn sold<S: Sync>(store: &S, limit: Duration, sell: fn(&S, u32), look: Option<fn(&S)>) -> (f64, f64) {
+    let is_over = &AtomicBool::new(false);
+    thread::scope(|scope| {
+        let looks = look.map(|look| scope.spawn(move || looked(is_over, || look(store))));
+        let sold = per_second(THREADS, limit, |thread, done| sell(store, drawn(thread, done)));
+        is_over.store(true, Ordering::Relaxed);
+        (sold, looks.map_or(0, |looks| looks.join().unwrap()) as f64 / limit.as_secs_f64())
+    })
+}
+
+/// Sellers alone and beside who looks, by turns; each turn begins with what `make` makes.
+fn peeks<S: Sync>(name: &str, limit: Duration, make: impl Fn() -> Result<S, Error>, sell: fn(&S, u32), look: fn(&S)) -> Result<(), Error> {
+    let (mut alone, mut beside, mut looks) = (0.0, 0.0, 0.0);
+    for _ in 0..ROUNDS {
+        alone += sold(&make()?, limit / ROUNDS, sell, None).0;
+        let (of_round, looks_of_round) = sold(&make()?, limit / ROUNDS, sell, Some(look));
+        beside += of_round;
+        looks += looks_of_round;
+    }
+    let mean = |sum: f64| sum / f64::from(ROUNDS);
+    println!("sold_{name} {:.0}\nsold_{name}_beside {:.0}\nlooks_{name} {:.0}", mean(alone), mean(beside), mean(looks));
+    Ok(())
+}
+
+/// A store of the stocks, and the number of the call that sells.
+struct Shop {
+    store: SharedStore,
+    take: OperationId,
+}
+
+fn shop(store: SharedStore) -> Result<Shop, Error> {
+    let take = store.call_number(0, SELL)?;
+    Ok(Shop { store, take })
+}
+
+fn peeks_in_memory(limit: Duration) -> Result<(), Error> {
+    let stock = Type::read(STOCK, Kind::Escrow)?;
+    let make = || shop(SharedStore::new([&stock; STOCKS as usize], u32::MAX.into())?);
+    let sell = |shop: &Shop, object| assert!(matches!(shop.store.attempt_op(object, shop.take), Ok(Reply::Operation(_))));
+    let look = |shop: &Shop| {
+        assert!(shop.store.snapshot().is_ok());
+        assert!((0..STOCKS).all(|object| shop.store.peek([(object, LOOK)]).is_ok()));
+    };
+    peeks("store", limit, make, sell, look)
+}
+
+/// Over a child, which goes on with one file: all of a look is one line.
+fn peeks_over_child(limit: Duration, path: &str) -> Result<(), Error> {
+    let stock = Type::read(STOCK, Kind::Escrow)?;
+    let store = OpenOptions::new().objects([&stock; STOCKS as usize]).create(true).open(path)?;
+    let sell = |store: &&SharedStore, object| assert!(matches!(store.attempt([(object, SELL)]), Ok(Attempt::Done(_))));
+    let look = |store: &&SharedStore| assert!(store.peek((0..STOCKS).map(|object| (object, LOOK))).is_ok());
+    peeks("child_store", limit, || Ok(&store), sell, look)?;
+    store.close()
 }
 
 /// How long it takes until all that wait for an object have had it, one after another.
@@ -241,10 +330,12 @@ fn main() -> Result<(), Box<dyn AnyError>> {
         [part, seconds] if part == "think" => think(limit(seconds)?)?,
         [part, seconds] if part == "mixed" => mixed(limit(seconds)?)?,
         [part, seconds] if part == "turns" => turns(limit(seconds)?)?,
+        [part, seconds] if part == "peeks" => peeks_in_memory(limit(seconds)?)?,
         [part, seconds, path] if part == "child" => child(limit(seconds)?, path)?,
+        [part, seconds, path] if part == "peeks" => peeks_over_child(limit(seconds)?, path)?,
         [part] if part == "herd" => herd_in_memory()?,
         [part, path] if part == "herd" => herd_over_child(path)?,
-        _ => return Err("clients_bench think|mixed|turns SECONDS, child SECONDS DATABASE, or herd [DATABASE]".into()),
+        _ => return Err("clients_bench think|mixed|turns|peeks SECONDS, child|peeks SECONDS DATABASE, or herd [DATABASE]".into()),
     }
     Ok(())
 }

@@ -1,18 +1,26 @@
 //! Calls that are asked together, in one attempt or in one peek.
 
 use crate::error::Error;
+use crate::few::Few;
 use crate::object::{Object, ObjectRef};
 use crate::objects::Objects;
 use crate::operation_id::OperationId;
 use crate::reply::Operation;
-use colock_waiting::{ObjectIndex, Touched};
+use std::str;
+
+/// How many calls, and how many bytes of their names, take no heap memory.
+pub(crate) const FEW_CALLS: usize = 8;
+const FEW_BYTES: usize = 96;
+
+/// What is no call's number.
+const NO_CALL: u64 = u64::MAX;
 
 /// Calls by the numbers of their objects and by their names, each of which is a word.
 #[derive(Debug, Default)]
 pub(crate) struct Asked {
-    objects: Vec<u32>,
+    objects: Few<u32, FEW_CALLS>,
     /// With a space between two.
-    names: String,
+    names: Few<u8, FEW_BYTES>,
 }
 
 /// A call that isn't asked, by its place from 0.
@@ -43,10 +51,10 @@ impl Asked {
             return Err(Error::NoCall);
         }
         if !self.objects.is_empty() {
-            self.names.push(' ');
+            self.names.append(b" ");
         }
-        self.objects.push(object);
-        self.names.push_str(name);
+        self.objects.append(&[object]);
+        self.names.append(name.as_bytes());
         Ok(())
     }
 
@@ -55,14 +63,11 @@ impl Asked {
         &self.objects
     }
 
-    /// The names, with a space between two.
-    pub(crate) fn names(&self) -> &str {
-        &self.names
-    }
-
     /// Each object with the name of its call.
     pub(crate) fn calls(&self) -> impl Iterator<Item = (u32, &str)> {
-        self.objects.iter().copied().zip(self.names.split(' '))
+        // whole names were written
+        let names = str::from_utf8(&self.names).unwrap_or_default();
+        self.objects.iter().copied().zip(names.split(' '))
     }
 
     /// The words `X NAME X NAME..` of the calls, so many calls in a text.
@@ -77,6 +82,16 @@ impl Asked {
         self.calls().enumerate().map(|(at, (object, name))| number(object, name).map_err(|error| Unasked { at, error })).collect()
     }
 
+    /// The numbers of the calls, as the library has them. One that isn't there has that of none.
+    pub(crate) fn numbers_or_none(&self, objects: &Objects) -> Result<Few<u64, FEW_CALLS>, Error> {
+        let mut numbers = Few::room_of(self.objects.len())?;
+        for (number, (object, name)) in numbers.iter_mut().zip(self.calls()) {
+            let call = objects.calls_at(object).ok().and_then(|calls| calls.number(name));
+            *number = call.map_or(NO_CALL, u64::from);
+        }
+        Ok(numbers)
+    }
+
     /// The operations of calls of these numbers that have these replies, as the library has them; nothing where there are
     /// none, or more replies or fewer than calls.
     pub(crate) fn operations(&self, calls: &[OperationId], replies: &str, objects: &Objects) -> Option<Vec<u64>> {
@@ -86,26 +101,23 @@ impl Asked {
         operations.collect::<Option<Vec<u64>>>().filter(|_| replies.len() == calls.len())
     }
 
-    /// At which objects it may execute something.
-    pub(crate) fn touched(&self) -> Touched {
-        self.objects.iter().copied().map(ObjectIndex).collect()
-    }
-
     /// Operations of the calls, as the library has them, in words.
     pub(crate) fn in_words(&self, operations: &[u64], objects: &Objects) -> Result<Vec<Operation>, Error> {
-        let in_words = |(object, number): (&u32, &u64)| {
-            let id = (*number).try_into().map_err(|_| Error::Unknown(*number))?;
-            objects.calls_at(*object)?.in_words(id).ok_or(Error::Unknown(*number))
-        };
-        self.objects.iter().zip(operations).map(in_words).collect()
+        let mut words = Vec::with_capacity(operations.len());
+        for (object, number) in self.objects.iter().zip(operations) {
+            let id = OperationId::try_from(*number).map_err(|_| Error::Unknown(*number))?;
+            words.push(objects.calls_at(*object)?.in_words(id).ok_or(Error::Unknown(*number))?);
+        }
+        Ok(words)
     }
 }
 
 #[cfg(test)]
 mod tests {
-    use super::{Asked, Unasked};
+    use super::{Asked, Unasked, NO_CALL};
     use crate::object::Object;
-    use crate::Error;
+    use crate::objects::Objects;
+    use crate::{Error, Kind, OperationId, Type};
 
     /// Objects by their numbers, of which `a` is 7.
     fn number_of(object: Object<'_>) -> Result<u32, Error> {
@@ -119,12 +131,31 @@ mod tests {
     #[test]
     fn calls_are_asked_in_their_order() {
         let asked = Asked::of([(Object::Number(3), "inc:1"), (Object::Name("a"), "hold")], number_of).unwrap();
-        assert_eq!((asked.objects(), asked.names()), (&[3, 7][..], "inc:1 hold"));
-        assert_eq!(asked.calls().collect::<Vec<_>>(), [(3, "inc:1"), (7, "hold")]);
+        assert_eq!((asked.objects(), asked.calls().collect::<Vec<_>>()), (&[3, 7][..], vec![(3, "inc:1"), (7, "hold")]));
         assert_eq!((asked.lines(64), asked.lines(1)), (vec!["3 inc:1 7 hold".to_string()], vec!["3 inc:1".to_string(), "7 hold".to_string()]));
-        assert!(asked.touched().has(colock_waiting::ObjectIndex(3)) && !asked.touched().has(colock_waiting::ObjectIndex(4)));
         let none: [(u32, &str); 0] = [];
         assert_eq!(Asked::of(none, number_of).unwrap().calls().count(), 0);
+    }
+
+    #[test]
+    fn there_may_be_many() {
+        let names: Vec<String> = (0..100).map(|call| format!("take:{call}")).collect();
+        for count in [7, 8, 9, 13, 14, 100] {
+            let asked = Asked::of((0..).zip(&names[..count]), number_of).unwrap();
+            assert_eq!(asked.objects(), (0..count as u32).collect::<Vec<u32>>());
+            assert!(asked.calls().map(|(_, name)| name).eq(names[..count].iter().map(String::as_str)));
+        }
+    }
+
+    #[test]
+    fn a_call_that_isnt_there_has_the_number_of_none() {
+        let counter = Type::counter(5, &[1, 2], Kind::Undo).unwrap();
+        let purse = Type::read("number purse\nmax 40\ninitial 7\ntake any\nvalue\nend\n", Kind::Escrow).unwrap();
+        let objects = Objects::of(Objects::none().checked([&counter, &purse]).unwrap(), 2);
+        let asked = Asked::of([(0, "dec:1"), (0, "x"), (1, "take:17"), (1, "take:41"), (1, "value"), (2, "dec:1")], number_of).unwrap();
+        let numbers = [OperationId::listed(1), OperationId::with(0, 17), OperationId::with(2, 0)].map(u64::from);
+        assert_eq!(*asked.numbers_or_none(&objects).unwrap(), [numbers[0], NO_CALL, numbers[1], NO_CALL, numbers[2], NO_CALL]);
+        assert!(OperationId::try_from(NO_CALL).is_err());
     }
 
     #[test]

@@ -1,7 +1,9 @@
-use crate::asked::{Asked, Unasked};
+use crate::asked::{Asked, Unasked, FEW_CALLS};
 use crate::error::Error;
+use crate::few::Few;
 use crate::objects::Objects;
-use crate::reply::Operation;
+use crate::operation_id::OperationId;
+use crate::reply::{Operation, Reply};
 use crate::transaction_id::TransactionId;
 
 /// What came of an attempt: a whole transaction that was asked in one call, by [`SharedStore::attempt`](crate::SharedStore::attempt) or
@@ -76,11 +78,25 @@ impl From<Ending> for Error {
 #[derive(Debug, PartialEq, Eq)]
 pub(crate) enum Came {
     /// The operations, as the library has them.
-    Done(Vec<u64>),
+    Done(Few<u64, FEW_CALLS>),
     Ended {
         at: usize,
         how: Ending,
     },
+}
+
+/// What came of an attempt of one call, in numbers: its operation, or how the call ended it.
+pub(crate) type CameOfOne = Result<OperationId, Ending>;
+
+/// It in words, of a call at this object. Why that was refused is an error, as of any call.
+#[inline]
+pub(crate) fn reply_of(came: CameOfOne, object: u32, objects: &Objects) -> Result<Reply, Error> {
+    match came {
+        Ok(id) => objects.calls_at(object)?.in_words(id).map(Reply::Operation).ok_or_else(|| Error::Unknown(id.into())),
+        Err(Ending::Busy { blocker }) => Ok(Reply::Busy { blocker }),
+        Err(Ending::Illegal) => Ok(Reply::Illegal),
+        Err(Ending::Refused(error)) => Err(error),
+    }
 }
 
 impl Unasked {

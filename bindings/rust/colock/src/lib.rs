@@ -88,8 +88,9 @@
 //!
 //! # Whole transactions in one call, and reads that wait for nobody
 //!
-//! [`SharedStore::attempt`] begins, makes its calls and commits, or says which call ended it. [`SharedStore::peek`] reads what is
-//! committed, all of it at one [`Moment`], whoever holds the objects.
+//! [`SharedStore::attempt`] begins, makes its calls and commits, or says which call ended it; [`SharedStore::attempt_op`] does so
+//! with one call by its number. [`SharedStore::peek`] reads what is committed, all of it at one [`Moment`], whoever holds the
+//! objects.
 //!
 //! ```
 //! use colock::{Attempt, Ending, Kind, SharedStore, Type};
@@ -215,6 +216,7 @@ mod attempt;
 mod error;
 mod event;
 mod failure;
+mod few;
 mod fork;
 mod limits;
 mod locks;

@@ -211,6 +211,9 @@ impl<'a> Arena<'a> {
     /// A whole transaction in one call, which waits or doesn't.
     fn attempt(&self, drawn: &mut Drawn) -> Done {
         let calls: Vec<(u32, &str)> = (0..drawn.below(4)).map(|_| self.random_call(drawn)).collect();
+        if let ([(object, name)], 0..2) = (&calls[..], drawn.below(3)) {
+            return self.store.attempt_op(*object, self.store.call_number(*object, name)?)?.executed().map(drop);
+        }
         let attempt = match drawn.below(3) {
             0 => self.store.attempt(calls)?,
             1 => self.store.attempt_within(calls, LONG)?,

@@ -437,6 +437,7 @@ fn an_attempt_in_flight_is_unknown() {
         let store = fake.open_within(limit).unwrap();
         assert_eq!(store.attempt([(0, "inc:1")]), Err(Error::AttemptUnknown), "{arm}");
         assert!(lost(|| store.attempt([(0, "inc:1")])).len() > 3);
+        assert!(lost(|| store.attempt_op(0, 0)).len() > 3);
         assert!(lost(|| store.attempt_within([(0, "inc:1")], LONG)).len() > 3);
         assert!(lost(|| store.moment()).len() > 3);
     }

@@ -105,7 +105,13 @@ fn a_fork_is_told_that_it_is_one() {
 /// Whether each read and each attempt says that this is a fork.
 fn are_attempts_told(store: &SharedStore) -> bool {
     let reads = [is_told(store.moment()), is_told(store.snapshot()), is_told(store.committed_states([0])), is_told(store.peek([(0, "inc:1")]))];
-    let attempts = [is_told(store.attempt([(0, "inc:1")])), is_told(store.attempt_within([(0, "inc:1")], LONG))];
+    let attempts = [
+        is_told(store.attempt([(0, "inc:1")])),
+        is_told(store.attempt_within([(0, "inc:1")], LONG)),
+        is_told(store.attempt_op(0, 0)),
+        is_told(store.attempt_op(0, 200)),
+        is_told(store.attempt_op("a", 0)),
+    ];
     let named = [is_told(store.peek([("a", "inc:1")])), is_told(store.attempt([("a", "inc:1")])), is_told(store.committed_states(["a"]))];
     [&reads[..], &attempts, &named].concat().iter().all(|is_told| *is_told)
 }

@@ -2,7 +2,7 @@
 
 mod common;
 
-use colock::{Attempt, Ending, Error, Moment, Seen, SharedStore, TransactionId};
+use colock::{Attempt, Ending, Error, Moment, Reply, Seen, SharedStore, TransactionId};
 use common::teller::Teller;
 use common::{id, Telling, Told};
 
@@ -49,6 +49,34 @@ fn an_attempt_is_one_line() {
     for (answer, error) in [("refused TooManyOpen", Error::TooManyOpen), ("refused HistoryFull", Error::HistoryFull), ("refused NoMemory", Error::NoMemory)] {
         let (told, _) = asked(&[answer], |store| (store.attempt([(0, "inc:1")]), store.stats()));
         assert_eq!((told.0, told.1.aborts), (Err(error), 1));
+    }
+}
+
+/// By the name of its call.
+#[test]
+fn an_attempt_by_a_number_is_one_line() {
+    let blocker = TransactionId::new(1, 7);
+    let rows = [
+        ("busy 0 1.7", Ok(Reply::Busy { blocker }), 2),
+        ("none 0", Ok(Reply::Illegal), 2),
+        ("refused 0 NoMemory", Err(Error::NoMemory), 2),
+        ("refused NoMemory", Err(Error::NoMemory), 1),
+        ("refused HistoryFull", Err(Error::HistoryFull), 1),
+        ("refused TooManyOpen", Err(Error::TooManyOpen), 1),
+    ];
+    for (answer, wanted, aborts) in rows {
+        let (told, lines) = asked(&[answer], |store| (store.attempt_op(0, 1), store.stats()));
+        assert_eq!((told.0, told.1.commits, told.1.aborts), (wanted, 0, aborts), "{answer}");
+        assert_eq!((told.1.busy[0], &lines[..]), (u64::from(answer.starts_with("busy")), &["do 0 dec:1".to_string(), "end".to_string()][..]));
+    }
+    let (told, lines) = asked(&["busy drain", "done ok"], |store| (store.attempt_op(0, 0).map(|reply| reply.to_string()), store.stats()));
+    assert_eq!((told.0, told.1.commits, lines.len()), (Ok("inc:1 ok".to_string()), 1, 3));
+    // what isn't there isn't asked for
+    let (told, lines) = asked(&[], |store| [store.attempt_op(0, 2), store.attempt_op(1, 0), store.attempt_op("A1", 0)]);
+    assert_eq!((told, lines), ([Err(Error::NoCall), Err(Error::NoObject), Err(Error::NoObjectNamed("A1".to_string()))], vec!["end".to_string()]));
+    for answer in ["done", "done ok ok", "done short", "busy 1 1.7", "none 1", "refused 1 NoCall", "ok", "reply ok"] {
+        let (told, _) = asked(&[answer], |store| store.attempt_op(0, 0));
+        assert!(is_broken(&told), "{answer}: {told:?}");
     }
 }
 

@@ -1,12 +1,14 @@
 //! Whole transactions in one call, in memory.
 
 use crate::asked::Asked;
-use crate::attempt::{Attempt, Came, Ending};
+use crate::attempt::{reply_of, Attempt, Came, CameOfOne, Ending};
 use crate::error::Error;
+use crate::few::Few;
 use crate::memory::handle::done;
-use crate::memory::reads::room_of;
 use crate::memory::store::Store;
 use crate::object::ObjectRef;
+use crate::operation_id::OperationId;
+use crate::reply::Reply;
 use crate::transaction_id::TransactionId;
 use colock_sys as sys;
 
@@ -36,42 +38,98 @@ impl Store {
     #[inline]
     pub fn attempt(&self, calls: impl IntoIterator<Item = (impl ObjectRef, impl AsRef<str>)>) -> Result<Attempt, Error> {
         let asked = Asked::of(calls, |object| self.number_of(object));
-        Came::of(asked, self.objects(), |asked| self.attempt_in_numbers(0, asked, room_of(asked.objects().len())?))
+        Came::of(asked, self.objects(), |asked| self.attempt_in_numbers(0, asked))
     }
 
-    /// The same in numbers, as a worker. There is a room for an operation of each call.
+    /// The same of one call, which [`Store::call_number`] gave: it begins, makes the call, and commits; or aborts where the
+    /// call isn't answered by an operation. It is the shortest way to do one call, and takes no memory but for its
+    /// events and its operation.
+    ///
+    /// It commits whatever the reply is: [`Reply::expected`] makes an error of each but one.
+    ///
+    /// ```
+    /// use colock::{Error, Kind, Reply, Store, Type};
+    ///
+    /// let store = Store::new([("seats", &Type::stock(2, &[1], Kind::Escrow)?)], 1_000)?;
+    /// let (give, take) = (store.call_number("seats", "give:1")?, store.call_number("seats", "take:1")?);
+    /// store.attempt_op("seats", give)?.expected("ok")?;
+    /// let mut holder = store.begin()?;
+    /// holder.expect("seats", "take:1", "ok")?;
+    /// assert_eq!(store.attempt_op("seats", take)?, Reply::Busy { blocker: holder.id() });
+    /// holder.commit()?;
+    /// assert!(store.attempt_op("seats", take)?.is("short"));
+    /// assert_eq!(store.attempt_op("seats", 200), Err(Error::NoCall));
+    /// # Ok::<(), Error>(())
+    /// ```
+    ///
+    /// # Errors
+    ///
+    /// [`Error::NoObjectNamed`] and as of [`Store::attempt`], by which it isn't begun. [`Error::NoObject`], [`Error::NoCall`] or
+    /// [`Error::NoMemory`] where the call can't be made.
     #[inline]
-    pub(crate) fn attempt_in_numbers(&self, worker: u8, asked: &Asked, mut operations: Vec<u64>) -> Result<Came, Error> {
-        let (objects, names) = (asked.objects(), asked.names());
+    pub fn attempt_op(&self, object: impl ObjectRef, call: impl Into<OperationId>) -> Result<Reply, Error> {
+        let object = self.number_of(object.as_object())?;
+        reply_of(self.attempt_op_in_numbers(0, object, call.into())?, object, self.objects())
+    }
+
+    /// An attempt in numbers, as a worker.
+    #[inline]
+    pub(crate) fn attempt_in_numbers(&self, worker: u8, asked: &Asked) -> Result<Came, Error> {
+        let (calls, mut operations) = (asked.numbers_or_none(self.objects())?, Few::room_of(asked.objects().len())?);
+        let outcome = self.attempted(worker, asked.objects(), &calls, &mut operations)?;
+        match self.how_ended(&outcome)? {
+            None => Ok(Came::Done(operations)),
+            Some(how) => Ok(Came::Ended { at: usize::try_from(outcome.at).map_err(|_| Error::Unknown(outcome.at))?, how }),
+        }
+    }
+
+    /// The same of one call.
+    #[inline]
+    pub(crate) fn attempt_op_in_numbers(&self, worker: u8, object: u32, call: OperationId) -> Result<CameOfOne, Error> {
+        let mut operation = 0;
+        let outcome = self.attempted(worker, &[object], &[call.into()], std::slice::from_mut(&mut operation))?;
+        match self.how_ended(&outcome)? {
+            None => OperationId::try_from(operation).map(Ok).map_err(|_| Error::Unknown(operation)),
+            Some(how) => Ok(Err(how)),
+        }
+    }
+
+    /// What the library says of an attempt of calls at these objects. There is a room for an operation of each.
+    #[inline]
+    fn attempted(&self, worker: u8, objects: &[u32], calls: &[u64], operations: &mut [u64]) -> Result<sys::Outcome, Error> {
         let mut outcome = sys::Outcome::default();
-        // SAFETY: a handle as `Handle::at` says; the objects, the names and the operations are a slice each.
+        // SAFETY: a handle as `Handle::at` says; the objects, the calls and the operations are a slice each.
         done(unsafe {
-            sys::colock_attempt(
+            sys::colock_attempt_op(
                 self.handle().at(),
                 worker,
                 objects.as_ptr(),
                 objects.len(),
-                names.as_ptr(),
-                names.len(),
+                calls.as_ptr(),
+                calls.len(),
                 operations.as_mut_ptr(),
                 operations.len(),
                 &mut outcome,
             )
         })?;
-        came_of(outcome, operations, self.life())
+        Ok(outcome)
+    }
+
+    /// How a call ended an attempt; nothing where it is done. Whoever is in the way is of the present life.
+    #[inline]
+    fn how_ended(&self, outcome: &sys::Outcome) -> Result<Option<Ending>, Error> {
+        match outcome.kind {
+            0 => Ok(None),
+            1 => Ok(Some(Ending::Busy { blocker: TransactionId::new(self.life(), outcome.number) })),
+            2 => Ok(Some(Ending::Illegal)),
+            3 => refusal(outcome.number).map(|error| Some(Ending::Refused(error))),
+            kind => Err(Error::Unknown(kind)),
+        }
     }
 }
 
-/// What an outcome says, with these operations where it is done. Whoever is in the way is of the present life.
-#[inline]
-fn came_of(outcome: sys::Outcome, operations: Vec<u64>, life: u64) -> Result<Came, Error> {
-    let how = match outcome.kind {
-        0 => return Ok(Came::Done(operations)),
-        1 => Ending::Busy { blocker: TransactionId::new(life, outcome.number) },
-        2 => Ending::Illegal,
-        3 => Ending::Refused(Error::of_code(u32::try_from(outcome.number).map_err(|_| Error::Unknown(outcome.number))?)),
-        kind => return Err(Error::Unknown(kind)),
-    };
-    let at = usize::try_from(outcome.at).map_err(|_| Error::Unknown(outcome.at))?;
-    Ok(Came::Ended { at, how })
+/// The error of a code by which a call was refused.
+#[cold]
+fn refusal(code: u64) -> Result<Error, Error> {
+    u32::try_from(code).map(Error::of_code).map_err(|_| Error::Unknown(code))
 }

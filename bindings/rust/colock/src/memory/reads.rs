@@ -2,6 +2,7 @@
 
 use crate::asked::Asked;
 use crate::error::Error;
+use crate::few::room_of;
 use crate::memory::handle::done;
 use crate::memory::store::Store;
 use crate::memory::transaction::answered;
@@ -126,12 +127,4 @@ impl Store {
         done(unsafe { sys::colock_snapshot(self.handle().at(), states.as_mut_ptr(), states.len(), &mut commits) })?;
         Ok(Seen { at: Moment::new(self.life(), commits), value: states })
     }
-}
-
-/// Room for so many numbers.
-pub(crate) fn room_of(places: usize) -> Result<Vec<u64>, Error> {
-    let mut room = Vec::new();
-    room.try_reserve_exact(places).map_err(|_| Error::NoMemory)?;
-    room.resize(places, 0);
-    Ok(room)
 }

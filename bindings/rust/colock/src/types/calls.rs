@@ -3,6 +3,7 @@
 use crate::error::Error;
 use crate::operation_id::OperationId;
 use crate::reply::Operation;
+use crate::transaction_id::decimal;
 use crate::types::bounds::Bounds;
 use crate::types::{Kind, Type};
 use crate::word::Word;
@@ -154,7 +155,8 @@ impl Row {
 
 /// A number as names have it: in digits, without a zero before others.
 fn number_of(word: &str) -> Option<u32> {
-    word.parse().ok().filter(|number: &u32| number.to_string() == word)
+    let is_shortest = word.len() == 1 || !word.starts_with('0');
+    decimal(word).filter(|_| is_shortest)?.try_into().ok()
 }
 
 /// What a type lists at its places.

@@ -3,6 +3,7 @@
 use crate::asked::Asked;
 use crate::attempt::{Came, Ending};
 use crate::error::Error;
+use crate::few::Few;
 use crate::operation_id::OperationId;
 use crate::shared::attempts::Tried;
 use crate::shared::{Guard, Lock, SharedStore};
@@ -42,7 +43,7 @@ impl SharedStore {
     /// A transaction that does nothing, for which there is no line.
     fn tried_without_calls(&self) -> Result<Tried<'_>, Error> {
         self.begin()?.commit()?;
-        Ok(Tried { guard: self.enter()?, came: Came::Done(Vec::new()), since: 0 })
+        Ok(Tried { guard: self.enter()?, came: Came::Done(Few::default()), since: 0 })
     }
 
     /// What a child answers to these words, and since when others may have let go.
@@ -66,7 +67,7 @@ impl SharedStore {
         let came = match answer(text) {
             Some(Answer::Drain) => return Ok(None),
             Some(Answer::Refused(error)) => return Err(error),
-            Some(Answer::Done(replies)) => asked.operations(calls, replies, self.objects()).map(Came::Done),
+            Some(Answer::Done(replies)) => asked.operations(calls, replies, self.objects()).map(|operations| Came::Done(Few::from(&operations[..]))),
             Some(Answer::BusyAt(at, blocker)) => ended(at, Ending::Busy { blocker }),
             Some(Answer::NoneAt(at)) => ended(at, Ending::Illegal),
             Some(Answer::RefusedAt(at, error)) => ended(at, Ending::Refused(error)),
