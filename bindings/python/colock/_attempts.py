@@ -25,7 +25,7 @@ class Ended:
     """One of its calls wasn't executed, and it aborted: nothing stays of it.
 
     `index` is the place of that call among those that were given, from 0. `how` says why: `Busy` with the transaction that
-    was in the way, `Illegal`, or the error by which the store refused the call, as `NoMemory`.
+    was in the way, `Illegal`, or the error by which the call was refused, as `NoCall` or `NoMemory`.
     """
 
     __match_args__ = ("index", "how")

@@ -6,9 +6,9 @@ from types import GeneratorType
 from typing import TYPE_CHECKING, Callable, Deque, Dict, Generator, Iterable, List, NamedTuple, Optional, Sequence, Tuple, TypeVar, Union, cast
 from weakref import ref
 
-from ._attempts import Attempt
+from ._attempts import Attempt, Ended
 from ._connection import Slot
-from ._errors import Error, InMemoryOnly, NoObject
+from ._errors import Error, InMemoryOnly, NoCall, NoObject
 from ._events import Event
 from ._let_go import warn_of_transaction
 from ._library import unsigned
@@ -283,6 +283,14 @@ class Backend(ABC):
     def _number_at(self, x: int, name: str) -> int:
         call = self.call_of(x, name)
         return self.call_number(x, name) if call is None else call
+
+    def first_missing(self, pairs: Pairs) -> Optional[Ended]:
+        """How the first call that isn't there ends an attempt; None where all are there."""
+        for index, (x, name) in enumerate(pairs):
+            if self.call_of(x, name) is None:
+                kind = NoCall if x < len(self.types) else NoObject
+                return Ended(index, kind(kind.__doc__))
+        return None
 
     @abstractmethod
     def begin(self, t: "Transaction") -> Asked[bool]:

@@ -390,6 +390,9 @@ class Child(Asking):
             raise InMemoryOnly("a worker other than 0 attempts a transaction only in memory")
         if len(pairs) > MOST_ASKED:
             raise ValueError(f"an attempt of a store in a file has {MOST_ASKED} calls at most, and not {len(pairs)}")
+        missing = self.first_missing(pairs)
+        if missing is not None:
+            return lambda: missing
         calls = self.calls_at(pairs)
         slot = self._connection.made(" ".join(["do", *(f"{x} {name}" for x, _, name in calls)]))
         self._put_with(slot, lambda: self._lets_go(slot, {x for x, _, _ in calls}))

@@ -126,6 +126,7 @@ SIGNATURES: Dict[str, Any] = {
     "would": (_H, _64, _32, _TEXT, _SIZE, _P(Answer)),
     "would_op": (_H, _64, _32, _64, _P(Answer)),
     "attempt": (_H, _8, _P(_32), _SIZE, _TEXT, _SIZE, _P(_64), _SIZE, _P(Outcome)),
+    "attempt_op": (_H, _8, _P(_32), _SIZE, _P(_64), _SIZE, _P(_64), _SIZE, _P(Outcome)),
     "commit": (_H, _8, _64),
     "abort": (_H, _8, _64),
     "rollback": (_H, _8, _64, _64),

@@ -22,12 +22,14 @@ if TYPE_CHECKING:
 
 _BEGIN, _CALL, _CALL_OP, _WOULD, _WOULD_OP = (quick[name] for name in ("begin", "call", "call_op", "would", "would_op"))
 _COMMIT, _ABORT, _ROLLBACK = (quick[name] for name in ("commit", "abort", "rollback"))
-_ATTEMPT, _PEEK, _COMMITTED, _COMMIT_COUNT = (quick[name] for name in ("attempt", "peek", "committed", "commit_count"))
+_ATTEMPT_OP, _PEEK, _COMMITTED, _COMMIT_COUNT = (quick[name] for name in ("attempt_op", "peek", "committed", "commit_count"))
 _ILLEGAL = Illegal()
 # What the library may have done of which the client doesn't know yet.
 Half = Tuple[Optional["Transaction"], int, int]
 # That a transaction was begun.
 _BEGINS: Half = (None, 0, 0)
+# What is no call's number.
+_NO_CALL = (1 << 64) - 1
 
 
 class Memory(Backend):
@@ -207,29 +209,35 @@ class Memory(Backend):
             self.sleepers.ended(t._number, t._touched)
 
     def attempt(self, pairs: Pairs, worker: int) -> Callable[[], Attempt]:
-        calls = self.calls_at(pairs)
         self.put_right()
-        names, count = " ".join(name for _, _, name in calls).encode("ascii"), len(calls)
-        objects, operations, outcome = (ctypes.c_uint32 * count)(*(x for x, _, _ in calls)), (ctypes.c_uint64 * count)(), _library.Outcome()
+        count = len(pairs)
+        numbers = ctypes.c_uint64 * count
+        objects, calls = (ctypes.c_uint32 * count)(*(x for x, _ in pairs)), numbers(*(self._call_or_none(x, name) for x, name in pairs))
+        operations, outcome = numbers(), _library.Outcome()
         self.sleepers.has_woken = False
         # who sleeps may be free behind it
         self.doing = self.sleepers.begin_anew
-        code = _ATTEMPT(self._handle, worker, objects, count, names, len(names), operations, count, outcome)
-        told = None if code else self._came(calls, list(operations), outcome)
+        code = _ATTEMPT_OP(self._handle, worker, objects, count, calls, count, operations, count, outcome)
+        told = None if code else self._came(pairs, list(operations), outcome)
         self.doing = None
         if told is None:
             raise error_of(code)
         return partial(_told_after, told, self.sleepers.has_woken)
 
-    def _came(self, calls: List[CallAt], operations: List[int], outcome: _library.Outcome) -> Attempt:
+    def _call_or_none(self, x: int, name: str) -> int:
+        """The number of a call, as the library refuses it where it isn't there."""
+        call = self.call_of(x, name)
+        return _NO_CALL if call is None else call
+
+    def _came(self, pairs: Pairs, operations: List[int], outcome: _library.Outcome) -> Attempt:
         """What came of an attempt, which is counted. Whoever sleeps at an object that it changed may be free by now."""
         if outcome.kind:
             self.counts.aborts += 1
-            return Ended(outcome.at, self._how(calls[outcome.at].object, outcome))
+            return Ended(outcome.at, self._how(pairs[outcome.at][0], outcome))
         self.counts.commits += 1
         if self.sleepers.calls:
-            self.sleepers.took_back(NOBODY, {x for x, _, _ in calls})
-        return Done(tuple(self._replies[x][number] for (x, _, _), number in zip(calls, operations)))
+            self.sleepers.took_back(NOBODY, {x for x, _ in pairs})
+        return Done(tuple(self._replies[x][number] for (x, _), number in zip(pairs, operations)))
 
     def _how(self, x: int, outcome: _library.Outcome) -> Union[Busy, Illegal, Error]:
         """How a call at an object ended it."""

@@ -297,9 +297,10 @@ class Store:
         With `wait`, 0 or more seconds, it isn't ended by `Busy`: it is tried again when the transaction that was in the way has
         ended, and each second. It holds nothing while it sleeps, and has no turn among those that wait.
 
-        `calls` are 1 or more pairs of an object and the name of a call, in a file at most 64. Raises `NoObject`, `NoCall`,
-        `TooManyOpenError`, `HistoryFullError`, `NoMemory`, `ClosedError`, and `ValueError` of no calls, a negative `wait` or inside
-        of `transact`; with `wait` `TimedOut`. Nothing has changed then. Of a store in a file also `ConnectionLost`, `OutcomeUnknown`
+        `calls` are 1 or more pairs of an object and the name of a call, in a file at most 64. A call that isn't there ends it by
+        `NoObject` or `NoCall`. Raises `NoObject` of a name that no object has, `TooManyOpenError`, `HistoryFullError`, `NoMemory`,
+        `ClosedError`, and `ValueError` of no calls, a negative `wait` or inside of `transact`; with `wait` `TimedOut`. Nothing has
+        changed then. Of a store in a file also `ConnectionLost`, `OutcomeUnknown`
         where the program was lost before it answered, `TimedOut` where the next epoch doesn't come, and `InMemoryOnly` of a
         worker other than 0. Where a signal handler raises in it, it may have committed.
         """

@@ -85,16 +85,39 @@ class Attempts:
 
     def test_what_isnt_there(self):
         store = self.make({"a": COUNTER, "b": COUNTER})
-        for wrong in (2, "c", ""):
-            self.assertRaises(colock.NoObject, store.attempt, [("a", "inc:1"), (wrong, "inc:1")])
-        for name in ("", "none", "inc:1 ", "inc:1 inc:1", "inc:1\n", "ä", "inc", "x" * 5_000):
-            self.assertRaises(colock.NoCall, store.attempt, [("a", "inc:1"), ("b", name)])
+        for wrong in ("c", ""):
+            with self.assertRaises(colock.NoObject) as raised:
+                store.attempt([("a", "inc:1"), (wrong, "inc:1")])
+            self.assertEqual(raised.exception.name, wrong)
         self.assertRaises(ValueError, store.attempt, [])
         for wait in (-1.0, math.nan):
             self.assertRaises(ValueError, store.attempt, [("a", "inc:1")], wait)
         self.assertRaises(OverflowError, store.attempt, [("a", "inc:1")], worker=256)
         self.assertRaises(TypeError, store.attempt, [(None, "inc:1")])
         self.assertEqual((store.event_count(), store.stats().aborts), (0, 0))
+
+    def ended(self, store, calls, wait=None):
+        """At which call an attempt ended, and by which error."""
+        told = store.attempt(calls, wait)
+        self.assertIsInstance(told, Ended)
+        self.assertRaises(type(told.how), told.executed)
+        self.assertEqual(str(told.how), type(told.how).__doc__)
+        return told.index, type(told.how)
+
+    def test_a_call_that_isnt_there_ends_it(self):
+        store, up = self.make({"a": COUNTER, "b": Type(PURSE, Kind.ESCROW)}), ("a", "inc:1")
+        for index in range(3):
+            for x in (2, 7, 65_536, 2**32 - 1):
+                self.assertEqual(self.ended(store, [up] * index + [(x, "inc:1"), up]), (index, colock.NoObject))
+            for name in ("", " ", "none", "inc:1 ", "inc:1 inc:1", "inc:1\n", "ä", "\ud800", "inc", "x" * 5_000):
+                self.assertEqual(self.ended(store, [up] * index + [("a", name), up]), (index, colock.NoCall))
+            for name in ("take:0", "take:any", "take:10001", "take:007", "value:0", "value 1"):
+                self.assertEqual(self.ended(store, [up] * index + [("b", name)], LONG), (index, colock.NoCall))
+        # the first of two
+        self.assertEqual(self.ended(store, [up, ("a", "x"), (2, "x")]), (1, colock.NoCall))
+        self.assertEqual(self.ended(store, [up, (2, "x"), ("a", "x")]), (1, colock.NoObject))
+        self.assertEqual((store.snapshot().states, store.open_count(), store.stats().commits), ((0, 500), 0, 0))
+        self.assertEqual(store.attempt([up]), Done((UP,)))
 
     def drawn(self, source, types):
         """Calls at some of the objects."""
@@ -240,6 +263,25 @@ class Attempts:
 
 
 class AttemptsInMemory(InMemory, Attempts, unittest.TestCase):
+    def test_a_call_that_isnt_there_is_refused_in_its_transaction(self):
+        """So what comes before it is made, and may end it first."""
+        store = self.make([COUNTER, COUNTER])
+        self.assertEqual(self.ended(store, [(0, "inc:1"), (0, "x")]), (1, colock.NoCall))
+        self.assertEqual(lines(store), ["begin 0 0", "op 0 0 0 0", "abort 0 0"])
+        t = store.begin()
+        t.call(1, "inc:1").executed()
+        self.assertEqual(store.attempt([(1, "dec:1"), (0, "x")]), Ended(0, Busy(t.number)))
+        self.assertEqual(store.attempt([(0, "dec:1"), (2, "inc:1")]), Ended(0, Illegal()))
+        self.assertEqual(self.ended(store, [(2, "inc:1"), (1, "dec:1")]), (0, colock.NoObject))
+        self.assertEqual((store.stats().aborts, store.stats().busy, store.open_count()), (4, (0, 1), 1))
+        t.commit()
+
+    def test_a_call_that_isnt_there_of_a_closed_store(self):
+        store = self.make([COUNTER])
+        store.close()
+        for call in (0, "inc:1"), (0, "x"), (1, "inc:1"):
+            self.assertRaises(colock.ClosedError, store.attempt, [call])
+
     def test_it_isnt_begun(self):
         store = Store.with_limits([COUNTER], Limits(events=100, open=1))
         self.addCleanup(store.close)
@@ -261,6 +303,17 @@ class AttemptsInMemory(InMemory, Attempts, unittest.TestCase):
 
 
 class AttemptsOverAChild(OverChild, Attempts, unittest.TestCase):
+    def test_a_call_that_isnt_there_isnt_asked_for(self):
+        store = self.make([COUNTER, COUNTER])
+        t = store.begin()
+        t.call(1, "inc:1").executed()
+        self.assertEqual(self.ended(store, [(1, "dec:1"), (0, "x")]), (1, colock.NoCall))
+        self.assertEqual((store.stats().aborts, store.stats().busy, store.event_count()), (0, (0, 0), 2))
+        t.commit()
+        store.close()
+        for call in (0, "inc:1"), (0, "x"), (2, "inc:1"):
+            self.assertRaises(colock.ClosedError, store.attempt, [call])
+
     def test_the_most_calls_of_a_request(self):
         purse = Type(PURSE, Kind.ESCROW)
         store = self.make([(f"{x:064}", purse) for x in range(100)])
