@@ -1,30 +1,41 @@
-"""Times of whole transactions in one call beside their calls one by one, and of committed states by the length of a log."""
+"""Times of whole transactions in one call beside their steps, and of committed states by the length of a log."""
 import os
-import subprocess
 import tempfile
 
 import durable_times
 import programs
 import type_texts
 
+# Of each kind the type file, and a call that is always legal there.
+TYPES = {"undo": ("modulo.type", "inc:1"), "intentions": ("modulo.type", "inc:1"), "escrow": ("taken.type", "give:1")}
+TAKEN = "number taken\nmax 4294967295\ninitial 0\ngive 1\nend\n"
+CALLS = (1, 4, 16)
+WAYS = ("number", "name")
+LOGS = (1, 10, 100, 1000)
 COUNT, IN_FLIGHT, TURNS = 20_000, 64, 3
-# Of each way the one that it is beside.
-BESIDE = {"attempt": "calls by name"}
 
 
-def from_c(folder, rounds):
-    """Nanoseconds of each way, as `bench/attempts.c` prints them."""
-    program = programs.library_of_c(folder, "attempts")
-    words = [program, os.path.join(folder, "modulo.type"), "inc:1", str(rounds)]
-    told = subprocess.run(words, check=True, capture_output=True, text=True).stdout
-    return {name: float(number) for name, number in (line.rsplit(": ", 1) for line in told.splitlines())}
+def told(program, folder, what, kind, *numbers):
+    """Nanoseconds, as `bench/attempts.c` prints them."""
+    file, call = TYPES[kind]
+    words = programs.printed([program, what, kind, os.path.join(folder, file), call, *numbers])
+    return {name: float(number) for name, number in words.items()}
 
 
-def show_c(folder, rounds):
-    found = from_c(folder, rounds)
-    for name, took in found.items():
-        ratio = f", {took / found[BESIDE[name]]:.2f} of {BESIDE[name]}" if name in BESIDE else ""
-        print(f"{name}: {took:.1f} ns{ratio}", flush=True)
+def show_transactions(program, folder, rounds):
+    """A row for each kind and number of calls: one call of the library, the steps, and the ratio, by number and by name."""
+    print(f"{f'nanoseconds, {rounds} rounds':24}" + "".join(f"{f'by {way}':>12}{'steps':>10}{'ratio':>7}" for way in WAYS))
+    for kind in TYPES:
+        for calls in CALLS:
+            found = told(program, folder, "whole", kind, calls, rounds)
+            pairs = [(found[f"whole_by_{way}"], found[f"steps_by_{way}"]) for way in WAYS]
+            print(f"{f'{kind}, calls: {calls}':24}" + "".join(f"{whole:12.1f}{steps:10.1f}{whole / steps:7.2f}" for whole, steps in pairs), flush=True)
+
+
+def show_committed(program, folder, rounds):
+    for operations in LOGS:
+        took = told(program, folder, "committed", "undo", operations, rounds)["committed"]
+        print(f"committed, a log of {operations}: {took:.1f} ns", flush=True)
 
 
 def show_served(colock, folder):
@@ -44,5 +55,8 @@ def main(rounds):
     with tempfile.TemporaryDirectory(dir=programs.HERE) as folder:
         programs.written(folder, "one.objects", "object undo 0\nend\n")
         programs.written(folder, "modulo.type", type_texts.modulo())
-        show_c(folder, rounds)
+        programs.written(folder, "taken.type", TAKEN)
+        program = programs.library_of_c(folder, "attempts")
+        show_transactions(program, folder, rounds)
+        show_committed(program, folder, rounds)
         show_served(programs.built("colock"), folder)

@@ -1,6 +1,7 @@
 """Times of the clients that wait, in Rust and Python, over the library and over a child process: threads at one counter,
-and how long a hand-over takes where many wait for one object."""
+sellers beside who looks, and how long a hand-over takes where many wait for one object."""
 import os
+import re
 import subprocess
 import sys
 import tempfile
@@ -39,15 +40,22 @@ def most(folder, commands):
     return best
 
 
+def compared(name):
+    """The name of the number that one is compared with, where there is such a one."""
+    if name.endswith("_beside"):
+        return name[: -len("_beside")]
+    # a thread that thinks of nothing counts by the same mutex, in whatever way it counts by the store
+    return re.sub("^(attempts_op|attempts|begun)_", "turns_", name).replace("store", "mutex")
+
+
 def of_rust(folder, program):
-    parts = [[program, part, SECONDS] for part in ("think", "mixed", "turns")]
-    best = most(folder, [*parts, [program, "child", SECONDS, os.path.join(folder, "rust.db")]])
+    parts = [[program, part, SECONDS] for part in ("think", "mixed", "turns", "peeks")]
+    parts += [[program, part, SECONDS, os.path.join(folder, f"{part}.db")] for part in ("child", "peeks")]
+    best = most(folder, parts)
     for name, number in best.items():
-        # a thread that thinks of nothing counts by the same mutex, in whatever way it counts by the store
-        of_mutex = name.replace("attempts", "turns").replace("begun", "turns").replace("store", "mutex")
-        plain = best.get(of_mutex, 0)
-        ratio = f", {number / plain:.2f} of the mutex" if "store" in name and plain else ""
-        print(f"Rust: {name} {number:,.0f} commits a second{ratio}")
+        other = compared(name)
+        ratio = f", {number / best[other]:.2f} of {other}" if other != name and other in best else ""
+        print(f"Rust: {name} {number:,.0f} {'looks' if name.startswith('looks') else 'commits'} a second{ratio}")
 
 
 def of_python(folder):
