@@ -3,8 +3,8 @@
 #[macro_use]
 mod common;
 
-use colock::{Attempt, Ending, Error, Kind, Limits, OperationId, Reply, SharedStore, SharedTransaction, Store, TransactionId, Type};
-use common::{counter, filled, in_memory, lines, over_a_child, until, until_asleep, Drawn, Fixture, Make, Telling, Told, LONG};
+use colock::{Attempt, Ending, Error, Kind, Limits, OperationId, Reply, SharedStore, Store, TransactionId, Type};
+use common::{counter, filled, in_memory, lines, over_a_child, until, until_asleep, with_a_gift, Drawn, Fixture, Make, Telling, Told, LONG};
 use std::thread;
 use std::time::Duration;
 
@@ -185,25 +185,6 @@ fn it_goes_before_those_that_wait(make: Make) {
         assert_eq!(waiter.join().unwrap(), Ok(()));
     });
     assert_eq!(store.kept(0), Ok(501));
-}
-
-/// Two numbers from 0 to 20 at 3, to the first of which an open transaction has given 2; and a call there that waits for its end.
-fn with_a_gift(make: Make, act: impl FnOnce(&SharedStore, SharedTransaction<'_>, &dyn Fn() -> bool)) {
-    let of = Type::stock(20, &[2, 3, 5], Kind::Escrow).unwrap();
-    let store = make(&[&of, &of]);
-    let _done = store.attempt([(0, "give:3"), (1, "give:3")]).unwrap().executed().unwrap();
-    let mut giver = store.begin().unwrap();
-    giver.expect(0, "give:2", "ok").unwrap();
-    thread::scope(|scope| {
-        let taker = scope.spawn(|| {
-            let mut t = store.begin().unwrap();
-            t.expect_within(0, "take:5", "ok", LONG).and_then(|_| t.commit())
-        });
-        until_asleep(&store, 1);
-        act(&store, giver, &|| taker.is_finished());
-        assert_eq!(taker.join().unwrap(), Ok(()));
-    });
-    assert_eq!(store.stats().waits, 1);
 }
 
 /// Its commit lets a call go that waits for another one, which stays open.

@@ -149,6 +149,25 @@ pub fn until_asleep(store: &SharedStore, sleeps: u64) {
     until(|| store.stats().waits >= sleeps);
 }
 
+/// Two numbers from 0 to 20 at 3, to the first of which an open transaction has given 2; and a call there that waits for its end.
+pub fn with_a_gift(make: Make, act: impl FnOnce(&SharedStore, SharedTransaction<'_>, &dyn Fn() -> bool)) {
+    let of = Type::stock(20, &[2, 3, 5], Kind::Escrow).unwrap();
+    let store = make(&[&of, &of]);
+    let _done = store.attempt([(0, "give:3"), (1, "give:3")]).unwrap().executed().unwrap();
+    let mut giver = store.begin().unwrap();
+    giver.expect(0, "give:2", "ok").unwrap();
+    thread::scope(|scope| {
+        let taker = scope.spawn(|| {
+            let mut t = store.begin().unwrap();
+            t.expect_within(0, "take:5", "ok", LONG).and_then(|_| t.commit())
+        });
+        until_asleep(&store, 1);
+        act(&store, giver, &|| taker.is_finished());
+        assert_eq!(taker.join().unwrap(), Ok(()));
+    });
+    assert_eq!(store.stats().waits, 1);
+}
+
 /// The lines of the events from a place on.
 pub fn lines(store: &SharedStore, start: u64) -> Vec<String> {
     store.events(start).unwrap().iter().map(ToString::to_string).collect()
