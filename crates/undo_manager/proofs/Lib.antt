@@ -14,4 +14,4 @@ pub mod Keeping
 pub mod Committing
 pub mod Striking
 pub mod Applying
-pub mod Alone
+pub mod Idling

@@ -1,4 +1,4 @@
-use Rattle.undo_manager.proofs.Alone.{idle-kept, idle-commits}
+use Rattle.undo_manager.proofs.Idling.{idle-kept, idle-commits}
 use Rattle.undo_manager.proofs.undo_manager.UndoManager.commit_alone.Goals as goal
 
 pub invariant_of-self : goal.invariant_of-self
