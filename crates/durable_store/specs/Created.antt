@@ -3,18 +3,14 @@ use Rattle.std.specs.Prelude.{◌≡◌, ◌≤◌, ⊤, ℕ, List, [], ◌∷�
 use Rattle.table_checker.specs.Checked.{Checked}
 use Rattle.store_text.specs.declared.line.ObjectLine.{ObjectLine}
 use Rattle.journal.specs.declared.header.Header.{Header}
-use Rattle.journal.specs.Contents.{Contents}
+use Rattle.journal.specs.Contents.{Contents, newest_format}
 use Rattle.durable_store.specs.declared.open_error.OpenError.{OpenError}
 use Rattle.durable_store.specs.declared.open_error.OpenError.TheVariants.{Journal}
 use Rattle.durable_store.specs.Types.{HasTypes}
 use Rattle.durable_store.specs.Epochs.{firsts}
 
--- the version of the tables of a new file
-abbrev pub newest_format : ℕ
-newest_format = 4
-
--- the versions that are read: in a file of the first no type is a number, in one of the second no operation has an amount, and in one of the third
--- no object has a name
+-- the versions that are read: in a file of the first no type is a number, in one of the second no operation has an amount, in one of the third
+-- no object has a name, and in one of the fourth each event has a row of its own
 abbrev pub IsReadFormat : ℕ → Type 0
 IsReadFormat format = (1 ≤ format) × (format ≤ newest_format)
 

@@ -5,13 +5,10 @@ ghost use Rattle.durable_store.specs.Created.{IsReadFormat};
 ghost use Rattle.durable_store.specs.Recovered.{IsStrayError};
 
 use crate::open_error::OpenError;
-use journal::{FileContents, JournalError};
+use journal::{FORMAT, FileContents, JournalError};
 
-/// The version of the tables that a store writes.
-pub(crate) const FORMAT: u32 = 4;
-
-/// The first version. It and the two after it are read as the newest: in the first no type is a number, in the second
-/// no operation has an amount, and in the third no object has a name.
+/// The first version. It and those after it are read as the newest: in the first no type is a number, in the second
+/// no operation has an amount, in the third no object has a name, and in the fourth each event has a row of its own.
 const FIRST_FORMAT: u32 = 1;
 
 /// That a file is of one of these versions.

@@ -9,9 +9,8 @@ ghost use Rattle.durable_store.specs.Created.{IsLeft, IsNewFile};
 ghost use Rattle.durable_store.specs.Epochs.{firsts};
 
 use crate::begun_types::declared_in;
-use crate::format::FORMAT;
 use crate::open_error::OpenError;
-use journal::{FileContents, FirstState, Header, Journal, TypeText};
+use journal::{FORMAT, FileContents, FirstState, Header, Journal, TypeText};
 use object_types::accept_types;
 use sqlite_trees::store::Alter;
 use std::alloc::{AllocError, Global};

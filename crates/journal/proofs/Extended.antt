@@ -16,8 +16,8 @@ use Rattle.journal.specs.Journal.{IsKeptFile, IsNamedOnce}
 use Rattle.journal.proofs.RowLemmas.{rows-told}
 
 -- the views are those of the file before, without events, with the first states, with all states, with all types, and with all objects
-module _ (old none first states types new : View) (n : ℕ) (header : Header) (front back : List FirstState) (texts : List (List ℕ)) (lines : List ObjectLine) (known count : ℕ)
-    (kept : IsKeptFile old n header) (gone : Empties old none) (again : Rewrites none first 4 (value_rows state_row 0 front))
+module _ (old none first states types new : View) (starts : List ℕ) (n : ℕ) (header : Header) (front back : List FirstState) (texts : List (List ℕ)) (lines : List ObjectLine) (known count : ℕ)
+    (kept : IsKeptFile old starts n header) (gone : Empties old none) (again : Rewrites none first 4 (value_rows state_row 0 front))
     (more_states : AreBehind state_row first states 4 count back) (more_types : AreBehind type_row states types 2 known texts) (more_objects : AreBehind object_row types new 3 count lines)
     (many : length front ≡ count) (many_types : length (contents_of old.trees).types ≡ known) (many_objects : length (contents_of old.trees).objects ≡ count) where
   before : IsFile old.trees
@@ -75,7 +75,7 @@ module _ (old none first states types new : View) (n : ℕ) (header : Header) (f
   committed-same : new.committed ≡ old.committed
   committed-same = named.committed ∙ typed.committed ∙ all.committed ∙ again.committed ∙ gone.committed
 
-  pub begins-anew : IsKeptFile new 0 header
+  pub begins-anew : IsKeptFile new [] 0 header
   begins-anew = record {
     tables = record { each = λ t low. ap (λ s. s t) (named.shape ∙ typed.shape ∙ all.shape ∙ again.shape) ∙ gone.tables.each t low };
     file = λ _. record {
@@ -88,6 +88,7 @@ module _ (old none first states types new : View) (n : ℕ) (header : Header) (f
       outcomes = stays 6 (λ is. omega (arith, is)) (λ is. omega (arith, is)) (λ is. omega (arith, is)) (λ is. omega (arith, is)) (lit< tt) ∙ before.outcomes;
     };
     count_is = λ _. rw events refl;
+    starts_are = λ _. rw events refl;
     header_is = λ _. rw headers (kept.header_is gone.sound);
     kept = λ is_open. subst IsFile (sym committed-same)
         (kept.kept (subst IsTrue (named.is_open ∙ typed.is_open ∙ all.is_open ∙ again.is_open ∙ gone.is_open) is_open));

@@ -1,5 +1,6 @@
 pub mod RowLemmas
 pub mod CursorRows
+pub mod EventPlaces
 pub mod Writes
 pub mod Scans
 pub mod Names

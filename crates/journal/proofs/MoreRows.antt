@@ -1,5 +1,5 @@
 -- Values are written behind those that a table has.
-use Rattle.std.proofs.Common.{◌≡◌, ◌≢◌, refl, sym, ap, subst, ℕ, ◌+◌, ◌<◌, ◌≤◌, List, [], ◌∷◌, ◌++◌, length, take, append-nil, append_assoc, length-append, Some, slice_get, ◌∙◌, arith}
+use Rattle.std.proofs.Common.{◌≡◌, refl, sym, ap, subst, ℕ, ◌+◌, ◌<◌, ◌≤◌, List, [], ◌∷◌, ◌++◌, length, take, append-nil, append_assoc, length-append, Some, slice_get, ◌∙◌, arith}
 use Rattle.std.proofs.lemmas.Bool.{eq-eqb, ne_eqb}
 use Rattle.std.proofs.lemmas.List.{length-take-le, take_all}
 use Rattle.type_table.proofs.Elements.{take-found}
@@ -9,7 +9,7 @@ use Rattle.std.specs.Prelude.{pos}
 use Rattle.sqlite_trees.specs.Tree.{put_row, rowid}
 use Rattle.sqlite_trees.specs.View.{View, SetsTree}
 use Rattle.journal.specs.Rows.{value_rows}
-use Rattle.journal.specs.Tables.{AreBehind, Rewrites}
+use Rattle.journal.specs.Tables.{AreBehind}
 use Rattle.journal.proofs.RowLemmas.{put-more}
 
 module _ {E : Type 0} (row_at : ℕ → E → Row) (keyed : (n : ℕ) (e : E) → (rest : Row) × (row_at n e ≡ Int (pos n) ∷ rest)) where

@@ -1,16 +1,17 @@
 -- The header is written anew.
-use Rattle.std.proofs.Common.{◌≡◌, refl, sym, ap, subst, ℕ, [], ◌∷◌, length, map, ◌∙◌, IsTrue, lit<}
+use Rattle.std.proofs.Common.{◌≡◌, refl, sym, ap, subst, ℕ, List, [], ◌∷◌, length, map, ◌∙◌, IsTrue, lit<}
 use Rattle.sqlite_trees.specs.Objects.{catalog_tree}
 use Rattle.sqlite_trees.specs.Tree.{put_row}
 use Rattle.sqlite_trees.specs.View.{View, SetsTree}
 use Rattle.journal.specs.declared.header.Header.{Header}
 use Rattle.journal.specs.HeaderRow.{header_row, header_told}
 use Rattle.journal.specs.Rows.{value_rows}
-use Rattle.journal.specs.Contents.{Contents, IsFile, contents_of, in_life}
+use Rattle.journal.specs.EventRow.{event_told, row_starts}
+use Rattle.journal.specs.Contents.{Contents, IsFile, contents_of, in_life, newest_format}
 use Rattle.journal.specs.Journal.{HasTables, IsKeptFile, IsNamedOnce}
 use Rattle.journal.proofs.RowLemmas.{put-set}
 
-module _ (old new : View) (n : ℕ) (was now : Header) (sets : SetsTree old new 1 (put_row (header_row 0 now))) (kept : IsKeptFile old n was) where
+module _ (old new : View) (starts : List ℕ) (n : ℕ) (was now : Header) (sets : SetsTree old new 1 (put_row (header_row 0 now))) (kept : IsKeptFile old starts n was) where
   before : IsFile old.trees
   before = kept.file sets.sound
 
@@ -24,7 +25,7 @@ module _ (old new : View) (n : ℕ) (was now : Header) (sets : SetsTree old new 
   told = ap (λ (v : View). contents_of v.trees) sets.is ∙ ap (λ rs. record (contents_of old.trees) { headers = map header_told rs }) other
 
   -- it is a file of a store with this header
-  pub raises : IsKeptFile new n now
+  pub raises : IsKeptFile new starts n now
   raises = record {
     tables = subst (λ (v : View). HasTables v) (sym sets.is) (record { each = kept.tables.each });
     file = λ _. subst (λ (v : View). IsFile v.trees) (sym sets.is) (record {
@@ -37,6 +38,7 @@ module _ (old new : View) (n : ℕ) (was now : Header) (sets : SetsTree old new 
       outcomes = before.outcomes;
     });
     count_is = λ _. kept.count_is sets.sound ∙ ap (λ (c : Contents). length c.events) (sym told);
+    starts_are = λ _. kept.starts_are sets.sound ∙ ap (λ (v : View). row_starts 0 (map event_told (v.trees 0))) (sym sets.is);
     header_is = λ _. ap (λ (c : Contents). c.headers) told;
     kept = λ is_open. subst (λ (v : View). IsTrue v.is_open → IsFile v.committed) (sym sets.is) kept.kept is_open;
     numbered = subst (λ (v : View). IsTrue v.is_numbered) (sym sets.is) kept.numbered;
@@ -44,7 +46,7 @@ module _ (old new : View) (n : ℕ) (was now : Header) (sets : SetsTree old new 
   }
 
   -- and says what it said, in this life
-  pub in-life : now ≡ record was { life = now.life } → contents_of new.trees ≡ in_life (contents_of old.trees) now.life
+  pub in-life : now ≡ record was { format = newest_format; life = now.life } → contents_of new.trees ≡ in_life (contents_of old.trees) now.life
   in-life raised =
       told ∙ ap (λ hs. record (contents_of old.trees) { headers = hs })
-      (ap (λ (h : Header). h ∷ []) raised ∙ sym (ap (map (λ (h : Header). let r : Header = record h { life = now.life } in r)) (kept.header_is sets.sound)))
+      (ap (λ (h : Header). h ∷ []) raised ∙ sym (ap (map (λ (h : Header). let r : Header = record h { format = newest_format; life = now.life } in r)) (kept.header_is sets.sound)))

@@ -7,8 +7,7 @@ use Rattle.sqlite_trees.specs.Tree.{Trees}
 use Rattle.sqlite_trees.specs.View.{IsRolledBack, View, IsClean}
 use Rattle.journal.specs.declared.contents.FileContents.{FileContents}
 use Rattle.journal.specs.Rows.{value_rows}
-use Rattle.journal.specs.EventRow.{event_row, event_told}
-use Rattle.journal.specs.EventLaws.{event_read_back}
+use Rattle.journal.specs.EventRow.{event_row, event_told, event_read_back, events_in_rows, row_starts}
 use Rattle.journal.specs.HeaderRow.{header_row, header_told, header_read_back}
 use Rattle.journal.specs.TypeRow.{type_row, type_told, type_read_back}
 use Rattle.journal.specs.ObjectRows.{object_row, object_told, object_read_back}
@@ -26,11 +25,11 @@ told-of row_at told back all es is = ap (map told) is ∙ rows-told row_at told 
 rows-of : {E : Type 0} (row_at : ℕ → E → Row) (told : Row → E) → ((n : ℕ) (e : E) → told (row_at n e) ≡ e) → (all : List Row) (es : List E) → all ≡ value_rows row_at 0 es → all ≡ value_rows row_at 0 (map told all)
 rows-of row_at told back all es is = is ∙ ap (value_rows row_at 0) (sym (told-of row_at told back all es is))
 
-module _ (db : Trees) (said : FileContents) (told : HasRowsOf db said) where
+module _ (db : Trees) (said : FileContents) (starts : List ℕ) (told : HasRowsOf db said starts) where
   -- it is a file of a store
   pub is-file : IsFile db
   is-file = record {
-    events = rows-of event_row event_told event_read_back (db 0) said.events.items told.events;
+    events = rows-of event_row event_told event_read_back (db 0) told.rows told.events;
     headers = rows-of header_row header_told header_read_back (db 1) (said.header ∷ []) told.header;
     types = rows-of type_row type_told type_read_back (db 2) said.types.items told.types;
     objects = rows-of object_row object_told object_read_back (db 3) said.objects.items told.objects;
@@ -39,8 +38,14 @@ module _ (db : Trees) (said : FileContents) (told : HasRowsOf db said) where
     outcomes = told.outcomes;
   }
 
-  events-are : map event_told (db 0) ≡ said.events.items
-  events-are = told-of event_row event_told event_read_back (db 0) said.events.items told.events
+  rows-are : map event_told (db 0) ≡ told.rows
+  rows-are = told-of event_row event_told event_read_back (db 0) told.rows told.events
+
+  events-are : events_in_rows (map event_told (db 0)) ≡ said.events.items
+  events-are = ap events_in_rows rows-are ∙ sym told.events_are
+
+  pub starts-are : starts ≡ row_starts 0 (map event_told (db 0))
+  starts-are = told.starts_are ∙ ap (row_starts 0) (sym rows-are)
 
   headers-are : map header_told (db 1) ≡ said.header ∷ []
   headers-are = told-of header_row header_told header_read_back (db 1) (said.header ∷ []) told.header
@@ -75,15 +80,16 @@ module _ (old new : View) (back : IsRolledBack old new) (clean : IsClean new) (b
   same_commit = (back.kept clean).committed stays_open
 
 -- what was read without a write is a file of a store
-pub starts : (old new : View) (n : ℕ) (said : FileContents) → IsUnused old → HasTables old → IsTrue old.is_numbered → IsNamedOnce (old.trees catalog_tree) → OnlyReads old new
-    → HasRowsOf old.trees said → n ≡ length said.events.items → IsKeptFile new n said.header
-starts old new n said unused tables numbered named only told many =
-    let file = is-file old.trees said told in
-    let says' = says old.trees said told in
-    subst (λ (v : View). IsKeptFile v n said.header) (sym only) (record {
+pub starts : (old new : View) (said : FileContents) (places : List ℕ) → IsUnused old → HasTables old → IsTrue old.is_numbered → IsNamedOnce (old.trees catalog_tree) → OnlyReads old new
+    → HasRowsOf old.trees said places → IsKeptFile new places (length said.events.items) said.header
+starts old new said places unused tables numbered named only told =
+    let file = is-file old.trees said places told in
+    let says' = says old.trees said places told in
+    subst (λ (v : View). IsKeptFile v places (length said.events.items) said.header) (sym only) (record {
       tables = record { each = tables.each };
       file = λ _. file;
-      count_is = λ _. many ∙ ap (λ (c : Contents). length c.events) (sym says');
+      count_is = λ _. ap (λ (c : Contents). length c.events) (sym says');
+      starts_are = λ _. starts-are old.trees said places told;
       header_is = λ _. ap (λ (c : Contents). c.headers) says';
       kept = λ _. subst IsFile unused.clean file;
       numbered = numbered;

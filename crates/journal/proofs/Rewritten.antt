@@ -60,7 +60,7 @@ all-new old now states x first past =
 
 -- ---- a history begins anew at these states
 
-module _ (old middle new : View) (n : ℕ) (header : Header) (states : List FirstState) (kept : IsKeptFile old n header) (gone : Empties old middle) (again : Rewrites middle new 4 (value_rows state_row 0 states)) where
+module _ (old middle new : View) (starts : List ℕ) (n : ℕ) (header : Header) (states : List FirstState) (kept : IsKeptFile old starts n header) (gone : Empties old middle) (again : Rewrites middle new 4 (value_rows state_row 0 states)) where
   before : IsFile old.trees
   before = kept.file gone.sound
 
@@ -86,7 +86,7 @@ module _ (old middle new : View) (n : ℕ) (header : Header) (states : List Firs
   pub from-states : contents_of new.trees ≡ from_states (contents_of old.trees) states
   from-states = rw (events, headers, types, objects, states-told) refl
 
-  pub resets : IsKeptFile new 0 header
+  pub resets : IsKeptFile new [] 0 header
   resets = record {
     tables = record { each = λ t low. ap (λ s. s t) again.shape ∙ gone.tables.each t low };
     file = λ _. record {
@@ -99,6 +99,7 @@ module _ (old middle new : View) (n : ℕ) (header : Header) (states : List Firs
       outcomes = stays 6 (λ is. omega (arith, is)) (λ is. omega (arith, is)) (lit< tt) ∙ before.outcomes;
     };
     count_is = λ _. rw events refl;
+    starts_are = λ _. rw events refl;
     header_is = λ _. rw headers (kept.header_is gone.sound);
     kept = λ is_open. subst IsFile (sym (again.committed ∙ gone.committed)) (kept.kept (subst IsTrue (again.is_open ∙ gone.is_open) is_open));
     numbered = subst IsTrue (sym again.numbered) gone.numbered;

@@ -1,32 +1,60 @@
--- What writing an event and a commit do to a file of a store.
-use Rattle.std.proofs.Common.{◌≡◌, refl, sym, ap, subst, ℕ, ◌+◌, [], ◌∷◌, ◌++◌, length, map, arith, ◌∙◌, IsTrue, Bool, false, true, length-append}
-use Rattle.sqlite_trees.specs.Tree.{put_row, Trees}
+-- What writing events and a commit do to a file of a store.
+use Rattle.std.proofs.Common.{◌≡◌, refl, sym, ap, subst, ℕ, ◌+◌, List, [], ◌∷◌, ◌++◌, append-nil, append_assoc, length, map, arith, ◌∙◌, IsTrue, Bool, false, true, length-append}
+use Rattle.std.specs.Prelude.{pos}
+use Rattle.sqlite_value.specs.declared.value.Value.TheVariants.{Int}
+use Rattle.sqlite_trees.specs.Tree.{put_row, rowid, Trees}
 use Rattle.sqlite_trees.specs.View.{doubt, View, SetsTree, IsClean}
 use Rattle.object_trait.specs.declared.event.EventKind.{EventKind}
+use Rattle.journal.specs.declared.event_row.EventRow.{EventRow}
+use Rattle.journal.specs.declared.event_row.EventRow.TheVariants.{Lines}
 use Rattle.journal.specs.declared.header.Header.{Header}
-use Rattle.journal.specs.EventRow.{event_row, event_told}
-use Rattle.journal.specs.EventLaws.{event_read_back}
-use Rattle.journal.specs.Contents.{Contents, IsFile, contents_of, contents_with_event}
+use Rattle.journal.specs.EventRow.{event_keyed, event_read_back, event_row, event_told, events_in_rows, row_starts}
+use Rattle.journal.specs.Contents.{Contents, IsFile, contents_of, contents_with_event, with_pending}
 use Rattle.journal.specs.Journal.{HasTables, IsKeptFile, IsNamedOnce}
 use Rattle.sqlite_trees.specs.Objects.{catalog_tree}
+use Rattle.journal.proofs.EventPlaces.{events-more, length-starts, starts-more}
 use Rattle.journal.proofs.RowLemmas.{told-more, rows-of-more}
 
--- ---- an event is written
+-- the position of a row
+keyed : (n : ℕ) (row : EventRow) → rowid (event_row n row) ≡ Int (pos n)
+keyed n row = rw ((event_keyed n row).1) refl
 
-module _ (old new : View) (n : ℕ) (header : Header) (e : EventKind) (sets : SetsTree old new 0 (put_row (event_row n e))) (kept : IsKeptFile old n header) where
+-- ---- an event is pending
+
+-- no event is pending
+pub none-pending : (c : Contents) → with_pending c [] ≡ c
+none-pending c = ap (λ es. record c { events = es }) (append-nil c.events)
+
+-- one more behind the others
+pub one-pending : (c : Contents) (events : List EventKind) (e : EventKind) → with_pending c (events ++ e ∷ []) ≡ contents_with_event (with_pending c events) e
+one-pending c events e = ap (λ es. record c { events = es }) (sym (append_assoc c.events events (e ∷ [])))
+
+-- ---- those that are pending become a row
+
+module _ (old new : View) (position count : ℕ) (starts : List ℕ) (header : Header) (events : List EventKind) (sets : SetsTree old new 0 (put_row (event_row position (Lines events))))
+    (kept : IsKeptFile old starts count header) (behind : position ≡ length starts) where
   before : IsFile old.trees
   before = kept.file sets.sound
 
-  told : map event_told (put_row (event_row n e) (old.trees 0)) ≡ map event_told (old.trees 0) ++ e ∷ []
-  told = told-more event_row (λ m k. refl) event_told event_read_back n (old.trees 0) e before.events (kept.count_is sets.sound)
+  abbrev rows : List EventRow
+  rows = map event_told (old.trees 0)
 
-  -- it is after the others
-  pub appended : contents_of new.trees ≡ contents_with_event (contents_of old.trees) e
-  appended = ap (λ (v : View). contents_of v.trees) sets.is ∙ ap (λ es. record (contents_of old.trees) { events = es }) told
+  many : position ≡ length rows
+  many = behind ∙ ap length (kept.starts_are sets.sound) ∙ length-starts 0 rows
+
+  told : map event_told (put_row (event_row position (Lines events)) (old.trees 0)) ≡ rows ++ Lines events ∷ []
+  told = told-more event_row (λ m row. keyed m row) event_told event_read_back position (old.trees 0) (Lines events) before.events many
+
+  all : events_in_rows (map event_told (put_row (event_row position (Lines events)) (old.trees 0))) ≡ events_in_rows rows ++ events
+  all = ap events_in_rows told ∙ events-more rows (Lines events)
+
+  -- they are behind the others
+  pub grouped : contents_of new.trees ≡ with_pending (contents_of old.trees) events
+  grouped = ap (λ (v : View). contents_of v.trees) sets.is ∙ ap (λ es. record (contents_of old.trees) { events = es }) all
 
   file : IsFile new.trees
   file = subst (λ (v : View). IsFile v.trees) (sym sets.is) (record {
-    events = rows-of-more event_row (λ m k. refl) event_told event_read_back n (old.trees 0) e before.events (kept.count_is sets.sound);
+    events = rows-of-more event_row (λ m row. keyed m row) event_told event_read_back position (old.trees 0) (Lines events) before.events many;
     headers = before.headers;
     types = before.types;
     objects = before.objects;
@@ -35,15 +63,27 @@ module _ (old new : View) (n : ℕ) (header : Header) (e : EventKind) (sets : Se
     outcomes = before.outcomes;
   })
 
+  from-none : length (events_in_rows rows) ≡ 0 + length (events_in_rows rows)
+  from-none = omega arith
+
+  begin : starts ++ count ∷ [] ≡ row_starts 0 (map event_told (put_row (event_row position (Lines events)) (old.trees 0)))
+  begin =
+      ap (λ n. starts ++ n ∷ []) (kept.count_is sets.sound)
+      ∙ ap (λ front. front ++ length (events_in_rows rows) ∷ []) (kept.starts_are sets.sound)
+      ∙ ap (λ n. row_starts 0 rows ++ n ∷ []) from-none
+      ∙ sym (starts-more 0 rows (Lines events))
+      ∙ ap (row_starts 0) (sym told)
+
   -- and it is a file of a store again
-  pub appends : IsKeptFile new (n + 1) header
-  appends = record {
+  pub groups : IsKeptFile new (starts ++ count ∷ []) (count + length events) header
+  groups = record {
     tables = subst (λ (v : View). HasTables v) (sym sets.is) (record { each = kept.tables.each });
     file = λ _. file;
     count_is = λ _.
-        let long = ap (λ (c : Contents). length c.events) appended ∙ length-append (contents_of old.trees).events (e ∷ []) in
+        let long = ap (λ (c : Contents). length c.events) grouped ∙ length-append (contents_of old.trees).events events in
         let was = kept.count_is sets.sound in omega arith;
-    header_is = λ _. ap (λ (c : Contents). c.headers) appended ∙ kept.header_is sets.sound;
+    starts_are = λ _. begin ∙ ap (λ (v : View). row_starts 0 (map event_told (v.trees 0))) (sym sets.is);
+    header_is = λ _. ap (λ (c : Contents). c.headers) grouped ∙ kept.header_is sets.sound;
     kept = λ is_open. subst (λ (v : View). IsTrue v.is_open → IsFile v.committed) (sym sets.is) kept.kept is_open;
     numbered = subst (λ (v : View). IsTrue v.is_numbered) (sym sets.is) kept.numbered;
     named = λ _. subst (λ (v : View). IsNamedOnce (v.trees catalog_tree)) (sym sets.is) (kept.named sets.sound);

@@ -6,7 +6,7 @@ use Rattle.sqlite_trees.specs.Tree.{Trees}
 use Rattle.journal.specs.declared.header.Header.{Header}
 use Rattle.journal.specs.declared.state_row.FirstState.{FirstState}
 use Rattle.journal.specs.Rows.{value_rows}
-use Rattle.journal.specs.EventRow.{event_row, event_told}
+use Rattle.journal.specs.EventRow.{event_row, event_told, events_in_rows}
 use Rattle.journal.specs.HeaderRow.{header_row, header_told}
 use Rattle.journal.specs.TypeRow.{type_row, type_told}
 use Rattle.journal.specs.ObjectRows.{object_row, object_told}
@@ -23,16 +23,16 @@ pub record Contents : Type 0 where
 
 abbrev pub contents_of : Trees → Contents
 contents_of db = record {
-  events = map event_told (db 0);
+  events = events_in_rows (map event_told (db 0));
   headers = map header_told (db 1);
   types = map type_told (db 2);
   objects = map object_told (db 3);
   states = map state_told (db 4);
 }
 
--- each table has the rows of what it says, at the positions 0, 1, 2 and so on, and no other; those for commits over several stores have none
+-- each table has the rows of what it says, at the positions 0, 1, 2 and so on, and no other; a row of events may say several; those for commits over several stores have none
 pub record IsFile (db : Trees) : Type 0 where
-  pub events : db 0 ≡ value_rows event_row 0 (contents_of db).events
+  pub events : db 0 ≡ value_rows event_row 0 (map event_told (db 0))
   pub headers : db 1 ≡ value_rows header_row 0 (contents_of db).headers
   pub types : db 2 ≡ value_rows type_row 0 (contents_of db).types
   pub objects : db 3 ≡ value_rows object_row 0 (contents_of db).objects
@@ -40,13 +40,22 @@ pub record IsFile (db : Trees) : Type 0 where
   pub prepared : db 5 ≡ []
   pub outcomes : db 6 ≡ []
 
+-- with these events, which are in no row yet, behind the others
+abbrev pub with_pending : Contents → List EventKind → Contents
+with_pending c events = record c { events = c.events ++ events }
+
 -- with an event more
 abbrev pub contents_with_event : Contents → EventKind → Contents
 contents_with_event c e = record c { events = c.events ++ e ∷ [] }
 
--- with this number of a life in the header
+-- the format of what is written: 5 has a row for the events that were written together, 4 names of objects, 3 kinds of objects in
+-- escrow, 2 operations with amounts
+abbrev pub newest_format : ℕ
+newest_format = 5
+
+-- with this number of a life in the header, which is of the newest format then
 abbrev pub in_life : Contents → ℕ → Contents
-in_life c life = record c { headers = map (λ (h : Header). let raised : Header = record h { life = life } in raised) c.headers }
+in_life c life = record c { headers = map (λ (h : Header). let raised : Header = record h { format = newest_format; life = life } in raised) c.headers }
 
 -- where a history begins at these states
 abbrev pub from_states : Contents → List FirstState → Contents

@@ -1,91 +1,61 @@
--- An event as a row: its position, its kind's word, and its transaction, object, operation and number, of which some are NULL.
-use Rattle.std.specs.Prelude.{ℕ, List, [], ◌∷◌, Option, Some, None, codes, pos, if◌then◌else◌}
-use Rattle.std.specs.Str.{bytes_eq}
-use Rattle.sqlite_value.specs.declared.value.Value.{Value}
+-- A row of the table of events: the lines of events that were written together and how many they are, or one event as the formats 1 to 4 have it.
+use Rattle.std.specs.Prelude.{◌≡◌, ℕ, ◌+◌, ◌==◌, List, [], ◌∷◌, length, Option, pos, refl, if◌then◌else◌}
+use Rattle.std.specs.Prelude as option
+use Rattle.std.specs.List.{flat_map}
+use Rattle.std.proofs.Common.{ap, ◌∙◌}
+use Rattle.type_table.specs.Operation.{operation_at, place_of, amount_of, operation-again}
 use Rattle.sqlite_value.specs.declared.value.Value.TheVariants.{Null, Int, Text}
-use Rattle.sqlite_value.specs.Order.{Row, column, bytes}
-use Rattle.sqlite_trees.specs.Objects.{number_in}
-use Rattle.type_table.specs.Operation.{operation_at, place_of, amount_of}
+use Rattle.sqlite_value.specs.Order.{Row, bytes, column}
 use Rattle.object_trait.specs.declared.event.EventKind.{EventKind}
-use Rattle.object_trait.specs.declared.event.EventKind.TheVariants as kind
-use Rattle.journal.specs.declared.event_word.EventWord.{EventWord}
-use Rattle.journal.specs.declared.event_word.EventWord.TheVariants as word
+use Rattle.object_trait.specs.declared.event.EventKind.TheVariants.{Begin, Op, Busy, None, Commit, Abort, Rollback}
+use Rattle.event_text.specs.EventText.{event_lines, events_said}
+use Rattle.event_text.proofs.ReadBack.{read-back}
+use Rattle.journal.specs.declared.event_row.EventRow.{EventRow}
+use Rattle.journal.specs.declared.event_row.EventRow.TheVariants.{Lines, Single}
+use Rattle.journal.specs.SingleEvent.{amount_value, amount_of_value, event_columns, single_row, single_told}
 
--- the word of a kind of event
-abbrev pub event_word : EventWord → List ℕ
-event_word word.Begin = codes "begin"
-event_word word.Op = codes "op"
-event_word word.Busy = codes "busy"
-event_word word.None = codes "none"
-event_word word.Commit = codes "commit"
-event_word word.Abort = codes "abort"
-event_word word.Rollback = codes "rollback"
+-- the column of the lines, after that of the position
+abbrev pub lines_column : ℕ
+lines_column = 2
 
--- the kind of a word, where it is one's
-abbrev pub word_of_event : List ℕ → Option EventWord
-word_of_event text =
-    if bytes_eq text (event_word word.Begin) then Some word.Begin
-    else (if bytes_eq text (event_word word.Op) then Some word.Op
-    else (if bytes_eq text (event_word word.Busy) then Some word.Busy
-    else (if bytes_eq text (event_word word.None) then Some word.None
-    else (if bytes_eq text (event_word word.Commit) then Some word.Commit
-    else (if bytes_eq text (event_word word.Abort) then Some word.Abort
-    else (if bytes_eq text (event_word word.Rollback) then Some word.Rollback
-    else None))))))
+abbrev pub event_row : ℕ → EventRow → Row
+event_row n (Lines events) = Int (pos n) ∷ Null ∷ Text (event_lines events) ∷ Int (pos (length events)) ∷ []
+event_row n (Single e) = single_row n e
 
--- the columns of an event that has this kind, these numbers, and no others
-abbrev pub columns_of_event : EventWord → ℕ → Value → Value → Value → Row
-columns_of_event kind t x k n = Text (event_word kind) ∷ Int (pos t) ∷ x ∷ k ∷ n ∷ []
+-- what a row says
+abbrev pub event_told : Row → EventRow
+event_told row = if length row == 4 then Lines (events_said (bytes (column row lines_column))) else Single (single_told row)
 
--- the amount of an operation as a column has it, and back
-abbrev pub amount_value : Option ℕ → Value
-amount_value None = Null
-amount_value (Some n) = Int (pos n)
+-- the events of a row
+abbrev pub events_in_row : EventRow → List EventKind
+events_in_row (Lines events) = events
+events_in_row (Single e) = e ∷ []
 
-abbrev pub amount_of_value : Value → Option ℕ
-amount_of_value (Int (pos n)) = Some n
-amount_of_value _ = None
+abbrev pub events_in_rows : List EventRow → List EventKind
+events_in_rows rows = flat_map events_in_row rows
 
-abbrev pub event_columns : EventKind → Row
-event_columns (kind.Begin t) = columns_of_event word.Begin t Null Null Null
-event_columns (kind.Op k t x) = columns_of_event word.Op t (Int (pos x)) (Int (pos (place_of k))) (amount_value (amount_of k))
-event_columns (kind.Busy c t x u) = columns_of_event word.Busy t (Int (pos x)) (Int (pos c)) (Int (pos u))
-event_columns (kind.None t x c) = columns_of_event word.None t (Int (pos x)) (Int (pos c)) Null
-event_columns (kind.Commit t) = columns_of_event word.Commit t Null Null Null
-event_columns (kind.Abort t) = columns_of_event word.Abort t Null Null Null
-event_columns (kind.Rollback t n) = columns_of_event word.Rollback t Null Null (Int (pos n))
+-- at which place among all events those of each row begin, where those of the first begin at n
+abbrev pub row_starts : ℕ → List EventRow → List ℕ
+row_starts n [] = []
+row_starts n (row ∷ rows) = n ∷ row_starts (n + length (events_in_row row)) rows
 
--- the row of the event at position n; SQLite keeps the column of the position as NULL, since it is the rowid
-abbrev pub event_row : ℕ → EventKind → Row
-event_row n e = Int (pos n) ∷ Null ∷ event_columns e
+pub event_keyed : (n : ℕ) (row : EventRow) → (rest : Row) × (event_row n row ≡ Int (pos n) ∷ rest)
+event_keyed n (Lines events) = (Null ∷ Text (event_lines events) ∷ Int (pos (length events)) ∷ [], refl)
+event_keyed n (Single e) = (Null ∷ event_columns e, refl)
 
--- the event of this kind with these numbers, of which the last may be none
-abbrev pub event_of_row : Option EventWord → ℕ → ℕ → ℕ → Value → EventKind
-event_of_row (Some word.Begin) t x k n = kind.Begin t
-event_of_row (Some word.Op) t x k n = kind.Op (operation_at k (amount_of_value n)) t x
-event_of_row (Some word.Busy) t x k n = kind.Busy k t x (number_in n)
-event_of_row (Some word.None) t x k n = kind.None t x k
-event_of_row (Some word.Commit) t x k n = kind.Commit t
-event_of_row (Some word.Abort) t x k n = kind.Abort t
-event_of_row (Some word.Rollback) t x k n = kind.Rollback t (number_in n)
-event_of_row None t x k n = kind.Begin t
+single_read_back : (n : ℕ) (e : EventKind) → event_told (single_row n e) ≡ Single e
+single_read_back n (Begin t) = refl
+single_read_back n (Op k t x) = told (amount_of k) ∙ ap (λ k. Single (Op k t x)) (operation-again k)
+  where
+    told : (amount : Option ℕ) → Single (Op (operation_at (place_of k) (amount_of_value (amount_value amount))) t x) ≡ Single (Op (operation_at (place_of k) amount) t x)
+    told option.None = refl
+    told (option.Some m) = refl
+single_read_back n (Busy c t x u) = refl
+single_read_back n (None t x c) = refl
+single_read_back n (Commit t) = refl
+single_read_back n (Abort t) = refl
+single_read_back n (Rollback t m) = refl
 
--- the columns after that of the position
-abbrev pub kind_column : ℕ
-kind_column = 2
-
-abbrev pub transaction_column : ℕ
-transaction_column = 3
-
-abbrev pub object_column : ℕ
-object_column = 4
-
-abbrev pub operation_column : ℕ
-operation_column = 5
-
-abbrev pub number_column : ℕ
-number_column = 6
-
--- the event that a row says
-abbrev pub event_told : Row → EventKind
-event_told row = event_of_row (word_of_event (bytes (column row kind_column))) (number_in (column row transaction_column)) (number_in (column row object_column)) (number_in (column row operation_column)) (column row number_column)
+pub event_read_back : (n : ℕ) (row : EventRow) → event_told (event_row n row) ≡ row
+event_read_back n (Lines events) = ap Lines (read-back events)
+event_read_back n (Single e) = single_read_back n e

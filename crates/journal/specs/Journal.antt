@@ -1,5 +1,5 @@
 -- What a journal holds.
-use Rattle.std.specs.Prelude.{◌≢◌, codes, pos, ◌≡◌, ◌<◌, ℕ, false, List, [], ◌∷◌, length, IsTrue}
+use Rattle.std.specs.Prelude.{◌≢◌, codes, pos, ◌≡◌, ◌+◌, ◌<◌, ℕ, false, List, [], ◌∷◌, length, map, IsTrue}
 use Rattle.std.specs.List.{AllByRecursion}
 use Rattle.sqlite_value.specs.declared.value.Value.TheVariants.{Text}
 use Rattle.sqlite_value.specs.Order.{Row, column}
@@ -10,7 +10,8 @@ use Rattle.sqlite_trees.specs.Objects.{catalog_tree}
 use Rattle.sqlite_trees.specs.View.{IsClean, View}
 use Rattle.journal.specs.declared.header.Header.{Header}
 use Rattle.journal.specs.declared.journal.Journal.{Journal}
-use Rattle.journal.specs.Contents.{Contents, IsFile, contents_of}
+use Rattle.journal.specs.Contents.{Contents, IsFile, contents_of, with_pending}
+use Rattle.journal.specs.EventRow.{event_told, row_starts}
 use Rattle.journal.specs.Tables.{IsUnused}
 
 -- the seven tables are there
@@ -25,20 +26,21 @@ name_column = 2
 abbrev pub IsNamedOnce : List Row → Type 0
 IsNamedOnce = AllByRecursion (λ r. has_rowid (pos 1) r ≡ false → column r name_column ≢ Text (codes "event"))
 
--- what the store shows: while it is not broken, a file of a store with this header and this many events
-pub record IsKeptFile (v : View) (count : ℕ) (header : Header) : Type 0 where
+-- what the store shows: while it is not broken, a file of a store with this header and this many events, whose rows begin at these of them
+pub record IsKeptFile (v : View) (starts : List ℕ) (count : ℕ) (header : Header) : Type 0 where
   pub tables : HasTables v
   pub file : v.is_broken ≡ false → IsFile v.trees
   pub count_is : v.is_broken ≡ false → count ≡ length (contents_of v.trees).events
+  pub starts_are : v.is_broken ≡ false → starts ≡ row_starts 0 (map event_told (v.trees 0))
   pub header_is : v.is_broken ≡ false → (contents_of v.trees).headers ≡ header ∷ []
   pub kept : IsTrue v.is_open → IsFile v.committed
   pub numbered : IsTrue v.is_numbered
   pub named : v.is_broken ≡ false → IsNamedOnce (v.trees catalog_tree)
 
 module _ {S : Type 0} (g : Ghosts S) where
-  -- what was written
+  -- what was written: what is pending too, which the next commit makes a row of
   abbrev pub written : Journal S → Contents
-  written it = contents_of (g.view it.store).trees
+  written it = with_pending (contents_of (g.view it.store).trees) it.pending
 
   -- what was there at the last commit
   abbrev pub durable : Journal S → Contents
@@ -56,7 +58,7 @@ module _ {S : Type 0} (g : Ghosts S) where
   may_leave it = g.recovers it.store
 
   abbrev pub IsJournal : Journal S → Type 0
-  IsJournal it = IsClean (g.view it.store) → IsKeptFile (g.view it.store) it.count it.header
+  IsJournal it = IsClean (g.view it.store) → IsKeptFile (g.view it.store) it.starts.items it.settled it.header × (it.count ≡ it.settled + length it.pending)
 
   -- the file that a commit at this moment may leave: all that was written, under this header
   abbrev pub IsAsWritten : Journal S → Trees → Type 0
@@ -66,9 +68,9 @@ module _ {S : Type 0} (g : Ghosts S) where
   abbrev pub IsSettled : Journal S → Type 0
   IsSettled it = (db : Trees) → may_leave it db → contents_of db ≡ durable it
 
-  -- nothing is written that isn't durable: the trees show their last commit
+  -- nothing is written that isn't durable: nothing is pending, and the trees show their last commit
   abbrev pub ShowsCommit : Journal S → Type 0
-  ShowsCommit it = IsClean (g.view it.store) → IsUnused (g.view it.store)
+  ShowsCommit it = IsClean (g.view it.store) → IsUnused (g.view it.store) × (it.pending ≡ [])
 
   -- its trees are listed by their numbers, as an open of the file gives it
   abbrev pub IsNumbered : Journal S → Type 0

@@ -1,7 +1,8 @@
 pub mod Cells
+pub mod SingleEvent
+pub mod SingleColumns
 pub mod EventRow
-pub mod EventNumbers
-pub mod EventLaws
+pub mod RowPlaces
 pub mod Rows
 pub mod Tables
 pub mod HeaderRow

@@ -1,9 +1,10 @@
 -- What was read of a file.
-use Rattle.std.specs.Prelude.{◌≡◌, [], ◌∷◌}
+use Rattle.std.specs.Prelude.{◌≡◌, ℕ, List, [], ◌∷◌}
 use Rattle.sqlite_trees.specs.Tree.{Trees}
 use Rattle.journal.specs.declared.contents.FileContents.{FileContents}
 use Rattle.journal.specs.Rows.{value_rows}
-use Rattle.journal.specs.EventRow.{event_row}
+use Rattle.journal.specs.declared.event_row.EventRow.{EventRow}
+use Rattle.journal.specs.EventRow.{event_row, events_in_rows, row_starts}
 use Rattle.journal.specs.HeaderRow.{header_row}
 use Rattle.journal.specs.TypeRow.{type_row}
 use Rattle.journal.specs.ObjectRows.{object_row}
@@ -20,9 +21,12 @@ contents said = record {
   states = said.states.items;
 }
 
--- the tables have the rows of just this
-pub record HasRowsOf (db : Trees) (said : FileContents) : Type 0 where
-  pub events : db 0 ≡ value_rows event_row 0 said.events.items
+-- the tables have the rows of just this, where the events of each row begin at these places
+pub record HasRowsOf (db : Trees) (said : FileContents) (starts : List ℕ) : Type 0 where
+  pub rows : List EventRow
+  pub events : db 0 ≡ value_rows event_row 0 rows
+  pub events_are : said.events.items ≡ events_in_rows rows
+  pub starts_are : starts ≡ row_starts 0 rows
   pub header : db 1 ≡ header_row 0 said.header ∷ []
   pub types : db 2 ≡ value_rows type_row 0 said.types.items
   pub objects : db 3 ≡ value_rows object_row 0 said.objects.items

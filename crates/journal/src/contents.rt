@@ -1,6 +1,6 @@
 //! What the tables of a file say, and how they are read.
 
-ghost use Rattle.std.specs.Prelude.{◌≡◌, ◌<◌, ◌^◌, ◌∷◌, [], length, IfOk, OnOk};
+ghost use Rattle.std.specs.Prelude.{◌≡◌, ◌∷◌, [], IfOk, OnOk};
 ghost use Rattle.sqlite_trees.specs.Tree.{Trees};
 ghost use Rattle.sqlite_trees.specs.View.{IsClean};
 ghost use Rattle.journal.specs.HeaderRow.{header_row};
@@ -8,6 +8,7 @@ ghost use Rattle.journal.specs.Said.{HasRowsOf};
 ghost use Rattle.journal.specs.Journal.{HasTables};
 ghost use Rattle.journal.specs.Tables.{IsUnused, OnlyReads};
 
+use crate::event_row::{EventRow, events_of, starts_of};
 use crate::header::Header;
 use crate::journal_error::JournalError;
 use crate::object_row::TypeText;
@@ -54,6 +55,13 @@ pub struct FileContents {
     pub events: Vec<EventKind>,
 }
 
+/// What was read of a file, and at which place among all events those of each row begin.
+#[derive(Drop)]
+pub struct FoundContents {
+    pub said: FileContents,
+    pub starts: Vec<u64>,
+}
+
 /// Reads all tables.
 ///
 /// # Errors
@@ -64,12 +72,11 @@ pub fn read_contents<S: Store>(
     alloc: Global,
     store: &mut S,
     row: &mut Row,
-) -> Result<FileContents, JournalError>
+) -> Result<FoundContents, JournalError>
     requires unused { IsClean (S.Store.view store.old) → IsUnused (S.Store.view store.old) }
     requires tables { IsClean (S.Store.view store.old) → HasTables (S.Store.view store.old) }
-    ensures told { IfOk result (λ said. IsClean (S.Store.view store.new) → HasRowsOf (S.Store.view store.old).trees said) }
+    ensures told { IfOk result (λ found. IsClean (S.Store.view store.new) → HasRowsOf (S.Store.view store.old).trees found.said found.starts.items) }
     ensures same { OnOk result (IsClean (S.Store.view store.new) → OnlyReads (S.Store.view store.old) (S.Store.view store.new)) }
-    ensures few { IfOk result (λ said. length said.events.items < 2 ^ 62) }
     ensures clean { IsClean (S.Store.view store.new) → IsClean (S.Store.view store.old) }
     ensures crash { (db : Trees) → S.Store.recovers store.new db → S.Store.recovers store.old db }
 {
@@ -77,17 +84,20 @@ pub fn read_contents<S: Store>(
     let types = read_all(alloc, store, TYPES, row)?;
     let objects = read_all(alloc, store, OBJECTS, row)?;
     let states = read_all(alloc, store, STATES, row)?;
-    let events = read_all(alloc, store, EVENTS, row)?;
+    let rows: Vec<EventRow> = read_all(alloc, store, EVENTS, row)?;
     if !has_no_rows(store, PREPARED, row)? || !has_no_rows(store, OUTCOMES, row)? {
         return Err(JournalError::Foreign);
     }
-    Ok(FileContents {
+    let events = events_of(alloc, &rows)?;
+    let starts = starts_of(alloc, &rows)?;
+    let said = FileContents {
         header,
         types,
         objects,
         states,
         events,
-    })
+    };
+    Ok(FoundContents { said, starts })
 }
 
 /// Reads the one header.

@@ -15,15 +15,6 @@ pub trait Entry: Sized {
     /// The value that a row says.
     ghost told_by: { Columns → Self };
 
-    /// Writes the row of the value at this position over `row`.
-    ///
-    /// # Errors
-    ///
-    /// Memory was refused.
-    fn fill(&self, position: u64, row: &mut Row) -> Result<(), AllocError>
-        requires { position < 2 ^ 62 }
-        ensures { OnOk result (row.new ≡ row_at position self.now) };
-
     /// The value whose row at this position it is, where it is one's.
     ///
     /// # Errors
@@ -33,11 +24,23 @@ pub trait Entry: Sized {
         requires { position < 2 ^ 62 }
         ensures { IfOk result (λ found. IfSome found (λ entry. row.now ≡ row_at position entry)) };
 
-    /// Whether it is the same value as another.
-    fn is_same(&self, other: &Self) -> bool
-        ensures { result ≡ true → self.now ≡ other.now };
-
     ghost keyed: { (n : ℕ) (entry : Self) → (rest : Columns) × (row_at n entry ≡ Int (pos n) ∷ rest) };
 
     ghost read_back: { (n : ℕ) (entry : Self) → told_by (row_at n entry) ≡ entry };
+}
+
+/// A value that is written as a row.
+pub trait FilledEntry: Entry {
+    /// Writes the row of the value at this position over `row`.
+    ///
+    /// # Errors
+    ///
+    /// Memory was refused.
+    fn fill(&self, position: u64, row: &mut Row) -> Result<(), AllocError>
+        requires { position < 2 ^ 62 }
+        ensures { OnOk result (row.new ≡ Self.Entry.row_at position self.now) };
+
+    /// Whether it is the same value as another.
+    fn is_same(&self, other: &Self) -> bool
+        ensures { result ≡ true → self.now ≡ other.now };
 }

@@ -1,167 +1,81 @@
-//! An event as a row of a table.
+//! Rows of the table of events.
 
-ghost use Rattle.std.specs.Prelude.{◌≡◌, ◌<◌, ◌^◌, ◌++◌, ◌∷◌, [], pos, IfSome, OnOk};
-ghost use Rattle.journal.specs.Cells.{cell_value};
-ghost use Rattle.journal.specs.EventNumbers.{ToldColumns, columns_of};
-ghost use Rattle.type_table.specs.Operation.{amount_of};
-ghost use Rattle.journal.specs.EventRow.{amount_value, event_columns, event_row, event_told};
-ghost use Rattle.journal.specs.EventLaws.{event_keyed, event_read_back};
+ghost use Rattle.std.specs.Prelude.{◌≡◌, ◌<◌, ◌^◌, ◌++◌, drop, length, pos, take, true, IfOk, IfSome, OnOk};
+ghost use Rattle.sqlite_value.specs.Order.{column};
+ghost use Rattle.sqlite_value.specs.declared.value.Value.TheVariants.{Int};
+ghost use Rattle.sqlite_trees.specs.Tree.{Trees, put_row};
+ghost use Rattle.sqlite_trees.specs.View.{IsClean, KeepsSchema, SetsTree};
+ghost use Rattle.journal.specs.EventRow.{event_keyed, event_read_back, event_row, event_told, events_in_row, events_in_rows, row_starts};
+ghost use Rattle.journal.specs.declared.event_row.EventRow.TheVariants.{Lines as Written};
 
-use crate::cells::{Cell, begin_row, byte, is_at, text_in};
+use crate::cells::{begin_row, is_at, text_in};
+use crate::contents::EVENTS;
 use crate::entry::Entry;
-use crate::event_word::EventWord;
+use crate::journal_error::JournalError;
+use crate::single_event::single_in;
+use event_text::{EventGroup, events_in};
 use object_trait::EventKind;
+use sqlite_trees::store::{Shape, Store};
 use sqlite_value::row::Row;
 use sqlite_value::value::ValueRef;
 use std::alloc::{AllocError, Global};
-use type_table::Operation;
+use std::marker::Model;
 
-// the columns after that of the position
-const KIND: usize = 2;
+// the columns after that of the position: the lines, and how many they are
+const LINES: usize = 2;
 
-const TRANSACTION: usize = 3;
+const COUNT: usize = 3;
 
-const OBJECT: usize = 4;
-
-const OPERATION: usize = 5;
-
-const NUMBER: usize = 6;
-
-/// What the columns of an event's row say, but for its position.
-#[derive(Clone, Copy)]
-struct EventColumns {
-    kind: EventWord,
-    t: Cell,
-    x: Cell,
-    k: Cell,
-    n: Cell,
+/// What a row of the table of events says: events that were written together, or one, as the formats 1 to 4
+/// have it.
+#[derive(Drop)]
+pub enum EventRow {
+    Lines(Events),
+    Single(EventKind),
 }
 
-/// The columns of an event.
-fn columns_of(event: EventKind) -> EventColumns
-    ensures { columns_of result ≡ event_columns event }
-{
-    match event {
-        EventKind::Begin { t } => of_transaction(EventWord::Begin, t, Cell::Null),
-        EventKind::Commit { t } => of_transaction(EventWord::Commit, t, Cell::Null),
-        EventKind::Abort { t } => of_transaction(EventWord::Abort, t, Cell::Null),
-        EventKind::Rollback { t, n } => of_transaction(EventWord::Rollback, t, Cell::Number(n)),
-        EventKind::Op { t, x, k } => at_object(EventWord::Op, t, x, k.place(), amount_cell(k)),
-        EventKind::None { t, x, c } => at_object(EventWord::None, t, x, c, Cell::Null),
-        EventKind::Busy { c, t, x, u } => at_object(EventWord::Busy, t, x, c, Cell::Number(u)),
-    }
+/// Events in order. Contracts see them as a list.
+#[derive(Drop)]
+pub struct Events {
+    events: Vec<EventKind>,
 }
 
-/// The columns of an event of a transaction at no object.
-fn of_transaction(kind: EventWord, t: u32, n: Cell) -> EventColumns
-    ensures { result ≡ record { kind = kind; t = Cell.Number t; x = Cell.Null; k = Cell.Null; n = n } }
-{
-    EventColumns {
-        kind,
-        t: Cell::Number(t),
-        x: Cell::Null,
-        k: Cell::Null,
-        n,
-    }
+impl Model for Events {
+    ghost use Rattle.std.specs.Prelude.{List};
+    ghost use Rattle.object_trait.specs.declared.event.EventKind.{EventKind};
+
+    ghost Value = { List EventKind };
+
+    ghost view = { λ e. e.events.items };
 }
 
-/// The columns of an event at an object.
-fn at_object(kind: EventWord, t: u32, x: u32, k: u8, n: Cell) -> EventColumns
-    ensures { result ≡ record { kind = kind; t = Cell.Number t; x = Cell.Number x; k = Cell.Number k; n = n } }
-{
-    EventColumns {
-        kind,
-        t: Cell::Number(t),
-        x: Cell::Number(x),
-        k: Cell::Number(k as u32),
-        n,
-    }
-}
-
-/// The amount of an operation.
-fn amount_cell(k: Operation) -> Cell
-    ensures { cell_value result ≡ amount_value (amount_of k) }
-{
-    match k.amount() {
-        Some(n) => Cell::Number(n),
-        None => Cell::Null,
-    }
-}
-
-/// The event that has these columns, where one has.
-fn event_of(columns: EventColumns) -> Option<EventKind>
-    ensures { IfSome result (λ event. columns_of columns ≡ event_columns event) }
-{
-    let EventColumns { kind, t, x, k, n } = columns;
-    let Cell::Number(t) = t else {
-        return None;
-    };
-    match (x, k) {
-        (Cell::Null, Cell::Null) => alone_of(kind, t, n),
-        (Cell::Number(x), Cell::Number(k)) => call_of(kind, t, x, byte(k)?, n),
-        _ => None,
-    }
-}
-
-/// The event at no object that has these columns, where one has.
-fn alone_of(kind: EventWord, t: u32, n: Cell) -> Option<EventKind>
-    ensures { IfSome result (λ event. columns_of (record { kind = kind; t = Cell.Number t; x = Cell.Null; k = Cell.Null; n = n }) ≡ event_columns event) }
-{
-    match (kind, n) {
-        (EventWord::Begin, Cell::Null) => Some(EventKind::Begin { t }),
-        (EventWord::Commit, Cell::Null) => Some(EventKind::Commit { t }),
-        (EventWord::Abort, Cell::Null) => Some(EventKind::Abort { t }),
-        (EventWord::Rollback, Cell::Number(n)) => Some(EventKind::Rollback { t, n }),
-        _ => None,
-    }
-}
-
-/// The event of a call that has these columns, where one has.
-fn call_of(kind: EventWord, t: u32, x: u32, k: u8, n: Cell) -> Option<EventKind>
-    ensures { IfSome result (λ event. columns_of (record { kind = kind; t = Cell.Number t; x = Cell.Number x; k = Cell.Number k; n = n }) ≡ event_columns event) }
-{
-    match (kind, n) {
-        (EventWord::Op, Cell::Null) => {
-            let k = Operation::listed(k);
-            Some(EventKind::Op { t, x, k })
+impl EventRow {
+    /// Puts the events of the row behind others.
+    fn put_behind(&self, events: &mut Vec<EventKind>) -> Result<(), AllocError>
+        ensures { OnOk result (events.new.items ≡ events.old.items ++ events_in_row self.now) }
+    {
+        match self {
+            EventRow::Lines(more) => events.extend_from_slice(&more.events),
+            EventRow::Single(event) => {
+                events.push(*event)?;
+                Ok(())
+            }
         }
-        (EventWord::Op, Cell::Number(n)) => {
-            let k = Operation::with(k, n);
-            Some(EventKind::Op { t, x, k })
+    }
+
+    /// How many events the row says.
+    fn count(&self) -> usize
+        ensures { result ≡ length (events_in_row self.now) }
+    {
+        match self {
+            EventRow::Lines(more) => more.events.len(),
+            EventRow::Single(_) => 1,
         }
-        (EventWord::None, Cell::Null) => Some(EventKind::None { t, x, c: k }),
-        (EventWord::Busy, Cell::Number(u)) => Some(EventKind::Busy { c: k, t, x, u }),
-        _ => None,
     }
 }
 
-/// Writes columns after those of a row.
-fn push(row: &mut Row, columns: EventColumns) -> Result<(), AllocError>
-    ensures { OnOk result (row.new ≡ row.old ++ columns_of columns) }
-{
-    row.push(ValueRef::Text(columns.kind.text().as_bytes()))?;
-    row.push(columns.t.value())?;
-    row.push(columns.x.value())?;
-    row.push(columns.k.value())?;
-    row.push(columns.n.value())
-}
-
-/// What the columns of a row say, where they may be an event's.
-fn columns_in(row: &Row) -> Option<EventColumns>
-    ensures { IfSome result (λ columns. ToldColumns row.now columns) }
-{
-    let kind = EventWord::of_text(text_in(row, KIND)?)?;
-    Some(EventColumns {
-        kind,
-        t: Cell::in_column(row, TRANSACTION)?,
-        x: Cell::in_column(row, OBJECT)?,
-        k: Cell::in_column(row, OPERATION)?,
-        n: Cell::in_column(row, NUMBER)?,
-    })
-}
-
-/// An event is a row of seven columns.
-impl Entry for EventKind {
+/// A row of lines, or one of seven columns.
+impl Entry for EventRow {
     ghost row_at = { event_row };
 
     ghost told_by = { event_told };
@@ -170,22 +84,138 @@ impl Entry for EventKind {
 
     ghost read_back = { event_read_back };
 
-    fn fill(&self, position: u64, row: &mut Row) -> Result<(), AllocError> {
-        begin_row(row, position)?;
-        push(row, columns_of(*self))
-    }
-
-    fn is_same(&self, other: &Self) -> bool {
-        self == other
-    }
-
-    fn read(_alloc: Global, position: u64, row: &Row) -> Result<Option<EventKind>, AllocError> {
-        if row.len() != 7 || !is_at(row, position) {
-            return Ok(None);
+    fn read(alloc: Global, position: u64, row: &Row) -> Result<Option<EventRow>, AllocError> {
+        if row.len() == COUNT + 1 {
+            return lines_in(alloc, position, row);
         }
-        match columns_in(row) {
-            Some(columns) => Ok(event_of(columns)),
+        match single_in(position, row) {
+            Some(event) => Ok(Some(EventRow::Single(event))),
             None => Ok(None),
         }
+    }
+}
+
+/// What a row of four columns says, where it is one of lines.
+fn lines_in(alloc: Global, position: u64, row: &Row) -> Result<Option<EventRow>, AllocError>
+    requires at { position < 2 ^ 62 }
+    requires four { length row.now ≡ 4 }
+    ensures { IfOk result (λ found. IfSome found (λ entry. row.now ≡ event_row position entry)) }
+{
+    if !is_at(row, position) {
+        return Ok(None);
+    }
+    let Some(text) = text_in(row, LINES) else {
+        return Ok(None);
+    };
+    match events_in(alloc, text)? {
+        Some(events) if has_count(row, events.len()) => {
+            Ok(Some(EventRow::Lines(Events { events })))
+        }
+        _ => Ok(None),
+    }
+}
+
+/// Whether the row says that it has so many events.
+fn has_count(row: &Row, count: usize) -> bool
+    ensures { result ≡ true → column row.now 3 ≡ Int (pos count) }
+{
+    match row.get(COUNT) {
+        ValueRef::Int(n) => match u64::try_from(n) {
+            Ok(n) => n == count as u64,
+            Err(_) => false,
+        },
+        _ => false,
+    }
+}
+
+/// Writes so many events as the row at this position. A crash may still take it away.
+///
+/// # Errors
+///
+/// `Full` where they are too many for a number of a row; the store failed, or memory was refused.
+pub fn put_group<S: Store>(
+    store: &mut S,
+    position: u64,
+    events: &EventGroup,
+    count: u64,
+    row: &mut Row,
+) -> Result<(), JournalError>
+    requires few { position < 2 ^ 62 }
+    requires count { IsClean (S.Store.view store.old) → count ≡ length events.now }
+    requires shape { IsClean (S.Store.view store.old) → (S.Store.view store.old).shape 0 ≡ Shape.Table }
+    ensures ok { OnOk result (IsClean (S.Store.view store.new) → SetsTree (S.Store.view store.old) (S.Store.view store.new) 0 (put_row (event_row position (Written events.now)))) }
+    ensures clean { IsClean (S.Store.view store.new) → IsClean (S.Store.view store.old) }
+    ensures schema { KeepsSchema (S.Store.view store.old) (S.Store.view store.new) }
+    ensures crash { (db : Trees) → S.Store.recovers store.new db → S.Store.recovers store.old db }
+{
+    let Ok(count) = i64::try_from(count) else {
+        return Err(JournalError::Full);
+    };
+    begin_row(row, position)?;
+    row.push(ValueRef::Text(events.as_bytes()))?;
+    row.push(ValueRef::Int(count))?;
+    store.put(EVENTS, row)?;
+    Ok(())
+}
+
+/// The events of rows, in order.
+pub fn events_of(alloc: Global, rows: &[EventRow]) -> Result<Vec<EventKind>, AllocError>
+    ensures { IfOk result (λ events. events.items ≡ events_in_rows rows.now) }
+{
+    let mut events = Vec::new(alloc);
+    for row in rows {
+        row.put_behind(&mut events)?;
+    }
+    Ok(events)
+}
+
+/// At which place among all events those of each row begin.
+pub fn starts_of(alloc: Global, rows: &[EventRow]) -> Result<Vec<u64>, JournalError>
+    ensures { IfOk result (λ starts. starts.items ≡ row_starts 0 rows.now) }
+{
+    let mut starts = Vec::new(alloc);
+    let mut start: u64 = 0;
+    for row in rows {
+        starts.push(start)?;
+        let Some(next) = start.checked_add(row.count() as u64) else {
+            return Err(JournalError::Full);
+        };
+        start = next;
+    }
+    Ok(starts)
+}
+
+/// Of the events of rows those from this place on, and at most this many.
+pub fn some_of(
+    alloc: Global,
+    rows: &[EventRow],
+    from: u64,
+    count: usize,
+) -> Result<Vec<EventKind>, AllocError>
+    ensures { IfOk result (λ events. events.items ≡ take count (drop from (events_in_rows rows.now))) }
+{
+    let all = events_of(alloc, rows)?;
+    Vec::from_slice(alloc, first(behind(&all, from), count))
+}
+
+/// The events behind the first ones, of which there are so many.
+fn behind(events: &[EventKind], from: u64) -> &[EventKind]
+    ensures { result.now ≡ drop from events.now }
+{
+    if from < events.len() as u64 {
+        &events[from as usize..]
+    } else {
+        &events[events.len()..]
+    }
+}
+
+/// The first events, at most so many.
+fn first(events: &[EventKind], count: usize) -> &[EventKind]
+    ensures { result.now ≡ take count events.now }
+{
+    if count < events.len() {
+        &events[..count]
+    } else {
+        events
     }
 }

@@ -12,10 +12,12 @@ ghost use Rattle.journal.specs.Said.{contents};
 
 use crate::cells::is_number;
 use crate::contents::{
-    EVENTS, FileContents, HEADER, NAME, OBJECTS, OUTCOMES, PREPARED, STATES, TYPES, read_contents,
+    EVENTS, FileContents, FoundContents, HEADER, NAME, OBJECTS, OUTCOMES, PREPARED, STATES, TYPES,
+    read_contents,
 };
 use crate::journal::Journal;
 use crate::journal_error::JournalError;
+use event_text::EventGroup;
 use sqlite_trees::store::{Alter, Shape, Store};
 use sqlite_value::row::Row;
 use sqlite_value::value::ValueRef;
@@ -53,18 +55,19 @@ impl<S: Alter> Journal<S> {
         }
         let mut row = Row::new(alloc);
         match read_contents(alloc, &mut store, &mut row) {
-            Ok(said) => {
-                let count = said.events.as_slice().len() as u64;
+            Ok(FoundContents { said, starts }) => {
+                let settled = said.events.as_slice().len() as u64;
                 let header = said.header;
-                Ok((
-                    Journal {
-                        store,
-                        row,
-                        count,
-                        header,
-                    },
-                    said,
-                ))
+                let journal = Journal {
+                    store,
+                    row,
+                    starts,
+                    settled,
+                    count: settled,
+                    pending: EventGroup::new(alloc),
+                    header,
+                };
+                Ok((journal, said))
             }
             Err(error) => Err((error, store)),
         }

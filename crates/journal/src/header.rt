@@ -4,17 +4,20 @@ ghost use Rattle.journal.specs.HeaderRow.{ToldHeader, header_keyed, header_read_
 ghost use Rattle.std.specs.Prelude.{IfSome};
 
 use crate::cells::{Cell, begin_row, blob_in, is_at};
-use crate::entry::Entry;
+use crate::entry::{Entry, FilledEntry};
 use sqlite_value::row::Row;
 use sqlite_value::value::ValueRef;
 use std::alloc::{AllocError, Global};
 
 // the columns after that of the position
-const FORMAT: usize = 2;
+const VERSION: usize = 2;
 
 const ID: usize = 3;
 
 const LIFE: usize = 4;
+
+/// The format of what is written.
+pub const FORMAT: u32 = 5;
 
 /// What a file says of itself: the version of its format, 16 bytes that were drawn when it was made, and
 /// how many lives of stores began over it, which is the number of the present one.
@@ -35,6 +38,16 @@ impl Entry for Header {
 
     ghost read_back = { header_read_back };
 
+    fn read(_alloc: Global, position: u64, row: &Row) -> Result<Option<Header>, AllocError> {
+        if row.len() != 5 || !is_at(row, position) {
+            return Ok(None);
+        }
+        Ok(header_in(row))
+    }
+}
+
+/// As that row it is written.
+impl FilledEntry for Header {
     fn fill(&self, position: u64, row: &mut Row) -> Result<(), AllocError> {
         begin_row(row, position)?;
         row.push(ValueRef::Int(self.format as i64))?;
@@ -45,13 +58,6 @@ impl Entry for Header {
     fn is_same(&self, other: &Self) -> bool {
         self == other
     }
-
-    fn read(_alloc: Global, position: u64, row: &Row) -> Result<Option<Header>, AllocError> {
-        if row.len() != 5 || !is_at(row, position) {
-            return Ok(None);
-        }
-        Ok(header_in(row))
-    }
 }
 
 /// What the columns of a row say, where they are a header's.
@@ -59,7 +65,7 @@ fn header_in(row: &Row) -> Option<Header>
     ensures { IfSome result (λ header. ToldHeader row.now header) }
 {
     let id = <[u8; 16]>::try_from(blob_in(row, ID)?).ok()?;
-    match (Cell::in_column(row, FORMAT)?, Cell::in_column(row, LIFE)?) {
+    match (Cell::in_column(row, VERSION)?, Cell::in_column(row, LIFE)?) {
         (Cell::Number(format), Cell::Number(life)) => Some(Header { format, id, life }),
         _ => None,
     }

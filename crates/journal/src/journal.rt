@@ -13,13 +13,16 @@ ghost use Rattle.journal.specs.Tables.{Rewrites};
 
 use crate::contents::{EVENTS, HEADER, OBJECTS, STATES, TYPES};
 use crate::entry::Entry;
+use crate::event_row::{EventRow, put_group, some_of};
 use crate::event_table::empty_events;
-use crate::header::Header;
+use crate::header::{FORMAT, Header};
 use crate::journal_error::JournalError;
 use crate::more_rows::append_each;
 use crate::object_row::TypeText;
+use crate::row_places::rows_of;
 use crate::state_row::FirstState;
 use crate::table::{MOST_ROWS, append, read_all, read_from};
+use event_text::EventGroup;
 use object_trait::EventKind;
 use sqlite_trees::store::{Alter, Store};
 use sqlite_value::row::Row;
@@ -32,8 +35,14 @@ use store_text::ObjectLine;
 pub struct Journal<S: Store> {
     pub(crate) store: S,
     pub(crate) row: Row,
-    // How many events are written.
+    // At which place among all events those of each row begin.
+    pub(crate) starts: Vec<u64>,
+    // How many events are in rows.
+    pub(crate) settled: u64,
+    // How many events are written, also those that are in no row yet.
     pub(crate) count: u64,
+    // Those in no row yet: the next commit makes one of them.
+    pub(crate) pending: EventGroup,
     pub(crate) header: Header,
 }
 
@@ -52,11 +61,43 @@ impl<S: Store> Journal<S> {
         ensures clean { Clean S.Store self.new → Clean S.Store self.old }
         ensures crash { (db : Trees) → may_leave S.Store self.new db → may_leave S.Store self.old db }
     {
-        if self.count >= MOST_ROWS {
+        let Some(count) = self.count.checked_add(1) else {
+            return Err(JournalError::Full);
+        };
+        self.pending.push(event)?;
+        self.count = count;
+        Ok(())
+    }
+
+    /// Makes a row of the events that are in none. A crash may still take it away.
+    ///
+    /// # Errors
+    ///
+    /// The file failed, or memory was refused: the journal isn't to be used any more.
+    fn write_pending(&mut self) -> Result<(), JournalError>
+        requires { IsJournal S.Store self.old }
+        ensures kept { OnOk result (IsJournal S.Store self.new) }
+        ensures none { OnOk result (self.new.pending ≡ []) }
+        ensures written { OnOk result (Clean S.Store self.new → written S.Store self.new ≡ written S.Store self.old) }
+        ensures durable { OnOk result (Clean S.Store self.new → durable S.Store self.new ≡ durable S.Store self.old) }
+        ensures header { self.new.header ≡ self.old.header }
+        ensures clean { Clean S.Store self.new → Clean S.Store self.old }
+        ensures crash { (db : Trees) → may_leave S.Store self.new db → may_leave S.Store self.old db }
+        ensures numbered { IsNumbered S.Store self.old → IsNumbered S.Store self.new }
+    {
+        if self.pending.is_empty() {
+            return Ok(());
+        }
+        let position = self.starts.len() as u64;
+        if position >= MOST_ROWS {
             return Err(JournalError::Full);
         }
-        append(&mut self.store, EVENTS, self.count, &event, &mut self.row)?;
-        self.count += 1;
+        let count = self.count.saturating_sub(self.settled);
+        let (store, row) = (&mut self.store, &mut self.row);
+        put_group(store, position, &self.pending, count, row)?;
+        self.starts.push(self.settled)?;
+        self.pending.clear();
+        self.settled = self.count;
         Ok(())
     }
 
@@ -68,6 +109,28 @@ impl<S: Store> Journal<S> {
     /// it is there.
     pub fn commit(&mut self) -> Result<(), JournalError>
         requires { IsJournal S.Store self.old }
+        ensures kept { OnOk result (IsJournal S.Store self.new) }
+        ensures durable { OnOk result (Clean S.Store self.new → durable S.Store self.new ≡ written S.Store self.old) }
+        ensures written { OnOk result (Clean S.Store self.new → written S.Store self.new ≡ written S.Store self.old) }
+        ensures header { self.new.header ≡ self.old.header }
+        ensures clean { Clean S.Store self.new → Clean S.Store self.old }
+        ensures crash { (db : Trees) → may_leave S.Store self.new db → IsAsWritten S.Store self.old db ⊎ may_leave S.Store self.old db }
+        ensures is_open { OnOk result (Clean S.Store self.new → IsOpen S.Store self.new) }
+        ensures shows { OnOk result (ShowsCommit S.Store self.new) }
+        ensures numbered { IsNumbered S.Store self.old → IsNumbered S.Store self.new }
+    {
+        self.write_pending()?;
+        self.commit_rows()
+    }
+
+    /// Makes all that was written durable, where it is in rows.
+    ///
+    /// # Errors
+    ///
+    /// As `commit`.
+    fn commit_rows(&mut self) -> Result<(), JournalError>
+        requires journal { IsJournal S.Store self.old }
+        requires none { self.old.pending ≡ [] }
         ensures kept { OnOk result (IsJournal S.Store self.new) }
         ensures durable { OnOk result (Clean S.Store self.new → durable S.Store self.new ≡ written S.Store self.old) }
         ensures written { OnOk result (Clean S.Store self.new → written S.Store self.new ≡ written S.Store self.old) }
@@ -108,7 +171,10 @@ impl<S: Store> Journal<S> {
         let Journal {
             store,
             row: _,
+            starts: _,
+            settled: _,
             count: _,
+            pending: _,
             header: _,
         } = self;
         store
@@ -175,7 +241,8 @@ impl<S: Store> Journal<S> {
         self.all_of(alloc, STATES)
     }
 
-    /// The events from this position on, oldest first, and at most this many: no other row is read.
+    /// The events from this place on, oldest first, and at most this many: no row is read that has none of
+    /// them.
     ///
     /// # Errors
     ///
@@ -197,10 +264,13 @@ impl<S: Store> Journal<S> {
         ensures clean { Clean S.Store self.new → Clean S.Store self.old }
         ensures crash { (db : Trees) → may_leave S.Store self.new db → may_leave S.Store self.old db }
     {
-        if from >= self.count {
+        let Some(rows) = rows_of(&self.starts, from, count) else {
             return Ok(Vec::new(alloc));
-        }
-        read_from(alloc, &mut self.store, EVENTS, from, count, &mut self.row)
+        };
+        let (store, row) = (&mut self.store, &mut self.row);
+        let found: Vec<EventRow> = read_from(alloc, store, EVENTS, rows.first, rows.count, row)?;
+        let events = some_of(alloc, &found, from - rows.start, count)?;
+        Ok(events)
     }
 
     /// The values of a table, in order.
@@ -224,7 +294,8 @@ impl<S: Store> Journal<S> {
         read_all(alloc, &mut self.store, table, &mut self.row)
     }
 
-    /// Begins another life: its number, which is one more than the last one's, is written into the header.
+    /// Begins another life: its number, which is one more than the last one's, is written into the header, which
+    /// is of the newest format then.
     ///
     /// # Errors
     ///
@@ -244,6 +315,7 @@ impl<S: Store> Journal<S> {
             return Err(JournalError::Full);
         };
         let header = Header {
+            format: FORMAT,
             life,
             ..self.header
         };
@@ -342,6 +414,9 @@ impl<S: Alter> Journal<S> {
         append_each(store, STATES, count as u64, &states[count..], row)?;
         append_each(store, TYPES, known, types, row)?;
         append_each(store, OBJECTS, count as u64, objects, row)?;
+        self.starts.clear();
+        self.pending.clear();
+        self.settled = 0;
         self.count = 0;
         Ok(())
     }
@@ -364,6 +439,9 @@ impl<S: Alter> Journal<S> {
     {
         empty_events(&mut self.store)?;
         rewrite_states(&mut self.store, states, &mut self.row)?;
+        self.starts.clear();
+        self.pending.clear();
+        self.settled = 0;
         self.count = 0;
         Ok(())
     }

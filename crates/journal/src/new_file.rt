@@ -11,7 +11,7 @@ ghost use Rattle.journal.specs.Journal.{Clean, IsJournal, IsOpen, ShowsCommit, d
 ghost use Rattle.journal.specs.Said.{contents};
 
 use crate::contents::{FileContents, HEADER, NAME, OBJECTS, STATES, TYPES};
-use crate::entry::Entry;
+use crate::entry::FilledEntry;
 use crate::found_file::is_table;
 use crate::journal::Journal;
 use crate::journal_error::JournalError;
@@ -114,7 +114,7 @@ fn is_named_so(object: &Row, name: &str) -> bool
 /// # Errors
 ///
 /// `Foreign` where there is no such table; the file failed, or memory was refused.
-fn write_all<S: Store, E: Entry>(
+fn write_all<S: Store, E: FilledEntry>(
     store: &mut S,
     table: u32,
     entries: &[E],
@@ -197,7 +197,7 @@ fn are_none(events: &[EventKind]) -> bool
 }
 
 /// Whether two lists of values are the same.
-fn are_same<E: Entry>(found: &[E], said: &[E]) -> bool
+fn are_same<E: FilledEntry>(found: &[E], said: &[E]) -> bool
     ensures { result ≡ true → found.now ≡ said.now }
 {
     if found.len() != said.len() {

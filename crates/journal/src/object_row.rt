@@ -6,7 +6,7 @@ ghost use Rattle.journal.specs.ObjectRows.{ToldObject, name_column, object_keyed
 ghost use Rattle.journal.specs.TypeRow.{type_keyed, type_read_back, type_row, type_told};
 
 use crate::cells::{Cell, begin_row, is_at, text_in, two_bytes};
-use crate::entry::Entry;
+use crate::entry::{Entry, FilledEntry};
 use object_name::ObjectName;
 use sqlite_value::row::Row;
 use sqlite_value::value::ValueRef;
@@ -64,6 +64,16 @@ impl Entry for ObjectLine {
 
     ghost read_back = { object_read_back };
 
+    fn read(_alloc: Global, position: u64, row: &Row) -> Result<Option<ObjectLine>, AllocError> {
+        if !is_at(row, position) {
+            return Ok(None);
+        }
+        Ok(object_in(row))
+    }
+}
+
+/// As that row it is written.
+impl FilledEntry for ObjectLine {
     fn fill(&self, position: u64, row: &mut Row) -> Result<(), AllocError> {
         begin_row(row, position)?;
         row.push(ValueRef::Text(self.kind.word().as_bytes()))?;
@@ -76,13 +86,6 @@ impl Entry for ObjectLine {
 
     fn is_same(&self, other: &Self) -> bool {
         self == other
-    }
-
-    fn read(_alloc: Global, position: u64, row: &Row) -> Result<Option<ObjectLine>, AllocError> {
-        if !is_at(row, position) {
-            return Ok(None);
-        }
-        Ok(object_in(row))
     }
 }
 
@@ -123,15 +126,6 @@ impl Entry for TypeText {
 
     ghost read_back = { type_read_back };
 
-    fn fill(&self, position: u64, row: &mut Row) -> Result<(), AllocError> {
-        begin_row(row, position)?;
-        row.push(ValueRef::Text(&self.text))
-    }
-
-    fn is_same(&self, other: &Self) -> bool {
-        self.as_bytes() == other.as_bytes()
-    }
-
     fn read(alloc: Global, position: u64, row: &Row) -> Result<Option<TypeText>, AllocError> {
         if row.len() != 3 || !is_at(row, position) {
             return Ok(None);
@@ -143,5 +137,17 @@ impl Entry for TypeText {
             }
             None => Ok(None),
         }
+    }
+}
+
+/// As that row it is written.
+impl FilledEntry for TypeText {
+    fn fill(&self, position: u64, row: &mut Row) -> Result<(), AllocError> {
+        begin_row(row, position)?;
+        row.push(ValueRef::Text(&self.text))
+    }
+
+    fn is_same(&self, other: &Self) -> bool {
+        self.as_bytes() == other.as_bytes()
     }
 }

@@ -3,9 +3,10 @@
 use sqlite_trees::schema::Object;
 use sqlite_trees::store::Shape;
 
-/// The statement that makes the table of events.
+/// The statement that makes the table of events. The columns of its rows fit that of the formats 1 to 4 too, which asks
+/// for a text and a number, and stays in a file until its next epoch.
 pub const EVENT_SQL: &str =
-    "CREATE TABLE event (position INTEGER PRIMARY KEY, kind TEXT NOT NULL, t INTEGER NOT NULL, x INTEGER, k INTEGER, n INTEGER)";
+    "CREATE TABLE event (number INTEGER PRIMARY KEY, lines TEXT NOT NULL, events INTEGER NOT NULL)";
 
 /// Each table's name and the statement that makes it, in the order of their numbers. The last two are
 /// empty: they are for commits over several stores.

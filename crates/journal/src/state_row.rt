@@ -3,7 +3,7 @@
 ghost use Rattle.journal.specs.StateRow.{state_keyed, state_read_back, state_row, state_told};
 
 use crate::cells::{Cell, begin_row, is_at};
-use crate::entry::Entry;
+use crate::entry::{Entry, FilledEntry};
 use sqlite_value::row::Row;
 use sqlite_value::value::ValueRef;
 use std::alloc::{AllocError, Global};
@@ -27,15 +27,6 @@ impl Entry for FirstState {
 
     ghost read_back = { state_read_back };
 
-    fn fill(&self, position: u64, row: &mut Row) -> Result<(), AllocError> {
-        begin_row(row, position)?;
-        row.push(ValueRef::Int(self.state as i64))
-    }
-
-    fn is_same(&self, other: &Self) -> bool {
-        self == other
-    }
-
     fn read(_alloc: Global, position: u64, row: &Row) -> Result<Option<FirstState>, AllocError> {
         if row.len() != 3 || !is_at(row, position) {
             return Ok(None);
@@ -44,5 +35,17 @@ impl Entry for FirstState {
             Some(Cell::Number(state)) => Ok(Some(FirstState { state })),
             _ => Ok(None),
         }
+    }
+}
+
+/// As that row it is written.
+impl FilledEntry for FirstState {
+    fn fill(&self, position: u64, row: &mut Row) -> Result<(), AllocError> {
+        begin_row(row, position)?;
+        row.push(ValueRef::Int(self.state as i64))
+    }
+
+    fn is_same(&self, other: &Self) -> bool {
+        self == other
     }
 }

@@ -8,7 +8,7 @@ ghost use Rattle.journal.specs.Rows.{value_rows};
 ghost use Rattle.journal.specs.Tables.{IsUnused, OnlyReads};
 
 use crate::cells::begin_key;
-use crate::entry::Entry;
+use crate::entry::{Entry, FilledEntry};
 use crate::journal_error::JournalError;
 use sqlite_trees::store::{Direction, Shape, Store};
 use sqlite_value::row::Row;
@@ -22,7 +22,7 @@ pub const MOST_ROWS: u64 = 1 << 62;
 /// # Errors
 ///
 /// The store failed, or memory was refused.
-pub fn append<S: Store, E: Entry>(
+pub fn append<S: Store, E: FilledEntry>(
     store: &mut S,
     table: u32,
     position: u64,
@@ -31,7 +31,7 @@ pub fn append<S: Store, E: Entry>(
 ) -> Result<(), JournalError>
     requires few { position < 2 ^ 62 }
     requires shape { IsClean (S.Store.view store.old) → (S.Store.view store.old).shape table ≡ Shape.Table }
-    ensures ok { OnOk result (IsClean (S.Store.view store.new) → SetsTree (S.Store.view store.old) (S.Store.view store.new) table (put_row (E.row_at position entry.now))) }
+    ensures ok { OnOk result (IsClean (S.Store.view store.new) → SetsTree (S.Store.view store.old) (S.Store.view store.new) table (put_row (E.Entry.row_at position entry.now))) }
     ensures clean { IsClean (S.Store.view store.new) → IsClean (S.Store.view store.old) }
     ensures schema { KeepsSchema (S.Store.view store.old) (S.Store.view store.new) }
     ensures crash { (db : Trees) → S.Store.recovers store.new db → S.Store.recovers store.old db }

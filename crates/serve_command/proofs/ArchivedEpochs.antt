@@ -6,6 +6,7 @@ use Rattle.sqlite_trees.specs.Tree.{Trees}
 use Rattle.sqlite_trees.specs.View.{IsClean}
 use Rattle.journal.specs.Contents.{contents_of}
 use Rattle.journal.specs.Journal.{Clean, ShowsCommit, written}
+use Rattle.serving.proofs.LaterEpochs.{shown-durable}
 use Rattle.durable_store.specs.declared.durable.Durable.{Durable}
 use Rattle.durable_store.specs.Recovered.{IsRecovered, recovered}
 use Rattle.command_files.specs.declared.fault.Fault.{Fault}
@@ -22,7 +23,7 @@ pub keeps-at : {S : Type 0} (g : Ghosts S) (began now : Durable S) (trees : S) (
 keeps-at {S} g began now trees kept kept_now are shows writes clean =
     let at_end : Clean g now.journal = subst (λ (x : S). IsClean (g.view x)) are clean in
     let (ended, reached, keeps) = writes at_end in
-    let last : written g now.journal ≡ contents_of (g.view trees).committed = ap contents_of (shows at_end).clean ∙ sym (ap (λ (x : S). contents_of (g.view x).committed) are) in
+    let last : written g now.journal ≡ contents_of (g.view trees).committed = sym (shown-durable g now shows at_end) ∙ sym (ap (λ (x : S). contents_of (g.view x).committed) are) in
     (ended, subst (λ c. Reaches (written g began.journal) ended c) last reached, keeps)
 
 -- from what is held as it was opened

@@ -5,7 +5,7 @@ use Rattle.sqlite_trees.specs.Tree.{Trees}
 use Rattle.store.specs.Ends.{closing}
 use Rattle.store_laws.specs.Stored.{Stored}
 use Rattle.journal.specs.declared.header.Header.{Header}
-use Rattle.journal.specs.Contents.{Contents, contents_of}
+use Rattle.journal.specs.Contents.{Contents, contents_of, newest_format}
 use Rattle.journal.specs.Journal.{Clean, ShowsCommit, written, durable}
 use Rattle.durable_store.specs.declared.durable.Durable.{Durable}
 use Rattle.durable_store.specs.Durable.{IsDurable, with_all}
@@ -21,7 +21,7 @@ use Rattle.serve_command.specs.Served.{BeginsEpoch, ids_in}
 -- ---- what a file keeps
 
 -- headers of another life
-raised-ids : (life : ℕ) (hs : List Header) → map (λ (h : Header). h.id) (map (λ (h : Header). let raised : Header = record h { life = life } in raised) hs) ≡ map (λ (h : Header). h.id) hs
+raised-ids : (life : ℕ) (hs : List Header) → map (λ (h : Header). h.id) (map (λ (h : Header). let raised : Header = record h { format = newest_format; life = life } in raised) hs) ≡ map (λ (h : Header). h.id) hs
 raised-ids life [] = refl
 raised-ids life (h ∷ hs) = ap (λ ids. h.id ∷ ids) (raised-ids life hs)
 
@@ -54,7 +54,7 @@ begins-epoch g file said waits ended last now life reached says sound shows clea
     let c = with_all (written g last.journal) (closing last.store.history) in
     let d = durable g now.journal in
     let headers : d.headers ≡ now.journal.header ∷ [] =
-    sym (ap (λ (x : Contents). x.headers) (ap contents_of (shows clean).clean)) ∙ (sound.journal clean).header_is (shows clean).sound in
+    sym (ap (λ (x : Contents). x.headers) (ap contents_of (shows clean).0.clean)) ∙ (sound.journal clean).0.header_is (shows clean).0.sound in
     record {
       events = next-events waits (aborted last.store) now.store c d is;
       states = next-states waits (aborted last.store) now.store c d is;

@@ -142,7 +142,7 @@ work-of g clean lines told last said reached ended waits held db began sound sho
   reached = reached;
   ended = ended;
   waits = waits;
-  lives = λ c. let now = sure c in (began.journal.header, (sound.journal now).header_is (shows now).sound, refl);
+  lives = λ c. let now = sure c in (began.journal.header, (sound.journal now).0.header_is (shows now).0.sound, refl);
   opened = λ c.
       let is = found (sure c) in
       at-path db (λ x. IsOpened (contents_of x) (written g began.journal) began.store) held (same (sure c)) (record { types = is.types; history = is.history; left = is.written });

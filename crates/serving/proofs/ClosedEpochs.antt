@@ -46,7 +46,7 @@ pub text-kept : {S : Type 0} (g : Ghosts S) (mid new : Durable S) (kept kept_now
     → (Clean g new.journal → Clean g mid.journal) → (Clean g new.journal → written g new.journal ≡ written g mid.journal) → header ≡ mid.journal.header
     → (Clean g new.journal → text ≡ text_of_epoch (written g mid.journal)) → KeepsText kept kept_now header text → Clean g new.journal → KeepsEpochs kept kept_now (written g new.journal ∷ [])
 text-kept g mid new kept kept_now header text journal shows clean same is_header is_text keeps now =
-    let headers : (written g mid.journal).headers ≡ mid.journal.header ∷ [] = (journal (clean now)).header_is (shows (clean now)).sound in
+    let headers : (written g mid.journal).headers ≡ mid.journal.header ∷ [] = (journal (clean now)).0.header_is (shows (clean now)).0.sound in
     let its : header ∷ [] ≡ (written g new.journal).headers = ap (λ h. h ∷ []) is_header ∙ sym (ap (λ (c : Contents). c.headers) (same now) ∙ headers) in
     let its_text : text ≡ text_of_epoch (written g new.journal) = is_text now ∙ sym (ap text_of_epoch (same now)) in
     keeps ∙ ap₂ (λ hs t. with_kept kept (record { headers = hs; text = t } ∷ [])) its its_text

@@ -1,5 +1,5 @@
 -- How serving ends.
-use Rattle.std.proofs.Common.{◌≡◌, ◌∙◌, ◌⊎◌, ℕ, None, Result, Ok, Err, inl, inr, List, [], ◌++◌, refl, sym, ap, ap₂, subst, Option}
+use Rattle.std.proofs.Common.{◌≡◌, ◌∙◌, ◌⊎◌, ℕ, None, Some, Result, Ok, Err, inl, inr, List, [], ◌∷◌, ◌++◌, refl, sym, ap, ap₂, subst, Option}
 use Rattle.std.proofs.KnownBytes.{Appends-trans, Consumes-nil, Keeps-refl}
 use Rattle.std.proofs.lemmas.List.{append-nil}
 use Rattle.std.specs.Io.KnownBytes.{Appends, IsAtEnd}
@@ -13,7 +13,10 @@ use Rattle.serving.specs.Epochs.{LeavesEpochs, WritesEpochs}
 use Rattle.serving.specs.declared.extension.Extension.{Extension}
 use Rattle.serving.specs.declared.session.Session.{Session}
 use Rattle.serving.specs.declared.server.Server.{Server}
-use Rattle.serving.specs.EpochEnd.{EndsEpoch, LeavesEnd, last_answers}
+use Rattle.serving.specs.EpochEnd.{EndsEpoch, LeavesEnd, end_answers, last_answers}
+use Rattle.serving.specs.declared.answer_line.AnswerLine.{AnswerLine}
+use Rattle.serving.specs.declared.answer_line.AnswerLine.TheVariants.{Done}
+use Rattle.serving.specs.declared.answer_line.Answered.{Answered}
 use Rattle.serving.specs.Group.{HasTold, StopsTelling}
 use Rattle.serving.specs.NextEpoch.{late_answer}
 use Rattle.serving.specs.Served.{Serves}
@@ -23,6 +26,10 @@ use Rattle.serving.specs.Whole.{ServesClient, StopsServing, session_of}
 use Rattle.serving.proofs.LaterEpochs.{left-then, writes-on}
 use Rattle.serving.proofs.Premises.{serves-weaker}
 use Rattle.serving.proofs.TextParts.{part-of-whole, part-then}
+
+-- the answer to the line that asked for the end
+pub one-answer : (it : Answered) (asked : Asked) → it.tag ≡ asked.tag → it.answer ≡ Done → it ∷ [] ≡ end_answers (Some asked)
+one-answer it asked tag done = ap₂ (λ (t : Option (List ℕ)) (a : AnswerLine). let one : Answered = record { tag = t; answer = a } in one ∷ []) tag done
 
 -- a server that served a store, and then its end
 pub writes-served : {S E : Type 0} (g : Ghosts S) {began old mid d : Durable S} (new : Durable S) (kept kept_mid kept_now : Option (List KeptHistory)) (r : Result (Unit {0}) E) → old ≡ began → d ≡ mid

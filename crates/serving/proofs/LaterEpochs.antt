@@ -6,7 +6,8 @@ use Rattle.std.specs.Io.KnownBytes.{Appends}
 use Rattle.std.proofs.KnownBytes.{Appends-trans}
 use Rattle.sqlite_trees.specs.declared.store.Store.{Ghosts}
 use Rattle.journal.specs.declared.header.Header.{Header}
-use Rattle.journal.specs.Contents.{Contents, contents_of}
+use Rattle.journal.specs.Contents.{Contents, contents_of, with_pending}
+use Rattle.journal.proofs.Writes.{none-pending}
 use Rattle.journal.specs.Journal.{Clean, IsJournal, ShowsCommit, durable, written}
 use Rattle.store_laws.specs.Stored.{Stored}
 use Rattle.durable_store.specs.declared.durable.Durable.{Durable}
@@ -119,7 +120,9 @@ left-renewed g waits old mid new kept kept_now sound clean wrote keeps first cra
 
 -- what was written is durable
 pub shown-durable : {S : Type 0} (g : Ghosts S) (d : Durable S) → ShowsCommit g d.journal → Clean g d.journal → durable g d.journal ≡ written g d.journal
-shown-durable g d shows now = sym (ap contents_of (shows now).clean)
+shown-durable g d shows now =
+    let trees = (g.view d.journal.store).trees in
+    sym (ap (with_pending (contents_of trees)) (shows now).1 ∙ none-pending (contents_of trees) ∙ ap contents_of (shows now).0.clean)
 
 -- the file of a new epoch, and its life
 module _ {S : Type 0} {g : Ghosts S} (waits : Option Extension) (old mid new : Durable S) (sound : IsDurable g mid) (clean : Clean g new.journal → Clean g mid.journal)
@@ -134,7 +137,7 @@ module _ {S : Type 0} {g : Ghosts S} (waits : Option Extension) (old mid new : D
   next-life : IsJournal g new.journal → (written g mid.journal).headers ≡ mid.journal.header ∷ [] → life_of new ≡ suc (life_of mid)
   next-life journal last =
       let all : new.journal.header ∷ [] ≡ raised (mid.journal.header ∷ []) =
-      sym ((journal now).header_is (shows now).sound) ∙ next-headers waits mid.store new.store (written g mid.journal) (written g new.journal) written-now ∙ ap raised last in
+      sym ((journal now).0.header_is (shows now).0.sound) ∙ next-headers waits mid.store new.store (written g mid.journal) (written g new.journal) written-now ∙ ap raised last in
       ap life_in all
 
 -- ---- the end of an epoch

@@ -27,7 +27,7 @@ use Rattle.serving.specs.NextEpoch.{limit_while}
 use Rattle.serving.specs.Served.{Serves}
 use Rattle.serving.specs.Server.{AnswersLine, DoesLine, HasServed, KeepsByte, StaysInEpoch, TakesByte, TakesEnd, life_of}
 use Rattle.serving.specs.Told.{has_lasting, is_lasting}
-use Rattle.serving.proofs.LaterEpochs.{is-store-of}
+use Rattle.serving.proofs.LaterEpochs.{is-store-of, shown-durable}
 use Rattle.serving.proofs.Premises.{serves-weaker}
 
 -- ---- answers
@@ -202,8 +202,8 @@ module _ {S : Type 0} {g : Ghosts S} where
         | true ↦ λ some db left.
             let was = stays.clean clean in
             let shows = settled some clean in
-            let is : contents_of db ≡ written g new.store.journal = stays.sound.settled clean db left ∙ ap contents_of (sym shows.clean) in
-            let header = ap (λ (c : Contents). c.headers) is ∙ (stays.sound.journal clean).header_is shows.sound in
+            let is : contents_of db ≡ written g new.store.journal = stays.sound.settled clean db left ∙ shown-durable g new.store (settled some) clean in
+            let header = ap (λ (c : Contents). c.headers) is ∙ (stays.sound.journal clean).0.header_is shows.0.sound in
             let store : IsStoreOf (contents_of db) mid.store.store = subst (λ (x : Contents). IsStoreOf x mid.store.store) (sym (is ∙ same clean)) (is-store-of g mid.store sound was) in (
               (so_far db left).0,
               left-of seen rest all half (contents_of db) (told ++ answers) [] (told ++ answers) mid.life said mid.store.store ended mid.waiting asked (append-nil (told ++ answers)) (serves-weaker (λ known. was) serves)
@@ -217,9 +217,9 @@ module _ {S : Type 0} {g : Ghosts S} where
       → ((db : Trees) → IsTrue (g.view began.store.journal.store).is_open → may_leave g began.store.journal db → db ≡ (g.view began.store.journal.store).committed)
       → LeavesLines g (began_at g began) last [] [] [] began.store
   lines-none began sound named clean shows last_commit db left =
-      let it = shows clean in
-      let file = sound.journal clean in
-      let is : contents_of db ≡ written g began.store.journal = sound.settled clean db left ∙ ap contents_of (sym it.clean) in
+      let it = (shows clean).0 in
+      let file = (sound.journal clean).0 in
+      let is : contents_of db ≡ written g began.store.journal = sound.settled clean db left ∙ shown-durable g began.store shows clean in
       let store : IsStoreOf (contents_of db) began.store.store = subst (λ (x : Contents). IsStoreOf x began.store.store) (sym is) (is-store-of g began.store sound clean) in (
         subst IsFile (sym (last_commit db it.is_open left)) (file.kept it.is_open),
         left-of [] [] [] [] (contents_of db) [] [] [] began.life (written g began.store.journal) began.store.store None None (record { text = refl; whole = tt; within = refl }) refl (Serves.none began.store.store)
@@ -293,7 +293,7 @@ module _ {S : Type 0} {g : Ghosts S} {began : Session S} where
       → ((db : Trees) → may_leave g s.session.store.journal db → IsFile db) → LeavesLines g (began_at g began) last (seen ++ rest) told s.answers.items s.session.store
   lines-begun s rest served shows clean files db left =
       let sound = served.lasts.sound in
-      let it = shows clean in
-      let is : contents_of db ≡ written g s.session.store.journal = sound.settled clean db left ∙ ap contents_of (sym it.clean) in
-      let header = ap (λ (c : Contents). c.headers) is ∙ (sound.journal clean).header_is it.sound in
+      let it = (shows clean).0 in
+      let is : contents_of db ≡ written g s.session.store.journal = sound.settled clean db left ∙ shown-durable g s.session.store shows clean in
+      let header = ap (λ (c : Contents). c.headers) is ∙ (sound.journal clean).0.header_is it.sound in
       (files db left, left-now s rest (contents_of db) served clean (file-written s (contents_of db) sound served.lasts.named clean is header))

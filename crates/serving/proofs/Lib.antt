@@ -3,6 +3,7 @@ pub mod InTurn
 pub mod Peeked
 pub mod ToldReplies
 pub mod MoreEvents
+pub mod Staying
 pub mod Premises
 pub mod Attempts
 pub mod ByteByByte

@@ -1,7 +1,7 @@
 -- What begins where an epoch is over.
 use Rattle.std.proofs.Common.{◌≡◌, ◌∙◌, ℕ, Option, None, Some, List, ◌++◌, map, length, refl, ap, subst}
 use Rattle.journal.specs.declared.header.Header.{Header}
-use Rattle.journal.specs.Contents.{Contents}
+use Rattle.journal.specs.Contents.{Contents, newest_format}
 use Rattle.store_laws.specs.Stored.{Stored}
 use Rattle.store.specs.KeptState.{IsKeptState}
 use Rattle.store.specs.Renews.{Extends, Renews}
@@ -55,7 +55,7 @@ next-says (Some e) old new c now next = record {
 
 -- the same headers, in the next life
 abbrev pub raised : List Header → List Header
-raised hs = map (λ (h : Header). let it : Header = record h { life = next_life hs } in it) hs
+raised hs = map (λ (h : Header). let it : Header = record h { format = newest_format; life = next_life hs } in it) hs
 
 pub next-headers : (waits : Option Extension) (old new : Stored) (c now : Contents) → IsNextFile waits old new c now → now.headers ≡ raised c.headers
 next-headers None old new c now next = ap (λ (x : Contents). x.headers) next.1

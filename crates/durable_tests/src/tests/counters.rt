@@ -1,10 +1,10 @@
 //! A durable store of two counters over trees in memory: one in place, one deferred.
 
 ghost use Rattle.sqlite_trees.specs.View.{IsClean};
-ghost use Rattle.std.specs.Prelude.{IsTrue, OnOk};
+ghost use Rattle.std.specs.Prelude.{IfOk, IsTrue, OnOk};
 ghost use Rattle.durable_store.specs.Durable.{IsDurable};
 
-use durable_store::{Durable, open, restart, settle_and_restart};
+use durable_store::{Durable, OpenError, open, restart, settle_and_restart};
 use journal::{FileContents, FirstState, Header, Journal, JournalError, TypeText};
 use object_calls::Answer;
 use serial_order::Refusal;
@@ -34,7 +34,7 @@ pub fn contents(
         .expect(rt, "no states");
     FileContents {
         header: Header {
-            format: 4,
+            format: 5,
             id: [7; 16],
             life: 0,
         },
@@ -184,8 +184,18 @@ pub fn opened_but<S: Alter + Drop>(
     requires { IsDurable S.Store store }
     ensures { IsDurable S.Store result }
 {
-    let store = open(rt.alloc(), store.into_trees(), prepared).ok();
-    store.expect(rt, "the file isn't opened")
+    opened_of(rt, open(rt.alloc(), store.into_trees(), prepared))
+}
+
+/// The store that was opened.
+pub fn opened_of<S: Alter + Drop>(
+    rt: &impl Abort,
+    came: Result<Durable<S>, (OpenError, S)>,
+) -> Durable<S>
+    requires { IfOk came (IsDurable S.Store) }
+    ensures { IsDurable S.Store result }
+{
+    came.ok().expect(rt, "the file isn't opened")
 }
 
 /// That this many events came, and that both objects have this state; the store is let go.

@@ -39,10 +39,10 @@ type File = (u32, &'static str, bool, u32, Option<OpenError>);
 
 /// A text with a fault; an object that names none, or begins at a state that isn't its type's. A file of a format
 /// before is opened, and one of another format isn't.
-static FILES: [File; 8] = [
-    (4, FAULTY, true, 0, Some(OpenError::Text(0))),
-    (4, COUNTER, false, 0, Some(OpenError::Untyped(1))),
-    (4, COUNTER, true, 3, Some(OpenError::Untyped(0))),
+static FILES: [File; 9] = [
+    (5, FAULTY, true, 0, Some(OpenError::Text(0))),
+    (5, COUNTER, false, 0, Some(OpenError::Untyped(1))),
+    (5, COUNTER, true, 3, Some(OpenError::Untyped(0))),
     (
         0,
         COUNTER,
@@ -53,8 +53,9 @@ static FILES: [File; 8] = [
     (1, COUNTER, true, 0, None),
     (2, COUNTER, true, 0, None),
     (3, COUNTER, true, 0, None),
+    (4, COUNTER, true, 0, None),
     (
-        5,
+        6,
         COUNTER,
         true,
         0,

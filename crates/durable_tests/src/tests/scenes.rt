@@ -4,7 +4,7 @@ ghost use Rattle.durable_store.specs.Durable.{IsDurable};
 
 use super::counters::{
     Act, NewTrees, commits, contents, created, does, has, has_no_event, has_settled, new_store,
-    opened_but, renewed, restarted,
+    opened_but, opened_of, renewed, restarted,
 };
 use durable_store::{Durable, open};
 use sqlite_trees::memory::MemStore;
@@ -267,8 +267,10 @@ fn many_counters<S: NewTrees + Drop, R: Abort + AllocGlobal>(rt: &R) -> Durable<
     let mut lines = Vec::new(rt.alloc());
     lines.resize(300, line).expect(rt, "no lines");
     let said = contents(rt, COUNTER, &lines, 0);
-    let store = open(rt.alloc(), created(rt, S::no_trees(rt), &said), &[]).ok();
-    store.expect(rt, "the file isn't opened")
+    opened_of(
+        rt,
+        open(rt.alloc(), created(rt, S::no_trees(rt), &said), &[]),
+    )
 }
 
 /// That what was done at the first and at the last is found, and that there is no object behind the last.

@@ -1,9 +1,10 @@
 use Rattle.std.proofs.Common.{◌≡◌, ◌≤◌, ◌-◌, ◌++◌, ℕ, List, ap, drop, length, sym, take, ◌∙◌, arith}
 use Rattle.std.proofs.lemmas.List.{length-drop, length-take-le, take-append-drop, take_all}
 use Rattle.journal.specs.declared.state_row.FirstState.{FirstState}
-use Rattle.journal.specs.Contents.{extended}
+use Rattle.journal.specs.Contents.{contents_of, extended, with_pending}
 use Rattle.journal.specs.Journal.{written}
 use Rattle.journal.proofs.Extended.{begins-anew, extends}
+use Rattle.journal.proofs.Writes.{none-pending}
 use Rattle.journal.proofs.journal.Journal.extend.Goals as goal
 
 -- the first states, and the rest, are all
@@ -21,9 +22,12 @@ returns-clause-kept g c = λ clean.
     let first = c.append_each.ensures.clean all in
     let none = c.rewrite_states.ensures.clean first in
     let before = c.empty_events.ensures.clean none in
-    begins-anew _ (g.S.Store.view c.empty_events.new.store) (g.S.Store.view c.rewrite_states.new.store) (g.S.Store.view c.append_each.new.store) (g.S.Store.view c.append_each-2.new.store) _ _ _ _ _ _ _ _ _
-    (c.requires.journal before) (c.in_ok-empty_events.ensures.ok none) (c.in_ok-rewrite_states.ensures.ok first) (c.in_ok-append_each.ensures.ok all) (c.in_ok-append_each-2.ensures.ok typed)
-    (c.in_ok-append_each-3.ensures.ok clean) (length-take-le count states low) (sym (c.requires.known before)) (c.requires.objects before ∙ omega (arith, c.requires.as_many before))
+    let was = c.requires.journal before in (
+      rw c.clear.ensures.items (begins-anew _ (g.S.Store.view c.empty_events.new.store) (g.S.Store.view c.rewrite_states.new.store) (g.S.Store.view c.append_each.new.store) (g.S.Store.view c.append_each-2.new.store) _ _ _ _ _ _ _ _ _ _
+          was.0 (c.in_ok-empty_events.ensures.ok none) (c.in_ok-rewrite_states.ensures.ok first) (c.in_ok-append_each.ensures.ok all) (c.in_ok-append_each-2.ensures.ok typed)
+          (c.in_ok-append_each-3.ensures.ok clean) (length-take-le count states low) (sym (c.requires.known before)) (c.requires.objects before ∙ omega (arith, c.requires.as_many before))),
+      rw c.clear-2.ensures (omega arith),
+    )
 
 pub returns-clause-written : goal.returns-clause-written
 returns-clause-written g c = λ clean.
@@ -35,7 +39,11 @@ returns-clause-written g c = λ clean.
     let first = c.append_each.ensures.clean all in
     let none = c.rewrite_states.ensures.clean first in
     let before = c.empty_events.ensures.clean none in
-    extends _ (g.S.Store.view c.empty_events.new.store) (g.S.Store.view c.rewrite_states.new.store) (g.S.Store.view c.append_each.new.store) (g.S.Store.view c.append_each-2.new.store) _ _ _ _ _ _ _ _ _
-    (c.requires.journal before) (c.in_ok-empty_events.ensures.ok none) (c.in_ok-rewrite_states.ensures.ok first) (c.in_ok-append_each.ensures.ok all) (c.in_ok-append_each-2.ensures.ok typed)
+    let was = c.requires.journal before in
+    let new = g.S.Store.view c.append_each-3.new.store in
+    ap (with_pending (contents_of new.trees)) c.clear-2.ensures
+    ∙ none-pending (contents_of new.trees)
+    ∙ extends _ (g.S.Store.view c.empty_events.new.store) (g.S.Store.view c.rewrite_states.new.store) (g.S.Store.view c.append_each.new.store) (g.S.Store.view c.append_each-2.new.store) _ _ _ _ _ _ _ _ _ _
+    was.0 (c.in_ok-empty_events.ensures.ok none) (c.in_ok-rewrite_states.ensures.ok first) (c.in_ok-append_each.ensures.ok all) (c.in_ok-append_each-2.ensures.ok typed)
     (c.in_ok-append_each-3.ensures.ok clean) (length-take-le count states low) (sym (c.requires.known before)) (c.requires.objects before ∙ omega (arith, c.requires.as_many before))
     ∙ ap (extended (written g.S.Store c.args.self.now) c.args.types.now c.args.objects.now) (halves count states)

@@ -1,4 +1,4 @@
-use Rattle.std.proofs.Common.{◌≡◌, subst, sym, false, IsTrue, arith, length, ap, ◌∙◌}
+use Rattle.std.proofs.Common.{◌≡◌, subst, sym, false, IsTrue, arith, ap, ◌∙◌}
 use Rattle.sqlite_trees.specs.View.{IsClean, View}
 use Rattle.journal.specs.Contents.{IsFile, contents_of}
 use Rattle.journal.proofs.Opens.{starts, is-file, says, unused, was_open, same_commit}
@@ -8,33 +8,38 @@ pub returns-in-Ok-clause-kept : goal.returns-in-Ok-clause-kept
 returns-in-Ok-clause-kept g c = λ clean.
     let first = g.S.Store.view c.args.store in
     let old = g.S.Store.view c.rollback.new.self in
+    let found = c.in-Ok.field-0 in
     let was : IsClean old = c.in-Ok.ensures.clean clean in
     let at-first : IsClean first = omega (arith, c.rollback.ensures.quiet.clean) in
     let sound : old.is_broken ≡ false = c.in-Ok-true.ensures.sound c.in-Ok-true.field-0-test was in
-    let numbered : IsTrue old.is_numbered = subst IsTrue (sym c.rollback.ensures.undone.numbered) (c.requires at-first) in
-    starts old (g.S.Store.view c.read_contents.new.store) (length c.as_slice.result.now) c.in-Ok.said
-    (unused first old c.rollback.ensures.undone was (g.met.S.Store.broken_if_shut _) sound)
-    (c.in-Ok-true.ensures.tables c.in-Ok-true.field-0-test) numbered (c.in-Ok-true.ensures.named c.in-Ok-true.field-0-test was)
-    (c.in-Ok.ensures.same clean) (c.in-Ok.ensures.told clean) (ap length c.as_slice.ensures.value)
+    let numbered : IsTrue old.is_numbered = subst IsTrue (sym c.rollback.ensures.undone.numbered) (c.requires at-first) in (
+      rw c.as_slice.ensures.value (starts old (g.S.Store.view c.read_contents.new.store) found.said found.starts.items
+          (unused first old c.rollback.ensures.undone was (g.met.S.Store.broken_if_shut _) sound)
+          (c.in-Ok-true.ensures.tables c.in-Ok-true.field-0-test) numbered (c.in-Ok-true.ensures.named c.in-Ok-true.field-0-test was)
+          (c.in-Ok.ensures.same clean) (c.in-Ok.ensures.told clean)),
+      rw c.new.ensures (omega arith),
+    )
 
 pub returns-in-Ok-clause-said : goal.returns-in-Ok-clause-said
 returns-in-Ok-clause-said g c = λ clean.
     let first = g.S.Store.view c.args.store in
     let old = g.S.Store.view c.rollback.new.self in
+    let found = c.in-Ok.field-0 in
     let was : IsClean old = c.in-Ok.ensures.clean clean in
     let sound : old.is_broken ≡ false = c.in-Ok-true.ensures.sound c.in-Ok-true.field-0-test was in
     let u = unused first old c.rollback.ensures.undone was (g.met.S.Store.broken_if_shut _) sound in
-    ap (λ (v : View). contents_of v.committed) (c.in-Ok.ensures.same clean) ∙ ap contents_of (sym u.clean) ∙ says old.trees c.in-Ok.said (c.in-Ok.ensures.told clean)
+    ap (λ (v : View). contents_of v.committed) (c.in-Ok.ensures.same clean) ∙ ap contents_of (sym u.clean) ∙ says old.trees found.said found.starts.items (c.in-Ok.ensures.told clean)
 
 pub returns-in-Ok-clause-file : goal.returns-in-Ok-clause-file
 returns-in-Ok-clause-file g c = λ clean.
     let first = g.S.Store.view c.args.store in
     let old = g.S.Store.view c.rollback.new.self in
+    let found = c.in-Ok.field-0 in
     let was : IsClean old = c.in-Ok.ensures.clean clean in
     let sound : old.is_broken ≡ false = c.in-Ok-true.ensures.sound c.in-Ok-true.field-0-test was in
     let broken : old.is_open ≡ false → IsTrue old.is_broken = g.met.S.Store.broken_if_shut _ in
     let u = unused first old c.rollback.ensures.undone was broken sound in
-    subst IsFile (same_commit first old c.rollback.ensures.undone was broken sound) (subst IsFile u.clean (is-file old.trees c.in-Ok.said (c.in-Ok.ensures.told clean)))
+    subst IsFile (same_commit first old c.rollback.ensures.undone was broken sound) (subst IsFile u.clean (is-file old.trees found.said found.starts.items (c.in-Ok.ensures.told clean)))
 
 pub returns-in-Ok-clause-was_open : goal.returns-in-Ok-clause-was_open
 returns-in-Ok-clause-was_open g c = λ clean.

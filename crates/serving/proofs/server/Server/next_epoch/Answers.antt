@@ -5,6 +5,7 @@ use Rattle.serving.specs.declared.answer_line.Answered.{Answered}
 use Rattle.serving.specs.declared.session.Session.{Session}
 use Rattle.serving.specs.declared.server.Server.{Server}
 use Rattle.serving.specs.Does.{is_epoch_full}
+use Rattle.serving.specs.Epochs.{LeavesEpochs}
 use Rattle.serving.specs.EpochEnd.{last_answers}
 use Rattle.serving.specs.NextEpoch.{late_answer, limit_while}
 use Rattle.serving.specs.Told.{AppendsPart, answers_text}
@@ -66,3 +67,13 @@ returns-then-not-is_over-clause-serves g c began given taken given_now so_far =
     let same = c.is_over.ensures.others in
     tells-as c.is_over.new.self (ap (λ (s : Server g.row.S.Denot). s.session) same) (ap (λ (s : Server g.row.S.Denot). s.line) same) (ap (λ (s : Server g.row.S.Denot). s.answers) same)
     (ap (λ (s : Server g.row.S.Denot). s.end) same) so_far
+
+pub returns-in-Ok-tell_last-clause-crash : goal.returns-in-Ok-tell_last-clause-crash
+returns-in-Ok-tell_last-clause-crash g c =
+    subst (λ (s : Session g.row.S.Denot). LeavesEpochs g.S.Store s.store c.begin_epoch-session.result.0.store (g.A.Archive.kept c.args.archive.now) (g.A.Archive.kept c.begin_epoch-session.new.archive))
+    (ap (λ (s : Server g.row.S.Denot). s.session) c.is_over.ensures.others) c.begin_epoch-session.ensures.crash
+
+pub returns-in-Err-tell_last-clause-crash : goal.returns-in-Err-tell_last-clause-crash
+returns-in-Err-tell_last-clause-crash g c =
+    subst (λ (s : Session g.row.S.Denot). LeavesEpochs g.S.Store s.store c.begin_epoch-session.result.0.store (g.A.Archive.kept c.args.archive.now) (g.A.Archive.kept c.begin_epoch-session.new.archive))
+    (ap (λ (s : Server g.row.S.Denot). s.session) c.is_over.ensures.others) c.begin_epoch-session.ensures.crash

@@ -63,3 +63,6 @@ returns-clause-stops g c =
 
 pub returns-clause-stays_in_epoch : goal.returns-clause-stays_in_epoch
 returns-clause-stays_in_epoch g c = on_ok_weaker c.serve_part.result (λ stays. stays-then c.loop-at.invariant.stays stays) c.serve_part.ensures.stays_in_epoch
+
+pub returns-then-asked_end-clause-stays_in_epoch : goal.returns-then-asked_end-clause-stays_in_epoch
+returns-then-asked_end-clause-stays_in_epoch g c = stays-then c.loop-at.invariant.stays c.in_ok-start.ensures.stays_in_epoch

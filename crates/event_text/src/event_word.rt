@@ -1,8 +1,8 @@
-//! The words of the kinds of events in a file.
+//! The words of the kinds of events.
 
 ghost use Rattle.std.specs.Prelude.{◌≡◌};
 ghost use Rattle.std.specs.Str.{bytes_eq};
-ghost use Rattle.journal.specs.EventRow.{event_word, word_of_event};
+ghost use Rattle.event_text.specs.EventText.{event_word, word_of_event};
 
 /// A kind of event, without its numbers.
 #[derive(Clone, Copy)]

@@ -1,0 +1,6 @@
+use Rattle.std.proofs.Common.{refl}
+use Rattle.serving.proofs.Staying.{stays-by}
+use Rattle.serving.proofs.session.Session.rollback.Goals as goal
+
+pub returns-clause-stays_in_epoch : goal.returns-clause-stays_in_epoch
+returns-clause-stays_in_epoch g c = stays-by g.S.Store c.args.self.now _ refl refl c.in_ok-struck.ensures.sound c.rollback.ensures.life c.in_ok-struck.ensures.written c.rollback.ensures.clean c.rollback.ensures.crash
