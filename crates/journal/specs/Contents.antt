@@ -48,8 +48,8 @@ with_pending c events = record c { events = c.events ++ events }
 abbrev pub contents_with_event : Contents → EventKind → Contents
 contents_with_event c e = record c { events = c.events ++ e ∷ [] }
 
--- the format of what is written: 5 has a row for the events that were written together, 4 names of objects, 3 kinds of objects in
--- escrow, 2 operations with amounts
+-- the format of what is written: 5 has a row for the events that were written together, 4 has names of objects, 3 operations with
+-- amounts, 2 types that are numbers
 abbrev pub newest_format : ℕ
 newest_format = 5
 
