@@ -59,4 +59,4 @@ def main(rounds):
         program = programs.library_of_c(folder, "attempts")
         show_transactions(program, folder, rounds)
         show_committed(program, folder, rounds)
-        show_served(programs.built("colock"), folder)
+        show_served(programs.built(), folder)

@@ -38,7 +38,7 @@ def show_kind(name, kind, told, plain, whole):
 
 
 def main(rounds):
-    colock = programs.built("colock")
+    colock = programs.built()
     with tempfile.TemporaryDirectory() as folder:
         library, plain = programs.library_of_rust(folder), programs.plain(folder, "plain_check")
         print(f"{os.cpu_count()} processors, least of {rounds} rounds")

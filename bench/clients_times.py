@@ -74,7 +74,7 @@ def of_herds(folder, program):
 def measure(has_commits):
     """Databases are beside this file, and not in memory."""
     with tempfile.TemporaryDirectory(dir=HERE) as folder:
-        os.environ["COLOCK"] = programs.built("colock")
+        os.environ["COLOCK"] = programs.built()
         loop = SYNCS / durable_times.seconds(durable_times.driver(folder), "loop", os.path.join(folder, "loop"), 16, SYNCS)[0]
         print(f"{os.cpu_count()} processors, the best of {TURNS} turns; the disk's loop has {loop:,.0f} syncs a second", flush=True)
         program = program_of_rust(os.path.join(folder, "target"))

@@ -86,7 +86,7 @@ def epoch(colock, program, folder, *options):
 def main():
     """One run on one disk: the folder is beside this file, and not in /tmp, which may be memory."""
     with tempfile.TemporaryDirectory(dir=HERE) as folder:
-        colock, program = programs.built("colock"), driver(folder)
+        colock, program = programs.built(), driver(folder)
         programs.written(folder, "one.objects", "object undo 0\nend\n")
         programs.written(folder, "modulo.type", type_texts.modulo())
         once = COUNT / seconds(program, "sqlite", os.path.join(folder, "sqlite.db"), COUNT)[0]

@@ -2,7 +2,7 @@
  *
  *     library KIND FILE OBJECTS COMMANDS ROUNDS
  *
- * prints the least nanoseconds of a run of the commands of a file (crates/benches says what is in it), and of a new store
+ * prints the least nanoseconds of a run of the commands of a file (`bench/store/main.rattle` says what is in it), and of a new store
  * that follows the events of the run, and what came of it. */
 #define _POSIX_C_SOURCE 199309L
 #include "colock.h"

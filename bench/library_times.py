@@ -39,7 +39,7 @@ def commands_of_python():
 
 def show_rows(folder, rounds):
     asked = store_times.Asked(folder)
-    benches, from_c = programs.built("benches"), programs.library_of_c(folder)
+    benches, from_c = programs.store_in_rattle(folder), programs.library_of_c(folder)
     for kind in KINDS:
         for workload in WORKLOADS:
             commands = [asked.by_file(program, kind, workload, rounds) for program in ([benches, "any"], [benches, "one"], [from_c])]

@@ -47,7 +47,7 @@ def time_script(folder, colock, plain, rounds):
 
 def main(rounds):
     with tempfile.TemporaryDirectory() as folder:
-        colock, library = programs.built("colock"), programs.library_of_rust(folder)
+        colock, library = programs.built(), programs.library_of_rust(folder)
         plain = programs.plain(folder, "plain_lines")
         print(f"least of {programs.TURNS} turns of {rounds} rounds, nanoseconds a line")
         print(f"{'':22} {'lines':>9} {'colock':>9} {'plain':>9} {'ratio':>7}")

@@ -111,7 +111,7 @@ def show_memory(folder, rounds):
 
 
 def main(rounds):
-    colock = programs.built("colock")
+    colock = programs.built()
     found = {}
     with tempfile.TemporaryDirectory(dir=programs.HERE) as folder:
         programs.written(folder, "modulo.type", type_texts.modulo())

@@ -1,5 +1,6 @@
 """The programs that are measured, and those beside them: where they are, how they are built, and what they print."""
 import os
+import shutil
 import subprocess
 import sys
 
@@ -13,14 +14,41 @@ COMMANDS = 200_000
 TURNS = 5
 
 
-def built(crate):
-    """The program of a crate, which is proved where that hasn't been done. COLOCK and BENCHES name others."""
-    named = os.environ.get(crate.upper())
-    if named:
-        return os.path.abspath(named)
-    folder = os.path.join(ROOT, "crates", crate)
+# What `bench/store` uses, as a line of crates.txt says it.
+STORE_USES = "benches: type_table type_text table_checker object_trait undo_manager intentions_manager objects store anyhow\n"
+
+
+def built():
+    """The program `colock`, which is proved where that hasn't been done. COLOCK names another one."""
+    named = os.environ.get("COLOCK")
+    return os.path.abspath(named) if named else run_once(ROOT, "colock")
+
+
+def run_once(root, crate):
+    """The program of a crate below this folder, after a run of it, for which it is proved."""
+    folder = os.path.join(root, "crates", crate)
     subprocess.run(["rt", "run"], cwd=folder, capture_output=True, check=False)
     return os.path.join(folder, "out", crate)
+
+
+def store_in_rattle(folder):
+    """The program of `bench/store`, a crate in a copy of the repository's. BENCHES names another one.
+
+    It promises nothing, so the gate doesn't prove it: its files aren't named `.rt`, of which the gate passes over none.
+    """
+    named = os.environ.get("BENCHES")
+    if named:
+        return os.path.abspath(named)
+    room = os.path.join(folder, "room")
+    shutil.copytree(os.path.join(ROOT, "crates"), os.path.join(room, "crates"))
+    shutil.copy(os.path.join(ROOT, "HANDLES"), room)
+    with open(os.path.join(ROOT, "crates.txt"), encoding="utf-8") as listed:
+        written(room, "crates.txt", listed.read() + STORE_USES)
+    sources = os.path.join(room, "crates", "benches", "src")
+    os.makedirs(sources)
+    for name in os.listdir(os.path.join(HERE, "store")):
+        shutil.copy(os.path.join(HERE, "store", name), os.path.join(sources, name.replace(".rattle", ".rt")))
+    return run_once(room, "benches")
 
 
 def plain(folder, name, source=None, *flags):

@@ -136,7 +136,7 @@ def time_audit(folder, both, rounds):
 def main(what, rounds):
     with tempfile.TemporaryDirectory() as folder:
         write_types(folder)
-        both = [programs.built("colock"), programs.plain(folder, "plain_run", "plain_run/main.rs")]
+        both = [programs.built(), programs.plain(folder, "plain_run", "plain_run/main.rs")]
         print(f"{os.cpu_count()} processors, least of {rounds} rounds")
         show_header()
         (time_run if what == "run" else time_audit)(folder, both, rounds)

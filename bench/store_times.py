@@ -183,7 +183,7 @@ def main(what, rounds):
         if what == "follow":
             show_following(asked, programs.library_of_c(folder), rounds)
             return
-        store = [programs.built("benches"), "one"]
+        store = [programs.store_in_rattle(folder), "one"]
         if what == "laws":
             show_laws(asked, store, rounds)
             return

@@ -104,7 +104,7 @@ def rival():
 
 def made(family, greatest, amounts, initial=0):
     """What `colock make` makes of a family, beginning at a state."""
-    words = [programs.built("colock"), "make", family, str(greatest), *map(str, amounts)]
+    words = [programs.built(), "make", family, str(greatest), *map(str, amounts)]
     text = subprocess.run(words, check=True, capture_output=True, text=True).stdout
     return text.replace("\ninitial 0\n", f"\ninitial {initial}\n")
 

@@ -1,7 +1,7 @@
 //! What is measured of the store by its library, `libcolock`, over the crate `colock`:
 //!
 //! - `library commands KIND FILE OBJECTS OPEN CALLS MODE COMMANDS` writes the commands of a workload, four numbers for
-//!   each, as `crates/benches` and `bench/library.c` read them.
+//!   each, as `bench/store` and `bench/library.c` read them.
 //! - `library store KIND FILE OBJECTS OPEN CALLS MODE COMMANDS ROUNDS` prints the least nanoseconds of a run of these
 //!   commands, and what came of them.
 //! - `library types KIND FILE ROUNDS` prints whether a type file is accepted, how many lines it has, and the least
