@@ -338,12 +338,171 @@ static void attempts_are_the_same_one_by_one(uint64_t events, uint32_t open, lon
     WANT(colock_store_close(&s) == COLOCK_OK && colock_store_close(&other) == COLOCK_OK);
 }
 
+/* ---- rows, worked out by hand */
+
+/* The worker of an attempt, its calls, and what comes of it. */
+typedef struct row {
+    uint8_t w;
+    size_t count;
+    uint32_t objects[3];
+    const char *names;
+    colock_outcome outcome;
+} row;
+
+/* A store of a counter in place, one of intentions, and a purse of 20 that holds up to 100. */
+static void open_mixed(colock_store *store, uint64_t events, uint32_t open) {
+    static const uint32_t kinds[] = {COLOCK_UNDO, COLOCK_INTENTIONS, COLOCK_ESCROW};
+    static const char *const texts[] = {CTR2, CTR2, SMALL_PURSE};
+    WANT(colock_store_new(store) == COLOCK_OK);
+    for (int x = 0; x < 3; x++) {
+        colock_type type = COLOCK_EMPTY;
+        colock_fault fault;
+        WANT(colock_type_read(&type, kinds[x], TEXT(texts[x]), &fault) == COLOCK_OK);
+        WANT(colock_store_add(store, &type) == COLOCK_OK && colock_type_close(&type) == COLOCK_OK);
+    }
+    WANT(colock_store_open_with(store, events, open, 3) == COLOCK_OK);
+}
+
+/* The names of a row, apart. */
+static void split(const row *r, char names[][16]) {
+    const char *name = r->names;
+    for (size_t i = 0; i < r->count; i++) {
+        size_t length = strcspn(name += strspn(name, " "), " ");
+        WANT(length > 0 && length < 16);
+        memcpy(names[i], name, length);
+        names[i][length] = 0;
+        name += length;
+    }
+    WANT(!*name);
+}
+
+/* An attempt of a row. By numbers a name that is no call's has one that no call has. */
+static attempt attempted_row(colock_store *store, const row *r) {
+    attempt a = {UNTOUCHED, {UNTOUCHED, UNTOUCHED, UNTOUCHED}, {0}};
+    char names[MOST_CALLS][16];
+    uint64_t calls[MOST_CALLS];
+    if (!by_number) return attempted(store, r->w, r->objects, r->count, r->names);
+    split(r, names);
+    for (size_t i = 0; i < r->count; i++)
+        if (colock_call_number(store, r->objects[i], TEXT(names[i]), &calls[i]) != COLOCK_OK) calls[i] = UINT64_MAX;
+    for (int i = 0; i < ROOM; i++) a.operations[i] = UNTOUCHED;
+    a.code = colock_attempt_op(store, r->w, r->objects, r->count, calls, r->count, a.operations, ROOM, &a.outcome);
+    for (uint64_t i = 0; !a.code && a.outcome.kind && i < a.outcome.at; i++) a.operations[i] = UNTOUCHED;
+    return a;
+}
+
+static bool has_outcome(const attempt *a, const colock_outcome *outcome) {
+    return a->code == COLOCK_OK && !memcmp(&a->outcome, outcome, sizeof *outcome);
+}
+
+/* An attempt does as its commands one by one do at another store, with the same operations. */
+static void rows_are_the_same_one_by_one(colock_store *store, colock_store *other, const row *rows, size_t count) {
+    char names[MOST_CALLS][16];
+    for (const row *r = rows; r < rows + count; r++) {
+        split(r, names);
+        attempt a = attempted_row(store, r), b = one_by_one(other, r->w, r->objects, r->count, names);
+        WANT(has_outcome(&a, &r->outcome) && has_outcome(&b, &r->outcome) && has_operations(&a, b.operations, ROOM));
+        are_same(store, other);
+    }
+}
+
+/* Attempts where nobody is open, or where transaction 0 is open and counted up at the first counter. */
+static void rows_are_done(const row *rows, size_t count, bool is_counting, const uint64_t states[3]) {
+    colock_store s = COLOCK_EMPTY, other = COLOCK_EMPTY, *both[] = {&s, &other};
+    colock_answer answer;
+    for (int i = 0; i < 2; i++) {
+        open_mixed(both[i], 100, 1024);
+        if (is_counting) WANT(begin(both[i], 1) == 0 && colock_call(both[i], 1, 0, 0, TEXT("inc:1"), &answer) == COLOCK_OK && answer.kind == COLOCK_REPLY);
+    }
+    rows_are_the_same_one_by_one(&s, &other, rows, count);
+    for (uint32_t x = 0; states && x < 3; x++) WANT(keeps(&s, x, states[x]));
+    WANT(colock_store_close(&s) == COLOCK_OK && colock_store_close(&other) == COLOCK_OK);
+}
+
+#define DONE {COLOCK_OUTCOME_DONE, 0, 0}
+#define REFUSED(at, code) {COLOCK_OUTCOME_REFUSED, at, code}
+
+static void attempts_are_their_commands(void) {
+    static const row tried[] = {
+        {4, 3, {0, 1, 2}, "inc:1 inc:1 take:5", DONE},
+        {4, 2, {1, 0}, "inc:1 dec:1", {COLOCK_OUTCOME_BUSY, 1, 0}},
+        {5, 2, {1, 1}, "dec:1 dec:1", {COLOCK_OUTCOME_NONE, 1, 0}},
+        {5, 1, {9}, "inc:1", REFUSED(0, COLOCK_NO_OBJECT)},
+        {6, 3, {2, 1, 0}, "give:9 inc dec:1", REFUSED(1, COLOCK_NO_CALL)},
+        {6, 0, {0}, "", DONE},
+        {7, 2, {2, 1}, "take:30 dec:1", DONE},
+        {7, 2, {1, 2}, "dec:1 give:1", {COLOCK_OUTCOME_NONE, 0, 0}},
+    };
+    rows_are_done(tried, sizeof tried / sizeof *tried, true, NULL);
+}
+
+static void an_only_call_is_its_commands(void) {
+    static const uint64_t states[] = {0, 0, 16};
+    static const row alone[] = {
+        {1, 1, {0}, "inc:1", DONE}, {2, 1, {0}, "dec:1", DONE}, {3, 1, {0}, "dec:1", {COLOCK_OUTCOME_NONE, 0, 0}},
+        {1, 1, {1}, "inc:1", DONE}, {2, 1, {1}, "dec:1", DONE}, {3, 1, {1}, "dec:1", {COLOCK_OUTCOME_NONE, 0, 0}},
+        {1, 1, {2}, "take:5", DONE}, {2, 1, {2}, "give:1", DONE}, {3, 1, {2}, "give", REFUSED(0, COLOCK_NO_CALL)},
+    };
+    static const row beside[] = {
+        {1, 1, {0}, "inc:1", DONE}, {2, 1, {0}, "dec:1", {COLOCK_OUTCOME_BUSY, 0, 0}},
+        {3, 1, {1}, "inc:1", DONE}, {4, 1, {2}, "take:1", DONE},
+    };
+    rows_are_done(alone, sizeof alone / sizeof *alone, false, states);
+    rows_are_done(beside, sizeof beside / sizeof *beside, true, NULL);
+}
+
+/* Where all the events of an attempt fit it is made, and else nothing has changed. */
+static void it_fits_or_is_not_begun(void) {
+    static const struct { uint64_t events; uint32_t open; bool is_begun; size_t count; const char *names; uint32_t code; } fits[] = {
+        {5, 9, false, 3, "take:1 take:1 take:1", COLOCK_OK}, {4, 9, false, 3, "take:1 take:1 take:1", COLOCK_HISTORY_FULL},
+        {3, 9, false, 1, "take:1", COLOCK_OK}, {2, 9, false, 1, "take:1", COLOCK_HISTORY_FULL}, {2, 9, false, 0, "", COLOCK_OK},
+        {7, 9, true, 3, "take:1 take:1 take:1", COLOCK_OK}, {6, 9, true, 3, "take:1 take:1 take:1", COLOCK_HISTORY_FULL},
+        {7, 1, true, 3, "take:1 take:1 take:1", COLOCK_TOO_MANY_OPEN}, {6, 1, true, 3, "take:1 take:1 take:1", COLOCK_TOO_MANY_OPEN},
+    };
+    static const uint32_t objects[] = {2, 2, 2};
+    static const uint64_t taken[] = {COLOCK_OPERATION(0, 1), COLOCK_OPERATION(0, 1), COLOCK_OPERATION(0, 1)};
+    static colock_event room[MOST_EVENTS];
+    for (size_t i = 0; i < sizeof fits / sizeof *fits; i++) {
+        colock_store s = COLOCK_EMPTY;
+        open_mixed(&s, fits[i].events, fits[i].open);
+        if (fits[i].is_begun) WANT(begin(&s, 1) == 0);
+        uint64_t before = events_of(&s, room), more = fits[i].code ? 0 : fits[i].count + 2;
+        attempt a = attempted(&s, 4, objects, fits[i].count, fits[i].names);
+        WANT(fits[i].code ? is_not_begun(a, fits[i].code) : is_done(a, taken, fits[i].count));
+        WANT(events_of(&s, room) == before + more && keeps(&s, 2, fits[i].code ? 20 : 20 - fits[i].count));
+        WANT(colock_store_close(&s) == COLOCK_OK);
+    }
+}
+
+/* Three calls, of which one isn't there, are all taken back. */
+static void a_call_that_is_not_there_takes_all_back(void) {
+    static const row away[] = {
+        {4, 3, {3, 1, 2}, "inc:1 inc:1 take:1", REFUSED(0, COLOCK_NO_OBJECT)},
+        {4, 3, {0, 3, 2}, "inc:1 inc:1 take:1", REFUSED(1, COLOCK_NO_OBJECT)},
+        {4, 3, {0, 1, UINT32_MAX}, "inc:1 inc:1 take:1", REFUSED(2, COLOCK_NO_OBJECT)},
+        {4, 3, {0, 1, 2}, "take:1 inc:1 take:1", REFUSED(0, COLOCK_NO_CALL)},
+        {4, 3, {0, 1, 2}, "inc:1 inc:1 take:101", REFUSED(2, COLOCK_NO_CALL)},
+    };
+    for (size_t i = 0; i < sizeof away / sizeof *away; i++) {
+        colock_store s = COLOCK_EMPTY;
+        open_mixed(&s, 20, 9);
+        attempt a = attempted_row(&s, &away[i]);
+        WANT(has_outcome(&a, &away[i].outcome) && has_operations(&a, NULL, 0) && are_open(&s, 0));
+        WANT(keeps(&s, 0, 0) && keeps(&s, 1, 0) && keeps(&s, 2, 20) && begin(&s, 4) == 1);
+        WANT(colock_store_close(&s) == COLOCK_OK);
+    }
+}
+
 static void as_they_have_to_be(void) {
     all_calls_are_done();
     no_call_is_a_transaction_too();
     for (uint32_t at = 0; at < 3; at++) a_call_ends_it(at), a_call_of_no_legal_operation_ends_it(at);
     it_is_begun_where_there_is_room();
     parameters_fit_or_nothing_is_begun();
+    attempts_are_their_commands();
+    an_only_call_is_its_commands();
+    it_fits_or_is_not_begun();
+    a_call_that_is_not_there_takes_all_back();
 }
 
 int main(void) {

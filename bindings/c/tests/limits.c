@@ -111,6 +111,88 @@ static void more_objects_than_any_store_has(void) {
     WANT(colock_store_close(&store) == COLOCK_OK && colock_type_close(&type) == COLOCK_OK);
 }
 
+/* Objects of a number that many take from at once. */
+static void add_pools(colock_store *store, uint32_t objects) {
+    static const char pool[] = "number pool\nmax 100000\ninitial 50000\ntake 1\ngive 1\nend\n";
+    colock_type type = COLOCK_EMPTY;
+    colock_fault fault;
+    WANT(colock_type_read(&type, COLOCK_ESCROW, TEXT(pool), &fault) == COLOCK_OK && colock_store_new(store) == COLOCK_OK);
+    for (uint32_t x = 0; x < objects; x++) WANT(colock_store_add(store, &type) == COLOCK_OK);
+    WANT(colock_type_close(&type) == COLOCK_OK);
+}
+
+static bool keeps(colock_store *store, uint32_t x, uint64_t state) {
+    uint64_t kept = UNTOUCHED;
+    return colock_kept(store, x, &kept) == COLOCK_OK && kept == state;
+}
+
+/* Of so many objects, with these limits of events, of open transactions and of objects, a store is made or not. Those of
+ * which none is made stay. */
+static void stores_are_made_within_their_limits(void) {
+    static const struct { uint32_t count; uint64_t events; uint32_t open, objects, code; } offers[] = {
+        {1, 2, 1, 1, COLOCK_OK},
+        {1, UINT32_MAX, MOST, MOST, COLOCK_OK},
+        {MOST, 20, 1, MOST, COLOCK_OK},
+        {MOST + 1, 20, 1, MOST, COLOCK_TOO_MANY_OBJECTS},
+        {MOST + 1, 1, 0, MOST, COLOCK_TOO_MANY_OBJECTS},
+        {2, 20, 1, 1, COLOCK_TOO_MANY_OBJECTS},
+        {1, 20, 1, 0, COLOCK_TOO_MANY_OBJECTS},
+        {1, 1, 1, 1, COLOCK_BAD_MAX},
+        {1, 0, 1, 1, COLOCK_BAD_MAX},
+        {1, 20, 0, 1, COLOCK_BAD_MAX},
+        {1, 20, MOST + 1, 1, COLOCK_BAD_MAX},
+        {1, 20, 1, MOST + 1, COLOCK_BAD_MAX},
+        {1, 20, UINT32_MAX, 1, COLOCK_BAD_MAX},
+        {0, 20, 1, 1, COLOCK_NO_OBJECTS},
+        {0, 0, 0, 0, COLOCK_NO_OBJECTS},
+    };
+    for (size_t i = 0; i < sizeof offers / sizeof *offers; i++) {
+        uint32_t count = offers[i].count, code = count == 0 ? COLOCK_NO_OBJECTS : count > MOST ? COLOCK_TOO_MANY_OBJECTS : COLOCK_OK;
+        colock_store store = COLOCK_EMPTY;
+        uint64_t kept = UNTOUCHED;
+        add_pools(&store, count);
+        WANT(colock_store_open_with(&store, offers[i].events, offers[i].open, offers[i].objects) == offers[i].code);
+        if (offers[i].code) WANT(colock_store_open_with(&store, 20, 1, MOST) == code);
+        if (code == COLOCK_OK) WANT(keeps(&store, 0, 50000) && keeps(&store, count - 1, 50000) && colock_kept(&store, count, &kept) == COLOCK_NO_OBJECT);
+        WANT(colock_store_close(&store) == COLOCK_OK);
+    }
+}
+
+/* Whether this transaction takes 1 from an object. */
+static bool takes(colock_store *store, uint64_t t, uint32_t x) {
+    colock_answer answer = {UNTOUCHED, UNTOUCHED};
+    return colock_call(store, 0, t, x, TEXT("take:1"), &answer) == COLOCK_OK && answer.kind == COLOCK_REPLY && answer.number == 0;
+}
+
+/* As many may be open as the limit says, each with an operation at the last object, and no more. */
+static void the_limit_of_open_transactions_is_met(uint32_t open, uint32_t objects) {
+    colock_store store = COLOCK_EMPTY;
+    uint64_t t = UNTOUCHED, count = UNTOUCHED;
+    add_pools(&store, objects);
+    WANT(colock_store_open_with(&store, 1000000, open, objects) == COLOCK_OK);
+    for (uint64_t i = 0; i < open; i++) WANT(begin(&store, 0) == i && takes(&store, i, objects - 1));
+    WANT(colock_open_count(&store, &count) == COLOCK_OK && count == open);
+    WANT(colock_begin(&store, 0, &t) == COLOCK_TOO_MANY_OPEN && t == UNTOUCHED);
+    WANT(colock_commit(&store, 0, 0) == COLOCK_OK && begin(&store, 0) == open);
+    WANT(colock_abort_all(&store) == COLOCK_OK && colock_open_count(&store, &count) == COLOCK_OK && count == 0);
+    WANT(keeps(&store, objects - 1, 49999) && colock_store_close(&store) == COLOCK_OK);
+}
+
+/* A transaction takes from each of 1,000 objects twice, and takes 1,500 of that back. The limits stay in the next epoch. */
+static void a_transaction_works_at_each_of_many_objects(void) {
+    colock_store store = COLOCK_EMPTY;
+    uint64_t t = UNTOUCHED, count = UNTOUCHED, forgotten = UNTOUCHED;
+    add_pools(&store, 1000);
+    WANT(colock_store_open_with(&store, 1000000, 1, 1000) == COLOCK_OK && begin(&store, 0) == 0);
+    for (int i = 0; i < 2; i++)
+        for (uint32_t x = 0; x < 1000; x++) WANT(takes(&store, 0, x));
+    WANT(colock_rollback(&store, 0, 0, 1500) == COLOCK_OK && colock_commit(&store, 0, 0) == COLOCK_OK);
+    WANT(keeps(&store, 0, 49999) && keeps(&store, 499, 49999) && keeps(&store, 500, 50000) && keeps(&store, 999, 50000));
+    WANT(colock_event_count(&store, &count, &forgotten) == COLOCK_OK && count == 2003);
+    WANT(colock_renew(&store) == COLOCK_OK && keeps(&store, 499, 49999) && extend(&store, 1) == COLOCK_TOO_MANY_OBJECTS);
+    WANT(begin(&store, 0) == 0 && colock_begin(&store, 0, &t) == COLOCK_TOO_MANY_OPEN && colock_store_close(&store) == COLOCK_OK);
+}
+
 /* Many at one object, each with an operation, which end from both sides. */
 static void many_work_at_one_object(const char *text, uint32_t kind, uint64_t wanted) {
     enum { MANY = 16384 };
@@ -317,6 +399,11 @@ int main(void) {
     objects_are_added_up_to_the_limit(1, MOST);
     objects_are_added_up_to_the_limit(MOST - 1, MOST);
     more_objects_than_any_store_has();
+    stores_are_made_within_their_limits();
+    the_limit_of_open_transactions_is_met(1, 1);
+    the_limit_of_open_transactions_is_met(1024, 256);
+    the_limit_of_open_transactions_is_met(16384, MOST);
+    a_transaction_works_at_each_of_many_objects();
     many_work_at_one_object(anything, COLOCK_UNDO, 0);
     many_work_at_one_object(anything, COLOCK_INTENTIONS, 0);
     many_work_at_one_object(number, COLOCK_ESCROW, 8192);

@@ -87,6 +87,32 @@ static void nobody_waits(void) {
     WANT(colock_store_close(&s) == COLOCK_OK);
 }
 
+/* What is open is left out, wherever it is in the log: the second counted up before the first, which committed, and gives
+ * nine to a purse of 20. */
+static void what_is_open_is_left_out(void) {
+    static const uint32_t kinds[] = {COLOCK_UNDO, COLOCK_ESCROW};
+    static const char *const texts[] = {CTR2, SMALL_PURSE};
+    uint64_t states[2] = {UNTOUCHED, UNTOUCHED}, seen = UNTOUCHED, state = UNTOUCHED;
+    colock_store s = COLOCK_EMPTY;
+    WANT(colock_store_new(&s) == COLOCK_OK);
+    for (int x = 0; x < 2; x++) {
+        colock_type type = COLOCK_EMPTY;
+        colock_fault fault;
+        WANT(colock_type_read(&type, kinds[x], TEXT(texts[x]), &fault) == COLOCK_OK);
+        WANT(colock_store_add(&s, &type) == COLOCK_OK && colock_type_close(&type) == COLOCK_OK);
+    }
+    WANT(colock_store_open(&s, 20) == COLOCK_OK && begin(&s, 0) == 0 && begin(&s, 0) == 1);
+    WANT(answers(&s, 1, 0, "inc:1", COLOCK_REPLY, 0) && answers(&s, 0, 0, "inc:1", COLOCK_REPLY, 0));
+    WANT(answers(&s, 1, 1, "give:9", COLOCK_REPLY, COLOCK_OPERATION(4, 9)) && colock_commit(&s, 0, 0) == COLOCK_OK);
+    WANT(kept(&s, 0) == 2 && is_committed(&s, 0, 1, 1) && is_committed(&s, 1, 20, 1));
+    WANT(colock_committed(&s, 2, &state, &seen) == COLOCK_NO_OBJECT);
+    WANT(colock_snapshot(&s, states, 2, &seen) == COLOCK_OK && states[0] == 1 && states[1] == 20 && seen == 1);
+    WANT(peeks(&s, 1, "value", COLOCK_REPLY, COLOCK_OPERATION(8, 20), 1));
+    WANT(peeks_not(&s, 1, "take:1", COLOCK_CHANGES) && peeks_not(&s, 0, "inc:1", COLOCK_CHANGES));
+    WANT(peeks_not(&s, 0, "inc:9", COLOCK_NO_CALL) && peeks_not(&s, 2, "value", COLOCK_NO_OBJECT));
+    WANT(events_of(&s) == 6 && colock_store_close(&s) == COLOCK_OK);
+}
+
 /* A call is a read where none of its operations changes anything: here not even one that is refused now. */
 static void what_may_change_something_is_no_read(void) {
     colock_store s = COLOCK_EMPTY;
@@ -243,6 +269,7 @@ static void what_is_committed_is_the_sum_of_what_committed(long steps) {
 
 int main(void) {
     nobody_waits();
+    what_is_open_is_left_out();
     what_may_change_something_is_no_read();
     what_is_not_there_is_not_read();
     for (uint32_t kind = 0; kind < KINDS; kind++) there_may_be_none(kind);

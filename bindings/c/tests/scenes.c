@@ -28,9 +28,6 @@ static const char SEMIQUEUE[] =
     "conflict intentions 0 0\nconflict intentions 0 1\nconflict intentions 1 0\nconflict intentions 1 1\n"
     "conflict intentions 2 2\nconflict intentions 3 3\nend\n";
 
-/* A number of any amounts, of which one is listed too, and whose value is read. */
-static const char SMALL_PURSE[] = "number purse\nmax 100\ninitial 20\ntake any\ngive 7\ngive any\natleast 5\nvalue\nend\n";
-
 enum { MOST_OBJECTS = 2, MOST_EVENTS = 50 };
 
 typedef struct sort {
@@ -201,6 +198,13 @@ static const scene SCENES[] = {
      "0 begin > HistoryFull; ",
      "begin 0 0; abort 0 0; ",
      {0}},
+    /* Three transactions of three workers, of which the second is ended by a fourth. The open ones are aborted by the workers
+     * that began them. */
+    {{{COLOCK_UNDO, CTR2}, {COLOCK_UNDO, ONE_WAY}}, 100,
+     "9 begin > 0; 8 begin > 1; 7 begin > 2; 3 call 2 0 'inc:1' > op 0; 3 call 0 1 'q' > op 1; 3 call 1 0 'inc:1' > op 0; "
+     "3 commit 1 > ok; ",
+     "begin 9 0; begin 8 1; begin 7 2; op 3 2 0 0; op 3 0 1 1; op 3 1 0 0; commit 3 1; abort 9 0; abort 7 2; ",
+     {1, 0}},
     /* A second begin takes the last places that aren't kept for ends. */
     {{{COLOCK_UNDO, CTR2}}, 5,
      "0 begin > 0; 0 call 0 0 'inc:1' > op 0; 0 begin > 1; 0 call 1 0 'inc:1' > HistoryFull; "

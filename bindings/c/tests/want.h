@@ -44,6 +44,9 @@ static const char CENTS[] = "number cents\nmax 100000\ninitial 0\ntake 250\ngive
 static const char PURSE[] = "number purse\nmax 10000\ninitial 500\ntake 100\ntake any\ngive any\nvalue\nend\n";
 enum { TAKE_100 = 0, TAKE_ANY = 2, TAKE_SHORT = 3, GIVE_ANY = 4, GIVE_FULL = 5, VALUE = 6 };
 
+/* A number of any amounts, of which one is listed too, and whose value is read. */
+static const char SMALL_PURSE[] = "number purse\nmax 100\ninitial 20\ntake any\ngive 7\ngive any\natleast 5\nvalue\nend\n";
+
 /* Objects of the type of CTR2, updated in place, of which a store is to be made. */
 static inline void add_counters(colock_store *store, int objects) {
     colock_type type = COLOCK_EMPTY;

@@ -1,7 +1,6 @@
 //! The tests of stores, and of what they are made of.
 
 mod any_objects;
-mod asked;
 mod checked_types;
 mod guide;
 mod laws;

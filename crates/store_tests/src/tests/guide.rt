@@ -59,6 +59,6 @@ fn the_example_of_the_guide(rt: HostRuntime) -> Result<(), Fail> {
     let events = store.close().0.len();
     let up = Operation::listed(0);
     let expected = [Answer::Reply(up), Answer::Reply(up), Answer::Busy(0)];
-    assert!(&rt; (answers, kept, events) == (Some(expected), Some(1), 7));
+    assert!(&rt; (answers == Some(expected)) & (kept == Some(1)) & (events == 7));
     Ok(())
 }

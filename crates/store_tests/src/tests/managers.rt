@@ -32,21 +32,16 @@ pub fn deferred(rt: &(impl Abort + AllocGlobal), text: &str) -> IntentionsManage
 }
 
 #[test]
-fn the_wrong_kind_comes_back_in_place(rt: HostRuntime) -> Result<(), Fail> {
+fn the_wrong_kind_comes_back(rt: HostRuntime) -> Result<(), Fail> {
     let checked = checked_of(rt.alloc(), COUNTER, Kind::Intentions).expect(&rt, "no type");
     let told = UndoManager::new(rt.alloc(), checked).err();
     let (back, why) = told.expect(&rt, "taken");
     assert!(rt; back.kind() == Kind::Intentions);
-    are_printed(rt.alloc(), &[(why, "WrongKind")])
-}
-
-#[test]
-fn the_wrong_kind_comes_back_deferred(rt: HostRuntime) -> Result<(), Fail> {
     let checked = checked_of(rt.alloc(), COUNTER, Kind::Undo).expect(&rt, "no type");
     let told = IntentionsManager::new(rt.alloc(), checked).err();
-    let (back, why) = told.expect(&rt, "taken");
+    let (back, other) = told.expect(&rt, "taken");
     assert!(rt; back.kind() == Kind::Undo);
-    are_printed(rt.alloc(), &[(why, "WrongKind")])
+    are_printed(rt.alloc(), &[(why, "WrongKind"), (other, "WrongKind")])
 }
 
 /// The log's length in place: a done entry after an open one stays until that ends.
@@ -58,9 +53,9 @@ fn a_done_entry_waits_for_an_open_one(rt: HostRuntime) {
     apply_next(&rt, &mut object, &mut log, 0, Operation::listed(0));
     apply_next(&rt, &mut object, &mut log, 1, Operation::listed(0));
     object.commit(1);
-    assert!(rt; object.log_len() == 2 && object.state() == 2);
+    assert!(rt; (object.log_len() == 2) & (object.state() == 2));
     object.abort(0);
-    assert!(rt; object.log_len() == 0 && object.state() == 1);
+    assert!(rt; (object.log_len() == 0) & (object.state() == 1));
 }
 
 /// A transaction comes alone, executes operation k, and commits: the log is short, and the state is this one.
@@ -76,7 +71,7 @@ fn comes_alone(
     apply_next(rt, object, &mut log, t, k);
     assert!(rt; object.log_len() == 1);
     object.commit(t);
-    assert!(rt; object.log_len() == 0 && object.state() == state);
+    assert!(rt; (object.log_len() == 0) & (object.state() == state));
 }
 
 /// Ten thousand transactions one after another, of which each second one takes back what the one before it did.
@@ -100,17 +95,6 @@ static AMOUNTS: [(u8, u32, u32, u32); 5] = [
     (0, 2, 0, 0),
 ];
 
-/// That each of these amounts is kept from transaction 1.
-fn are_kept<R: Recovery>(rt: &impl Abort, object: &R) {
-    for (place, u, least, greatest) in &AMOUNTS {
-        assert!(rt; place % 2 == 0);
-        let told = object.amount_kept(1, *place, *u);
-        assert!(rt; told.is_none() == (*greatest == 0));
-        let amount = told.unwrap_or(0);
-        assert!(rt; *least <= amount && amount <= *greatest);
-    }
-}
-
 /// Transaction 0 gives nine to a purse of 20, up to 100, and 1 asks.
 #[test]
 fn an_amount_is_kept(rt: HostRuntime) {
@@ -120,8 +104,14 @@ fn an_amount_is_kept(rt: HostRuntime) {
     assert!(rt; purse.is_fresh());
     let mut log = Vec::new(rt.alloc());
     apply_next(&rt, &mut purse, &mut log, 0, Operation::with(4, 9));
-    assert!(rt; purse.view(0) == 29 && purse.view(1) == 20 && purse.state() == 20);
-    are_kept(&rt, &purse);
+    assert!(rt; (purse.view(0) == 29) & (purse.view(1) == 20) & (purse.state() == 20));
+    for (place, u, least, greatest) in &AMOUNTS {
+        assert!(rt; place % 2 == 0);
+        let told = purse.amount_kept(1, *place, *u);
+        assert!(rt; told.is_none() == (*greatest == 0));
+        let amount = told.unwrap_or(0);
+        assert!(rt; (*least <= amount) & (amount <= *greatest));
+    }
     let value = call_unreplied(&purse, 1, 8, Some(0));
     assert!(rt; value == Some(Operation::with(8, 0)));
 }

@@ -27,14 +27,6 @@ static NEW_REFUSALS: [(NewRefusal, &str); 5] = [
     (NewRefusal::NoMemory, "NoMemory"),
 ];
 
-#[test]
-fn refusals_are_printed(rt: HostRuntime) -> Result<(), Fail> {
-    are_printed(rt.alloc(), &REFUSALS)?;
-    are_debugged(rt.alloc(), &REFUSALS)?;
-    are_printed(rt.alloc(), &NEW_REFUSALS)?;
-    are_debugged(rt.alloc(), &NEW_REFUSALS)
-}
-
 /// That transaction 1 executed an operation at object 0, as worker 3.
 fn event(k: Operation) -> Event {
     Event {
@@ -53,62 +45,48 @@ fn entry() -> Entry {
 }
 
 #[test]
-fn refusals_are_compared(rt: HostRuntime) {
+fn values_are_compared(rt: HostRuntime) {
+    let (listed, counted) = (Operation::listed(2), Operation::with(2, 0));
     for (refusal, word) in &REFUSALS {
         assert!(rt; (*refusal == Refusal::NoCall) == (*word == "NoCall"));
     }
+    let kind = EventKind::Commit { t: 1 };
+    let worker = Event {
+        worker: 4,
+        ..event(listed)
+    };
+    assert!(rt; (event(listed) == event(listed)) & (event(listed) != event(counted)));
+    assert!(rt; (event(listed) != worker) & (event(listed) != Event { worker: 3, kind }));
+    let (by, at) = (Entry { by: 3, ..entry() }, Entry { at: 3, ..entry() });
+    let third = Entry {
+        op: Operation::listed(3),
+        ..entry()
+    };
+    let other = Entry {
+        op: counted,
+        ..entry()
+    };
+    assert!(rt; (entry() == entry()) & (entry() != by) & (entry() != at));
+    assert!(rt; (entry() != third) & (entry() != other));
+    let held = Held { by: 7, op: 3 };
+    assert!(rt; (held == held) & (held != Held::default()));
 }
 
 #[test]
-fn events_are_compared(rt: HostRuntime) {
-    let listed = event(Operation::listed(2));
-    let others = [
-        Event {
-            worker: 4,
-            ..event(Operation::listed(2))
-        },
-        Event {
-            worker: 3,
-            kind: EventKind::Commit { t: 1 },
-        },
-        event(Operation::with(2, 0)),
-    ];
-    assert!(rt; listed == event(Operation::listed(2)));
-    for other in &others {
-        assert!(rt; listed != *other);
-    }
-}
-
-#[test]
-fn entries_are_compared(rt: HostRuntime) {
-    let others = [
-        Entry { by: 3, ..entry() },
-        Entry { at: 3, ..entry() },
-        Entry {
-            op: Operation::listed(3),
-            ..entry()
-        },
-        Entry {
-            op: Operation::with(2, 0),
-            ..entry()
-        },
-    ];
-    assert!(rt; entry() == entry());
-    for other in &others {
-        assert!(rt; entry() != *other);
-    }
-}
-
-#[test]
-fn records_are_printed(rt: HostRuntime) -> Result<(), Fail> {
+fn values_are_printed(rt: HostRuntime) -> Result<(), Fail> {
+    are_printed(rt.alloc(), &REFUSALS)?;
+    are_debugged(rt.alloc(), &REFUSALS)?;
+    are_printed(rt.alloc(), &NEW_REFUSALS)?;
+    are_debugged(rt.alloc(), &NEW_REFUSALS)?;
     let text =
         "Event { worker: 3, kind: Op { k: Operation { place: 2, amount: Some(7) }, t: 1, x: 0 } }";
     are_debugged(rt.alloc(), &[(event(Operation::with(2, 7)), text)])?;
     let text = "Entry { by: 1, at: 0, op: Operation { place: 2, amount: None } }";
     are_debugged(rt.alloc(), &[(entry(), text)])?;
-    let held = Held { by: 7, op: 3 };
-    assert!(rt; held == held && held != Held::default());
-    are_debugged(rt.alloc(), &[(held, "Held { by: 7, op: 3 }")])?;
+    are_debugged(
+        rt.alloc(),
+        &[(Held { by: 7, op: 3 }, "Held { by: 7, op: 3 }")],
+    )?;
     let call = Call {
         first: Operation::listed(1),
         operations: 2,

@@ -10,7 +10,7 @@ use std::process::Abort;
 use std::sync::Wait;
 use std::thread::Threads;
 use store::Store;
-use workers::{NoGate, Outcome, Receipt, Report, WorkFault, Worked, run_workers, stress};
+use workers::{Gate, Outcome, Receipt, Report, Worked, run_workers, stress};
 
 /// Whose turn it is: that of whoever has the lock, or a worker's that is drawn by words from a seed.
 #[derive(Clone, Copy)]
@@ -19,38 +19,18 @@ pub enum Turns {
     Drawn(u64),
 }
 
-/// What came of jobs: the history and the objects of the store at its close, what each worker noted,
-/// and why not all was done.
-#[derive(Drop)]
-pub struct Done {
-    pub history: Vec<Event>,
-    pub objects: Vec<Object>,
-    pub reports: Vec<Report>,
-    pub fault: Option<WorkFault>,
-}
-
-/// Does jobs at a store, and closes it.
-pub fn do_jobs<R: AllocGlobal + Threads + Wait + Sync>(
+/// Does jobs at a store. Side by side workers pass a gate before each turn.
+pub fn do_jobs<R: AllocGlobal + Threads + Wait + Sync, G: Gate>(
     rt: &R,
     store: Store<Object>,
     jobs: Vec<Vec<Job>>,
     tries: u8,
     turns: Turns,
-) -> Done {
-    let Worked {
-        store,
-        reports,
-        fault,
-    } = match turns {
-        Turns::SideBySide => run_workers(rt, store, jobs, tries, &NoGate),
+    gate: &G,
+) -> Worked<Object> {
+    match turns {
+        Turns::SideBySide => run_workers(rt, store, jobs, tries, gate),
         Turns::Drawn(seed) => stress(rt.alloc(), store, jobs, tries, seed),
-    };
-    let (history, objects) = store.close();
-    Done {
-        history,
-        objects,
-        reports,
-        fault,
     }
 }
 
@@ -66,15 +46,6 @@ pub fn jobs_of(rt: &(impl Abort + AllocGlobal), text: &str, lists: u8) -> Vec<Ve
     jobs
 }
 
-/// How many receipts there are.
-fn receipt_count(reports: &[Report]) -> usize {
-    let mut count = 0usize;
-    for report in reports {
-        count = count.wrapping_add(report.receipts.len());
-    }
-    count
-}
-
 /// That each event from a place of a history on is one receipt of its worker, and that there are no other receipts.
 pub fn are_reported(rt: &impl Abort, history: &[Event], from: usize, reports: &[Report]) {
     for position in from..history.len() {
@@ -83,7 +54,11 @@ pub fn are_reported(rt: &impl Abort, history: &[Event], from: usize, reports: &[
         let receipts = report.expect(rt, "no report").receipts.as_slice();
         assert!(rt; receipts.contains(&Receipt { position, event }));
     }
-    assert!(rt; receipt_count(reports) == history.len().saturating_sub(from));
+    let mut count = 0usize;
+    for report in reports {
+        count = count.wrapping_add(report.receipts.len());
+    }
+    assert!(rt; count == history.len().saturating_sub(from));
 }
 
 /// That there is a report of each of these lists of outcomes, with them.

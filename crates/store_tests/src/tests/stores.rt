@@ -3,21 +3,16 @@
 mod amounts;
 mod boxed;
 mod calls;
-mod closed;
 mod followed;
-mod limits;
 mod made;
-mod peeks;
 mod run_scripts;
 pub mod scripts;
 mod shared;
 mod whole_transactions;
 
 use crate::tests::checked_types::{Sort, checked_of};
-use object_trait::{Event, Renew};
 use objects::Object;
 use std::process::Abort;
-use store::{RenewRefusal, Store};
 
 /// New objects of these sorts.
 pub fn objects_of(rt: &(impl Abort + AllocGlobal), sorts: &[Sort]) -> Vec<Object> {
@@ -28,18 +23,4 @@ pub fn objects_of(rt: &(impl Abort + AllocGlobal), sorts: &[Sort]) -> Vec<Object
         objects.push(object).ok().expect(rt, "no room");
     }
     objects
-}
-
-/// A store that begins anew, and the events of its epoch; else the store, and why not.
-pub type Renewed<R> = Result<(Store<R>, Vec<Event>), (Store<R>, RenewRefusal)>;
-
-/// A store that began anew, and the events of its epoch.
-pub fn next_of<R: Renew>(rt: &impl Abort, renewed: Renewed<R>) -> (Store<R>, Vec<Event>) {
-    match renewed {
-        Ok(next) => next,
-        Err((store, _)) => {
-            let _ = store.close();
-            panic!(rt; "no epoch began")
-        }
-    }
 }

@@ -37,7 +37,7 @@ fn blocker<R: Recovery>(object: &R, t: u32, k: Operation) -> Option<u32> {
 }
 
 /// Executes operation k for transaction t at an object that is as it was made.
-fn apply_first<R: Recovery>(rt: &impl Abort, object: &mut R, t: u32, k: Operation)
+pub fn apply_first<R: Recovery>(rt: &impl Abort, object: &mut R, t: u32, k: Operation)
     ensures { length (open_of t (R.meaning object.new).log) ≡ 1 }
 {
     assert!(rt; has(object, k));
@@ -57,7 +57,9 @@ const COMMITTED: Seen = (1, 0, false);
 
 /// That an object answers this.
 fn shows<R: Recovery>(rt: &impl Abort, object: &R, seen: Seen) {
-    assert!(rt; (object.state(), object.open_count(), object.is_fresh()) == seen);
+    let (state, open, is_fresh) = seen;
+    assert!(rt; (object.state() == state) & (object.open_count() == open));
+    assert!(rt; object.is_fresh() == is_fresh);
 }
 
 /// That the calls that take nothing out of an object, and then an abort, do as they say.
@@ -81,7 +83,7 @@ fn aborts<R: Recovery>(rt: &impl Abort, object: &mut R) {
 /// That the calls of an object do as they say, one after another: those above, a strike of the one entry, and a commit.
 fn is_called<R: Recovery>(rt: &impl Abort, object: &mut R) {
     assert!(rt; object.declared().rows().len() == 2);
-    assert!(rt; (object.view(1), object.amount_kept(1, 0, 2)) == (0, None));
+    assert!(rt; (object.view(1) == 0) & object.amount_kept(1, 0, 2).is_none());
     aborts(rt, object);
     apply_first(rt, object, 1, Operation::listed(0));
     object.strike(1, 1);

@@ -2,20 +2,17 @@
 //! open.
 
 use super::{Turns, are_outcomes, are_reported, do_jobs, jobs_of};
-use crate::tests::asked::{Ask, Told};
 use crate::tests::stores::objects_of;
 use crate::tests::stores::scripts::{
-    Happened, Happening, Row, answers, are_events, outcome, store_of,
+    Ask, Happened, Happening, Row, Told, answers, are_events, store_of,
 };
-use object_trait::Recovery;
 use serial_order::Refusal;
 use std::process::Abort;
 use std::sync::Wait;
 use std::thread::Threads;
-use store::Store;
 use test_support::type_texts::{COUNTER, COUNTER_OF_FOUR};
 use type_table::Kind;
-use workers::{Outcome, WorkFault};
+use workers::{NoGate, Outcome, WorkFault, Worked};
 
 /// Jobs of no worker.
 const NO_JOB: &str = "max 20
@@ -33,11 +30,11 @@ end
 
 /// What a store was asked before: one transaction committed, and one is open.
 static BEFORE: [Row; 5] = [
-    (9, Ask::Begin, Told::Begun(0)),
-    (9, Ask::Call(0, 0, "inc:1"), Told::Operation(0)),
-    (9, Ask::Commit(0), Told::Done),
-    (9, Ask::Begin, Told::Begun(1)),
-    (9, Ask::Call(1, 0, "inc:1"), Told::Operation(0)),
+    (9, Ask::Begin(0)),
+    (9, Ask::Call(0, 0, "inc:1", Told::Operation(0))),
+    (9, Ask::Commit(0)),
+    (9, Ask::Begin(1)),
+    (9, Ask::Call(1, 0, "inc:1", Told::Operation(0))),
 ];
 
 /// Its history, closed after that.
@@ -91,22 +88,26 @@ static LIMITS: [Limit; 16] = [
 /// That these numbers of lists and tries are taken, or not, at a store at which something happened. Nothing is done then and
 /// nothing reported; or the job is done, and there is a report of each list.
 fn is_taken<R: Abort + AllocGlobal + Threads + Wait + Sync>(rt: &R, limit: &Limit, turns: Turns) {
-    let (text, lists, tries, fault) = *limit;
+    let (text, lists, tries, wanted) = *limit;
     let jobs = jobs_of(rt, text, lists);
-    let objects = objects_of(rt, &[(Kind::Undo, COUNTER_OF_FOUR)]);
-    let mut store = store_of(rt, objects, 20);
+    let mut store = store_of(rt, objects_of(rt, &[(Kind::Undo, COUNTER_OF_FOUR)]), 20);
     answers(rt, &mut store, &BEFORE);
-    let done = do_jobs(rt, store, jobs, tries, turns);
-    assert!(rt; done.fault == fault);
+    let Worked {
+        store,
+        reports,
+        fault,
+    } = do_jobs(rt, store, jobs, tries, turns, &NoGate);
+    let (history, _) = store.close();
+    assert!(rt; fault == wanted);
     if fault.is_some() {
-        are_events(rt, &done.history, &UNCHANGED);
-        assert!(rt; done.reports.is_empty());
+        are_events(rt, &history, &UNCHANGED);
+        assert!(rt; reports.is_empty());
         return;
     }
-    are_events(rt, &done.history, &WITH_JOB);
-    assert!(rt; done.reports.len() == usize::from(lists));
-    are_outcomes(rt, done.reports.get(..1).unwrap_or(&[]), DONE);
-    are_reported(rt, done.history.get(..8).unwrap_or(&[]), 5, &done.reports);
+    are_events(rt, &history, &WITH_JOB);
+    assert!(rt; reports.len() == usize::from(lists));
+    are_outcomes(rt, reports.get(..1).unwrap_or(&[]), DONE);
+    are_reported(rt, history.get(..8).unwrap_or(&[]), 5, &reports);
 }
 
 #[test]
@@ -127,13 +128,6 @@ job 1
 do 0 dec:1
 end
 ";
-
-/// Begins this many.
-fn begin_many<R: Recovery>(rt: &impl Abort, store: &mut Store<R>, count: u32) {
-    for t in 0..count {
-        assert!(rt; outcome(store, 7, Ask::Begin) == Told::Begun(t));
-    }
-}
 
 const TOO_MANY: Outcome = Outcome::Refused(Refusal::TooManyOpen);
 
@@ -171,12 +165,19 @@ fn are_done_beside<R: Abort + AllocGlobal + Threads + Wait + Sync>(
     let (open, text, lists, before, events, outcomes) = *beside;
     let jobs = jobs_of(rt, text, lists);
     let mut store = store_of(rt, objects_of(rt, &[(Kind::Undo, COUNTER)]), 3000);
-    begin_many(rt, &mut store, open);
-    let done = do_jobs(rt, store, jobs, 3, turns);
-    assert!(rt; done.fault == None && done.history.len() == events);
-    are_outcomes(rt, &done.reports, outcomes);
-    let history = done.history.get(..before).unwrap_or(&[]);
-    are_reported(rt, history, open as usize, &done.reports);
+    for t in 0..open {
+        assert!(rt; store.begin(7) == Ok(t));
+    }
+    let Worked {
+        store,
+        reports,
+        fault,
+    } = do_jobs(rt, store, jobs, 3, turns, &NoGate);
+    let (history, _) = store.close();
+    assert!(rt; (fault == None) & (history.len() == events));
+    are_outcomes(rt, &reports, outcomes);
+    let history = history.get(..before).unwrap_or(&[]);
+    are_reported(rt, history, open as usize, &reports);
 }
 
 #[test]

@@ -1,17 +1,14 @@
 //! Two workers whose jobs overlap: neither commits before the other has made its call too.
 
-use super::{Done, are_reported, jobs_of};
+use super::{Turns, are_reported, do_jobs, jobs_of};
 use crate::tests::stores::objects_of;
 use crate::tests::stores::scripts::store_of;
-use object_trait::{Event, EventKind, Recovery};
-use std::process::Abort;
-use std::sync::Wait;
+use object_trait::{EventKind, Recovery};
 use std::sync::atomic::{AtomicBool, AtomicU32, Ordering};
 use std::thread;
-use std::thread::Threads;
 use test_support::type_texts::COUNTER;
 use type_table::Kind;
-use workers::{Gate, Worked, run_workers};
+use workers::{Gate, Worked};
 
 /// How often a worker looks for the other.
 const MOST_LOOKS: u32 = 50_000_000;
@@ -32,35 +29,27 @@ struct Meeting {
     failed: AtomicBool,
 }
 
-impl Meeting {
-    /// Waits until the other side is there.
-    fn wait_for(&self, other: &Side) {
-        for _ in 0..MOST_LOOKS {
-            if other.is_there.load(Ordering::SeqCst) {
-                return;
-            }
-            thread::yield_now();
+/// Whether one side, which is there, finds the other.
+fn meets(own: &Side, other: &Side) -> bool {
+    own.is_there.store(true, Ordering::SeqCst);
+    for _ in 0..MOST_LOOKS {
+        if other.is_there.load(Ordering::SeqCst) {
+            return true;
         }
-        self.failed.store(true, Ordering::SeqCst);
+        thread::yield_now();
     }
-
-    /// One side before a turn.
-    fn meet(&self, own: &Side, other: &Side, step: u32) {
-        if own.turns.fetch_add(1, Ordering::SeqCst) != step {
-            self.failed.store(true, Ordering::SeqCst);
-        }
-        if step == 2 {
-            own.is_there.store(true, Ordering::SeqCst);
-            self.wait_for(other);
-        }
-    }
+    false
 }
 
 impl Gate for Meeting {
     fn pass(&self, worker: u8, step: u32) {
-        match worker {
-            0 => self.meet(&self.first, &self.second, step),
-            _ => self.meet(&self.second, &self.first, step),
+        let (own, other) = match worker {
+            0 => (&self.first, &self.second),
+            _ => (&self.second, &self.first),
+        };
+        let is_next = own.turns.fetch_add(1, Ordering::SeqCst) == step;
+        if !is_next || (step == 2 && !meets(own, other)) {
+            self.failed.store(true, Ordering::SeqCst);
         }
     }
 }
@@ -75,44 +64,7 @@ do 0 inc:1
 end
 ";
 
-/// What comes of them in one try.
-fn done_at<R: Abort + AllocGlobal + Threads + Wait + Sync>(rt: &R, gate: &Meeting) -> Done {
-    let jobs = jobs_of(rt, TWO_JOBS, 2);
-    let store = store_of(rt, objects_of(rt, &[(Kind::Undo, COUNTER)]), 20);
-    let Worked {
-        store,
-        reports,
-        fault,
-    } = run_workers(rt, store, jobs, 1, gate);
-    assert!(rt; store.kept(0) == Some(2));
-    let (history, objects) = store.close();
-    Done {
-        history,
-        objects,
-        reports,
-        fault,
-    }
-}
-
-/// That both operations come before both commits.
-fn do_overlap(rt: &impl Abort, history: &[Event]) {
-    assert!(rt; history.len() == 6);
-    for event in history.iter().skip(4) {
-        assert!(rt; matches!(event.kind, EventKind::Commit { t: _ }));
-    }
-}
-
-/// That the jobs of both workers overlapped, and that both are counted.
-fn is_met(rt: &impl Abort, done: &Done) {
-    assert!(rt; done.fault == None && done.reports.len() == 2);
-    do_overlap(rt, &done.history);
-    are_reported(rt, &done.history, 0, &done.reports);
-    assert!(rt; done.objects.len() == 1);
-    for object in &done.objects {
-        assert!(rt; object.state() == 2);
-    }
-}
-
+/// The jobs of both workers are done in one try, and are counted. Both operations come before both commits.
 #[test]
 fn jobs_overlap(rt: HostRuntime) {
     let gate = Meeting {
@@ -126,7 +78,24 @@ fn jobs_overlap(rt: HostRuntime) {
         },
         failed: AtomicBool::new(false),
     };
-    let done = done_at(&rt, &gate);
-    assert!(rt; !gate.failed.load(Ordering::SeqCst));
-    is_met(&rt, &done);
+    let jobs = jobs_of(&rt, TWO_JOBS, 2);
+    let store = store_of(&rt, objects_of(&rt, &[(Kind::Undo, COUNTER)]), 20);
+    let Worked {
+        store,
+        reports,
+        fault,
+    } = do_jobs(&rt, store, jobs, 1, Turns::SideBySide, &gate);
+    let kept = store.kept(0);
+    let (history, objects) = store.close();
+    assert!(rt; !gate.failed.load(Ordering::SeqCst) & (kept == Some(2)));
+    assert!(rt; (fault == None) & (reports.len() == 2));
+    assert!(rt; history.len() == 6);
+    for position in 4..6 {
+        assert!(rt; matches!(history[position].kind, EventKind::Commit { t: _ }));
+    }
+    are_reported(&rt, &history, 0, &reports);
+    assert!(rt; objects.len() == 1);
+    for object in &objects {
+        assert!(rt; object.state() == 2);
+    }
 }

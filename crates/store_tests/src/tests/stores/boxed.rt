@@ -1,9 +1,8 @@
 //! A store of boxes: objects of both kinds of recovery, and one of a stranger's, each in a box of its
 //! own.
 
-use super::scripts::{Happened, Happening, Row, answers, is_closed, store_of};
+use super::scripts::{Ask, Happened, Happening, Row, Told, answers, is_closed, store_of};
 use crate::tests::any_objects::boxed::made;
-use crate::tests::asked::{Ask, Told};
 use crate::tests::managers::{deferred, in_place};
 use object_trait::{AnyObject, Recovery};
 use serial_order::Refusal;
@@ -27,33 +26,33 @@ const NO_MEMORY: Told = Told::Refused(Refusal::NoMemory);
 /// One that aborts, two transactions beside each other, and a last one. The deferred object keeps 4, where `p` and
 /// then `q`, in commit order, lead to 3. The object of one entry has no room for a second.
 const ROWS: &[Row] = &[
-    (3, Ask::Begin, Told::Begun(0)),
-    (3, Ask::Call(0, 2, "dec:1"), Told::None),
-    (3, Ask::Call(0, 2, "inc:1"), Told::Operation(0)),
-    (3, Ask::Call(0, 2, "dec:1"), NO_MEMORY),
-    (3, Ask::Abort(0), Told::Done),
-    (3, Ask::Kept(2), Told::Kept(Some(0))),
-    (0, Ask::Begin, Told::Begun(1)),
-    (1, Ask::Begin, Told::Begun(2)),
-    (0, Ask::Call(1, 0, "inc:1"), Told::Operation(0)),
-    (1, Ask::Call(2, 0, "dec:1"), Told::Busy(1)),
-    (0, Ask::Call(1, 1, "p"), Told::Operation(0)),
-    (1, Ask::Call(2, 1, "q"), Told::Operation(1)),
-    (0, Ask::Call(1, 2, "inc:1"), Told::Operation(0)),
-    (0, Ask::Rollback(1, 1), Told::Done),
-    (0, Ask::Kept(2), Told::Kept(Some(0))),
-    (0, Ask::Call(1, 2, "inc:1"), Told::Operation(0)),
-    (1, Ask::Call(2, 2, "dec:1"), Told::Busy(1)),
-    (1, Ask::Call(2, 2, "inc:1"), NO_MEMORY),
-    (0, Ask::Commit(1), Told::Done),
-    (0, Ask::Kept(0), Told::Kept(Some(1))),
-    (0, Ask::Kept(1), Told::Kept(Some(1))),
-    (1, Ask::Commit(2), Told::Done),
-    (0, Ask::Kept(1), Told::Kept(Some(4))),
-    (0, Ask::Kept(2), Told::Kept(Some(1))),
-    (2, Ask::Begin, Told::Begun(3)),
-    (2, Ask::Call(3, 0, "dec:1"), Told::Operation(1)),
-    (2, Ask::Kept(0), Told::Kept(Some(0))),
+    (3, Ask::Begin(0)),
+    (3, Ask::Call(0, 2, "dec:1", Told::None)),
+    (3, Ask::Call(0, 2, "inc:1", Told::Operation(0))),
+    (3, Ask::Call(0, 2, "dec:1", NO_MEMORY)),
+    (3, Ask::Abort(0)),
+    (3, Ask::Kept(2, 0)),
+    (0, Ask::Begin(1)),
+    (1, Ask::Begin(2)),
+    (0, Ask::Call(1, 0, "inc:1", Told::Operation(0))),
+    (1, Ask::Call(2, 0, "dec:1", Told::Busy(1))),
+    (0, Ask::Call(1, 1, "p", Told::Operation(0))),
+    (1, Ask::Call(2, 1, "q", Told::Operation(1))),
+    (0, Ask::Call(1, 2, "inc:1", Told::Operation(0))),
+    (0, Ask::Rollback(1, 1)),
+    (0, Ask::Kept(2, 0)),
+    (0, Ask::Call(1, 2, "inc:1", Told::Operation(0))),
+    (1, Ask::Call(2, 2, "dec:1", Told::Busy(1))),
+    (1, Ask::Call(2, 2, "inc:1", NO_MEMORY)),
+    (0, Ask::Commit(1)),
+    (0, Ask::Kept(0, 1)),
+    (0, Ask::Kept(1, 1)),
+    (1, Ask::Commit(2)),
+    (0, Ask::Kept(1, 4)),
+    (0, Ask::Kept(2, 1)),
+    (2, Ask::Begin(3)),
+    (2, Ask::Call(3, 0, "dec:1", Told::Operation(1))),
+    (2, Ask::Kept(0, 0)),
 ];
 
 /// What happened, with the end of the last.

@@ -39,26 +39,21 @@ static OF_A_NUMBER: [Row; 12] = [
     ("value:20", 8, Some(20), None),
 ];
 
-/// The operation at a place, with an amount where one is given.
-fn number_of(place: u8, amount: Option<u32>) -> Operation {
-    match amount {
-        Some(n) => Operation::with(place, n),
-        None => Operation::listed(place),
-    }
-}
-
 /// That a call is found by its name and by its number, or isn't.
 fn is_found(rt: &impl Abort, declared: &DeclaredType, calls: &CallTable, row: &Row)
     requires { HoldsCalls (table_of declared.now) calls.now }
 {
     let (name, place, amount, bits) = *row;
-    let first = number_of(place, amount);
+    let first = match amount {
+        Some(n) => Operation::with(place, n),
+        None => Operation::listed(place),
+    };
     let call = match bits {
         Some(operations) => Some(Call { first, operations }),
         None => None,
     };
-    assert!(rt; calls.by_name(declared, name.as_bytes()) == call, "{name}");
-    assert!(rt; calls.by_number(declared, first) == call, "{name}");
+    assert!(rt; calls.by_name(declared, name.as_bytes()) == call);
+    assert!(rt; calls.by_number(declared, first) == call);
 }
 
 /// That the calls of a type are found so.

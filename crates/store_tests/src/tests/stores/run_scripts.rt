@@ -5,7 +5,6 @@ ghost use Rattle.std.specs.Prelude.{◌≡◌, true, [], length};
 use super::objects_of;
 use super::scripts::{Happened, Happening, are_events, is_closed, store_of};
 use object_trait::Recovery;
-use objects::Object;
 use outputs::OutFault;
 use script_run::run_script;
 use script_text::{Script, read_script};
@@ -86,15 +85,8 @@ fn asked_at(taken: &[u8]) -> usize {
     lines.min(6)
 }
 
-/// That a store whose script asked this many commands has their events, and `close` aborts what is open.
-fn is_left(rt: &impl Abort, store: Store<Object>, asked: usize) {
-    let history = HISTORIES.get(asked).copied().unwrap_or(&[]);
-    are_events(rt, store.history(), history.get(..asked).unwrap_or(&[]));
-    let up = u32::from(asked == 6);
-    let _ = is_closed(rt, store, history, &[up]);
-}
-
-/// That a run on a new counter stops after this many bytes, by this fault.
+/// That a run on a new counter stops after this many bytes, by this fault. The store has the events of the commands that were
+/// asked, and `close` aborts what is open.
 fn stops_at(
     rt: &(impl Abort + AllocGlobal),
     room: usize,
@@ -110,7 +102,10 @@ fn stops_at(
     assert!(rt; result == wanted);
     let held = out.into_inner().held;
     assert!(rt; KEEPS_OTHERS_TEXT.as_bytes().get(..room) == Some(held.as_slice()));
-    is_left(rt, store, asked_at(&held));
+    let asked = asked_at(&held);
+    let history = HISTORIES.get(asked).copied().unwrap_or(&[]);
+    are_events(rt, store.history(), history.get(..asked).unwrap_or(&[]));
+    let _ = is_closed(rt, store, history, &[u32::from(asked == 6)]);
 }
 
 /// Each beginning of the text is what an output may have taken, and each has its history.

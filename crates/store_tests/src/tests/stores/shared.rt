@@ -1,38 +1,21 @@
 //! Objects that begin anew, and share their types.
 
-use super::next_of;
-use super::scripts::{outcome, store_of};
+use super::scripts::{Ask, Told, is_answered, store_of};
 use crate::tests::any_objects::boxed::made;
 use crate::tests::any_objects::one_entry::OneEntry;
-use crate::tests::asked::{Ask, Told};
 use std::process::Abort;
 use store::Store;
 
 /// How many objects there are, the most that a store has.
 const COUNT: u32 = 256;
 
-/// A store of this many new counters, each of which has a type of its own.
-fn store_of_counters(rt: &(impl Abort + AllocGlobal)) -> Store<OneEntry> {
-    let mut counters = Vec::new(rt.alloc());
-    for _ in 0..COUNT {
-        counters.push(made(rt)).ok().expect(rt, "no room");
-    }
-    store_of(rt, counters, 200)
-}
-
 /// The first transaction makes this call at every second counter, and gets this answer each time.
 fn at_every_second(rt: &impl Abort, store: &mut Store<OneEntry>, call: &'static str, told: Told) {
-    assert!(rt; outcome(store, 0, Ask::Begin) == Told::Begun(0));
+    assert!(rt; store.begin(0) == Ok(0));
     for pair in 0..COUNT / 2 {
-        assert!(rt; outcome(store, 0, Ask::Call(0, 2 * pair + 1, call)) == told);
+        assert!(rt; is_answered(store, 0, Ask::Call(0, 2 * pair + 1, call, told)));
     }
-    assert!(rt; outcome(store, 0, Ask::Commit(0)) == Told::Done);
-}
-
-/// The state at which the type of this object begins.
-fn begin_of(store: &Store<OneEntry>, x: u32) -> Option<u32> {
-    let checked = store.checked(x)?;
-    Some(checked.initial())
+    assert!(rt; store.commit(0, 0) == Ok(()));
 }
 
 /// What every second counter is asked in each epoch, with its reply; the states at which the types of the first two
@@ -65,36 +48,45 @@ static LIVES: [Life; 3] = [
     },
 ];
 
-/// That the types of the first counter and of the last two had so many owners.
-fn had_owners(rt: &impl Abort, store: Store<OneEntry>, owners: &[usize; 3]) {
-    let (_, counters) = store.close();
-    assert!(rt; counters.len() == COUNT as usize);
-    assert!(rt; counters[0].owners == owners[0]);
-    assert!(rt; counters[COUNT as usize - 2].owners == owners[1]);
-    assert!(rt; counters[COUNT as usize - 1].owners == owners[2]);
-}
-
 /// A store that begins anew, which hands out the events of its epoch but the first one, which is forgotten.
 fn begun_anew(rt: &(impl Abort + AllocGlobal), mut store: Store<OneEntry>) -> Store<OneEntry> {
     let count = store.event_count() as usize;
     store.forget(1);
-    let (next, events) = next_of(rt, store.renew(rt.alloc()));
-    assert!(rt; events.len() == count.saturating_sub(1));
-    next
+    match store.renew(rt.alloc()) {
+        Ok((next, events)) => {
+            assert!(rt; events.len() == count.saturating_sub(1));
+            next
+        }
+        Err((store, _)) => {
+            let _ = store.close();
+            panic!(rt; "no epoch began")
+        }
+    }
 }
 
-/// That counters share their types so.
+/// That counters, each of which has a type of its own at first, share their types so.
 fn is_lived(rt: &(impl Abort + AllocGlobal), life: &Life) {
-    let mut store = store_of_counters(rt);
+    let mut counters = Vec::new(rt.alloc());
+    for _ in 0..COUNT {
+        counters.push(made(rt)).ok().expect(rt, "no room");
+    }
+    let mut store = store_of(rt, counters, 200);
     for asked in life.asked {
         if let Some((call, k)) = asked {
             at_every_second(rt, &mut store, call, Told::Operation(*k));
         }
         store = begun_anew(rt, store);
     }
-    assert!(rt; begin_of(&store, 0) == Some(life.begins[0]));
-    assert!(rt; begin_of(&store, 1) == Some(life.begins[1]) && begin_of(&store, COUNT).is_none());
-    had_owners(rt, store, &life.owners);
+    for (x, begin) in [(0, life.begins[0]), (1, life.begins[1])] {
+        let checked = store.checked(x).expect(rt, "no object");
+        assert!(rt; checked.initial() == begin);
+    }
+    assert!(rt; store.checked(COUNT).is_none());
+    let (_, counters) = store.close();
+    assert!(rt; counters.len() == COUNT as usize);
+    assert!(rt; counters[0].owners == life.owners[0]);
+    assert!(rt; counters[COUNT as usize - 2].owners == life.owners[1]);
+    assert!(rt; counters[COUNT as usize - 1].owners == life.owners[2]);
 }
 
 #[test]
