@@ -116,21 +116,17 @@ fn told(
     list.unwrap_or(Vec::new(rt.alloc()))
 }
 
-/// That these lists distinguish the states of a table.
-fn are_told(rt: &(impl Abort + AllocGlobal), table: &TypeTable, cases: &[Case]) {
-    let distances = Distances::new(rt.alloc(), table).expect(rt, "no memory");
+/// That these lists distinguish the states of the table of these parts.
+fn are_told(rt: &(impl Abort + AllocGlobal), parts: &Parts, cases: &[Case]) {
+    let table = table_of(rt, parts).expect(rt, "no table");
+    let distances = Distances::new(rt.alloc(), &table).expect(rt, "no memory");
     for (s, t, list) in cases {
-        assert!(rt; told(rt, table, &distances, *s, *t).as_slice() == *list);
+        assert!(rt; told(rt, &table, &distances, *s, *t).as_slice() == *list);
     }
-}
-
-/// The same of the table of these parts.
-fn parts_are_told(rt: &(impl Abort + AllocGlobal), parts: &Parts, cases: &[Case]) {
-    are_told(rt, &table_of(rt, parts).expect(rt, "no table"), cases);
 }
 
 #[test]
 fn states_are_told_apart(rt: HostRuntime) {
-    parts_are_told(&rt, &ONE_WAY, &ONE_WAY_CASES);
-    parts_are_told(&rt, &TWO_ITEMS, &TWO_ITEMS_CASES);
+    are_told(&rt, &ONE_WAY, &ONE_WAY_CASES);
+    are_told(&rt, &TWO_ITEMS, &TWO_ITEMS_CASES);
 }

@@ -46,28 +46,6 @@ fn accepted(rt: &(impl Abort + AllocGlobal), text: &[u8]) -> CheckedType {
         .expect(rt, "refused")
 }
 
-/// The type of the counter's text with these conflicts.
-fn counter_with(rt: &(impl Abort + AllocGlobal), lines: &str) -> CheckedType {
-    accepted(rt, &with_conflicts(rt, lines))
-}
-
-/// The type that begins at this state, if there is one.
-fn begun(
-    rt: &(impl Abort + AllocGlobal),
-    checked: &CheckedType,
-    state: u32,
-) -> Option<CheckedType> {
-    checked.at(rt.alloc(), state).expect(rt, "no memory")
-}
-
-/// Whether there is a type that begins at this state.
-fn is_at(begun: &Option<CheckedType>, state: u32) -> bool {
-    match begun {
-        Some(checked) => checked.initial() == state,
-        None => false,
-    }
-}
-
 /// States, and whether the type of which no run comes to state 1 or 2 begins there: at those of its set alone.
 static OF_IDLE: [(u32, bool); 6] = [
     (0, true),
@@ -78,10 +56,11 @@ static OF_IDLE: [(u32, bool); 6] = [
     (u32::MAX, false),
 ];
 
-/// That this type begins anew at those of these states where it may.
-fn begins_at(rt: &(impl Abort + AllocGlobal), idle: &CheckedType) {
-    for (state, is_there) in &OF_IDLE {
-        assert!(rt; is_at(&begun(rt, idle, *state), *state) == *is_there);
+/// Whether this type begins anew at a state.
+fn begins_at(rt: &(impl Abort + AllocGlobal), checked: &CheckedType, state: u32) -> bool {
+    match checked.at(rt.alloc(), state).expect(rt, "no memory") {
+        Some(begun) => begun.initial() == state,
+        None => false,
     }
 }
 
@@ -107,35 +86,27 @@ static CONFLICTS: [(&str, bool); 3] = [
 /// That types are the same where each of their parts is.
 fn is_compared(rt: &(impl Abort + AllocGlobal), counter: &CheckedType) {
     for (lines, is_same) in &CONFLICTS {
-        assert!(rt; are_compared(counter, &counter_with(rt, lines), *is_same));
+        let other = accepted(rt, &with_conflicts(rt, lines));
+        assert!(rt; are_compared(counter, &other, *is_same));
     }
-}
-
-/// Whether a type that begins at state 1 isn't the same, but is it at that state.
-fn is_elsewhere(counter: &CheckedType, other: &CheckedType) -> bool {
-    are_compared(counter, other, false)
-        & other.is_at(counter, 1)
-        & !other.is_at(counter, 0)
-        & counter.is_at(other, 0)
 }
 
 /// That the counter that begins at state 1 is told from it.
 fn is_told_elsewhere(rt: &(impl Abort + AllocGlobal), counter: &CheckedType) {
-    let other = begun(rt, counter, 1).expect(rt, "no state");
-    assert!(rt; is_elsewhere(counter, &other));
-}
-
-/// That another type isn't the counter.
-fn is_another(rt: &(impl Abort + AllocGlobal), counter: &CheckedType) {
-    let idle = accepted(rt, IDLE.as_bytes());
-    begins_at(rt, &idle);
-    assert!(rt; are_compared(counter, &idle, false));
+    let other = counter.at(rt.alloc(), 1).expect(rt, "no memory");
+    let other = other.expect(rt, "no state");
+    let is_at = other.is_at(counter, 1) & !other.is_at(counter, 0) & counter.is_at(&other, 0);
+    assert!(rt; is_at & are_compared(counter, &other, false));
 }
 
 #[test]
 fn types_are_compared(rt: HostRuntime) {
-    let counter = counter_with(&rt, PAIRS);
+    let counter = accepted(&rt, COUNTER.as_bytes());
     is_compared(&rt, &counter);
     is_told_elsewhere(&rt, &counter);
-    is_another(&rt, &counter);
+    let idle = accepted(&rt, IDLE.as_bytes());
+    assert!(rt; are_compared(&counter, &idle, false));
+    for (state, is_there) in &OF_IDLE {
+        assert!(rt; begins_at(&rt, &idle, *state) == *is_there);
+    }
 }

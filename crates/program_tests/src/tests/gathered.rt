@@ -4,13 +4,14 @@ ghost use Rattle.std.specs.Prelude.{None};
 
 use outputs::{Failed, Gathered, Out, OutFault, put};
 
-/// An output that notes how large the pieces are that it is offered, and takes them whole.
+/// An output that notes how many and how large the pieces are that it is offered, and takes them whole.
 #[derive(Drop)]
-struct Sizes {
+pub struct Sizes {
     /// The least of the pieces before the last one.
     least: usize,
     last: usize,
-    bytes: usize,
+    pub pieces: usize,
+    pub bytes: usize,
 }
 
 impl Out for Sizes {
@@ -21,6 +22,7 @@ impl Out for Sizes {
     fn take(&mut self, piece: &[u8]) -> Result<usize, Failed> {
         self.least = self.least.min(self.last);
         self.last = piece.len();
+        self.pieces = self.pieces.wrapping_add(1);
         self.bytes = self.bytes.wrapping_add(piece.len());
         Ok(piece.len())
     }
@@ -31,9 +33,10 @@ impl Out for Sizes {
 }
 
 /// Before any piece.
-const NONE_YET: Sizes = Sizes {
+pub const NONE_YET: Sizes = Sizes {
     least: usize::MAX,
     last: usize::MAX,
+    pieces: 0,
     bytes: 0,
 };
 

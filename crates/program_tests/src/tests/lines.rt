@@ -1,11 +1,9 @@
-//! Faults of lines: how they are printed, and their numbers.
+//! Faults of lines: their texts and their numbers.
 
 use line_text::{FaultKind, TextFault};
-use std::test::Fail;
-use test_support::printed::are_printed;
 
 /// Faults, and their texts.
-static FAULTS: [(TextFault, &str); 11] = [
+pub static FAULTS: [(TextFault, &str); 11] = [
     (
         TextFault {
             line: 12,
@@ -84,11 +82,6 @@ static FAULTS: [(TextFault, &str); 11] = [
         "line 12: NoMemory",
     ),
 ];
-
-#[test]
-fn faults_are_printed(rt: HostRuntime) -> Result<(), Fail> {
-    are_printed(rt.alloc(), &FAULTS)
-}
 
 /// The kinds of faults have the numbers from 1, in the order above.
 #[test]

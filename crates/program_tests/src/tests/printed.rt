@@ -1,5 +1,6 @@
 //! How faults, refusals and kinds are printed.
 
+use super::lines::FAULTS;
 use equi_cert::CertFault;
 use std::test::Fail;
 use table_checker::CheckRefusal;
@@ -58,15 +59,12 @@ static TABLE_KINDS: [(TableKind, &str); 2] = [
 ];
 
 #[test]
-fn faults_are_printed(rt: HostRuntime) -> Result<(), Fail> {
+fn values_are_printed(rt: HostRuntime) -> Result<(), Fail> {
+    are_printed(rt.alloc(), &FAULTS)?;
     are_printed(rt.alloc(), &TABLE_ERRORS)?;
     are_printed(rt.alloc(), &CERT_FAULTS)?;
     are_printed(rt.alloc(), &REFUSALS)?;
-    are_printed(rt.alloc(), &MAKE_ERRORS)
-}
-
-#[test]
-fn kinds_are_printed(rt: HostRuntime) -> Result<(), Fail> {
+    are_printed(rt.alloc(), &MAKE_ERRORS)?;
     are_printed(rt.alloc(), &KINDS)?;
     are_printed(rt.alloc(), &TABLE_KINDS)
 }

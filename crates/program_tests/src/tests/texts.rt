@@ -189,112 +189,70 @@ fn fault_of(alloc: Global, reader: Reader, text: &[u8]) -> Option<TextFault> {
     }
 }
 
-#[test]
-fn a_script_says_its_values(rt: HostRuntime) {
-    let script = read_script(rt.alloc(), SCRIPT).expect(&rt, "a fault");
-    assert!(rt; (script.max == 20) & (script.objects.len() == 2) & (script.commands.len() == 8));
-}
-
-#[test]
-fn jobs_say_their_values(rt: HostRuntime) {
-    let file = read_jobs(rt.alloc(), MIXED_JOBS, 3).expect(&rt, "a fault");
-    assert!(rt; (file.max == 4) & (file.objects.len() == 1) & (file.jobs.len() == 3));
-}
-
 /// Workers that there are none of have no job.
 #[test]
 fn no_workers_have_no_job(rt: HostRuntime) {
-    let fault = fault_of(
-        rt.alloc(),
-        Reader::Jobs(0),
-        b"max 2\nobject undo 0\njob 0\n",
-    );
+    let text = b"max 2\nobject undo 0\njob 0\n";
     let kind = FaultKind::OutOfRange;
-    assert!(rt; fault == Some(TextFault { line: 3, kind }));
+    assert!(rt; fault_of(rt.alloc(), Reader::Jobs(0), text) == Some(TextFault { line: 3, kind }));
 }
 
-/// How many objects a text says that it may have.
-fn size_of(alloc: Global, reader: Reader, text: &[u8]) -> Result<Option<u32>, TextFault> {
+/// What a text says: how many objects it may have, how many events, which a history doesn't say, how many objects it has, and
+/// how many commands, events or lists of jobs.
+type Said = (Option<u32>, u32, usize, usize);
+
+/// Whether a text says so.
+fn says(alloc: Global, reader: Reader, text: &[u8], said: &Said) -> bool {
+    let (size, max, objects, count) = *said;
     match reader {
-        Reader::Script => Ok(read_script(alloc, text)?.size),
-        Reader::History => Ok(read_history(alloc, text)?.size),
-        Reader::Jobs(workers) => Ok(read_jobs(alloc, text, workers)?.size),
+        Reader::Script => match read_script(alloc, text) {
+            Ok(file) => {
+                (file.size == size)
+                    & (file.max == max)
+                    & (file.objects.len() == objects)
+                    & (file.commands.len() == count)
+            }
+            Err(_) => false,
+        },
+        Reader::History => match read_history(alloc, text) {
+            Ok(file) => {
+                (file.size == size) & (file.objects.len() == objects) & (file.events.len() == count)
+            }
+            Err(_) => false,
+        },
+        Reader::Jobs(workers) => match read_jobs(alloc, text, workers) {
+            Ok(file) => {
+                (file.size == size)
+                    & (file.max == max)
+                    & (file.objects.len() == objects)
+                    & (file.jobs.len() == count)
+            }
+            Err(_) => false,
+        },
     }
 }
 
-/// Texts, and how many objects each says that it may have.
-static SIZES: [(Reader, &[u8], Option<u32>); 8] = [
-    (Reader::Script, SCRIPT, None),
-    (Reader::History, HIGH_HISTORY, None),
-    (Reader::Jobs(3), JOBS, None),
-    (Reader::Script, SIZED_SCRIPT, Some(300)),
-    (Reader::History, SIZED_HISTORY, Some(300)),
-    (Reader::History, WIDE_HISTORY, Some(65_536)),
-    (Reader::Jobs(1), SIZED_JOBS, Some(300)),
+/// Texts, and what each says.
+static SAID: [(Reader, &[u8], Said); 9] = [
+    (Reader::Script, SCRIPT, (None, 20, 2, 8)),
+    (Reader::History, HIGH_HISTORY, (None, 0, 1, 7)),
+    (Reader::Jobs(3), JOBS, (None, 4, 1, 3)),
+    (Reader::Jobs(3), MIXED_JOBS, (None, 4, 1, 3)),
+    (Reader::Script, SIZED_SCRIPT, (Some(300), 20, 1, 2)),
+    (Reader::History, SIZED_HISTORY, (Some(300), 0, 2, 4)),
+    (Reader::History, WIDE_HISTORY, (Some(65_536), 0, 1, 4)),
+    (Reader::Jobs(1), SIZED_JOBS, (Some(300), 20, 1, 1)),
     (
         Reader::History,
         b"# One.\n objects  1\nobject undo 0\nend\n",
-        Some(1),
+        (Some(1), 0, 1, 0),
     ),
 ];
 
 #[test]
-fn texts_say_how_many_objects_they_may_have(rt: HostRuntime) {
-    for (reader, text, size) in &SIZES {
-        assert!(rt; size_of(rt.alloc(), *reader, text) == Ok(*size));
-    }
-}
-
-/// Texts that are refused for how many objects they may have, and the line and the fault.
-static REFUSED: [(Reader, &[u8], usize, FaultKind); 8] = [
-    (Reader::Script, b"objects 0\n", 1, FaultKind::OutOfRange),
-    (
-        Reader::History,
-        b"objects 65537\n",
-        1,
-        FaultKind::OutOfRange,
-    ),
-    (Reader::Jobs(1), b"objects x\n", 1, FaultKind::BadNumber),
-    (
-        Reader::History,
-        b"objects 2\nobjects 2\n",
-        2,
-        FaultKind::OutOfOrder,
-    ),
-    (
-        Reader::Script,
-        b"max 2\nobjects 2\n",
-        2,
-        FaultKind::UnknownWord,
-    ),
-    (
-        Reader::History,
-        b"objects 1\nobject undo 0\nobject undo 0\n",
-        3,
-        FaultKind::OutOfRange,
-    ),
-    (
-        Reader::History,
-        b"objects 300\nobject undo 0\nop 0 0 300 0\n",
-        3,
-        FaultKind::OutOfRange,
-    ),
-    (
-        Reader::Jobs(1),
-        b"objects 300\nmax 2\nobject undo 0\njob 0\ndo 300 inc:1\n",
-        5,
-        FaultKind::OutOfRange,
-    ),
-];
-
-#[test]
-fn texts_beyond_what_they_say_are_refused(rt: HostRuntime) {
-    for (reader, text, line, kind) in &REFUSED {
-        let fault = TextFault {
-            line: *line,
-            kind: *kind,
-        };
-        assert!(rt; fault_of(rt.alloc(), *reader, text) == Some(fault));
+fn texts_say_their_values(rt: HostRuntime) {
+    for (reader, text, said) in &SAID {
+        assert!(rt; says(rt.alloc(), *reader, text, said));
     }
 }
 

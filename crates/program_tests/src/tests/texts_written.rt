@@ -1,13 +1,12 @@
 //! What is written of a history, and what is read of it again.
 
-ghost use Rattle.std.specs.Prelude.{None};
-
+use super::gathered::NONE_YET;
 use super::texts::{HIGH_HISTORY, HISTORY, SIZED_HISTORY, WIDE_HISTORY};
 use history_text::{
-    HistoryFile, ObjectLine, Out, OutFault, read_history, write_event, write_history, write_object,
+    HistoryFile, ObjectLine, OutFault, read_history, write_event, write_history, write_object,
 };
 use object_trait::{Event, EventKind};
-use outputs::{Failed, Sink};
+use outputs::Sink;
 use std::process::Abort;
 use test_support::sinks::{AtEnd, narrow_sink};
 use type_table::Kind;
@@ -48,21 +47,9 @@ begin 0 0
 end
 ";
 
-/// The canonical text of a file.
-fn written(rt: &(impl Abort + AllocGlobal), file: &HistoryFile) -> Vec<u8> {
-    let mut out = Sink::new(Vec::new(rt.alloc()));
-    write_history(&file.objects, &file.events, &mut out).expect(rt, "not written");
-    out.into_inner()
-}
-
 /// The history of a text that has no fault.
 fn history_of(rt: &(impl Abort + AllocGlobal), text: &[u8]) -> HistoryFile {
     read_history(rt.alloc(), text).expect(rt, "a fault")
-}
-
-fn are_same(file: &HistoryFile, other: &HistoryFile) -> bool {
-    (file.objects.as_slice() == other.objects.as_slice())
-        & (file.events.as_slice() == other.events.as_slice())
 }
 
 /// Texts of histories, and how they are written.
@@ -77,8 +64,13 @@ static TEXTS: [(&[u8], &[u8]); 6] = [
 
 /// That a history is written so, and that what is read of this is the history.
 fn is_written_as(rt: &(impl Abort + AllocGlobal), file: &HistoryFile, wanted: &[u8]) {
-    assert!(rt; written(rt, file).as_slice() == wanted);
-    assert!(rt; are_same(&history_of(rt, wanted), file));
+    let mut out = Sink::new(Vec::new(rt.alloc()));
+    let told = write_history(&file.objects, &file.events, &mut out);
+    let held = out.into_inner();
+    assert!(rt; (told == Ok(())) & (held.as_slice() == wanted));
+    let again = history_of(rt, wanted);
+    assert!(rt; again.objects.as_slice() == file.objects.as_slice());
+    assert!(rt; again.events.as_slice() == file.events.as_slice());
 }
 
 #[test]
@@ -112,29 +104,6 @@ fn many_objects_are_written_and_read_again(rt: HostRuntime) {
     }
 }
 
-/// An output that counts the pieces that it is offered, and takes them whole.
-#[derive(Drop)]
-struct Counting {
-    pieces: usize,
-    bytes: usize,
-}
-
-impl Out for Counting {
-    ghost taken = { λ _. None };
-
-    ghost fault = { λ _. None };
-
-    fn take(&mut self, piece: &[u8]) -> Result<usize, Failed> {
-        self.pieces = self.pieces.wrapping_add(1);
-        self.bytes = self.bytes.wrapping_add(piece.len());
-        Ok(piece.len())
-    }
-
-    fn fault(&self) -> Option<OutFault> {
-        None
-    }
-}
-
 /// The greatest event, and its line.
 const GREATEST: Event = Event {
     worker: 255,
@@ -155,31 +124,18 @@ fn the_greatest_event_has_its_line(rt: HostRuntime) {
     assert!(rt; (told == Ok(())) & (out.into_inner().as_slice() == GREATEST_LINE));
 }
 
-/// That each of these events is written in one piece.
-fn are_pieces(rt: &impl Abort, events: &[Event], out: &mut Counting) {
-    for event in events {
-        assert!(rt; write_event(out, event) == Ok(()));
-    }
-    assert!(rt; out.pieces == events.len());
-}
-
-/// Writes these objects.
-fn write_objects(rt: &impl Abort, objects: &[ObjectLine], out: &mut Counting) {
-    for object in objects {
-        assert!(rt; write_object(out, object) == Ok(()));
-    }
-}
-
-/// The events and the objects of a history make its text up to its end.
+/// The events and the objects of a history make its text up to its end, each event in one piece.
 #[test]
 fn an_event_is_one_piece(rt: HostRuntime) {
     let file = history_of(&rt, HISTORY);
-    let mut out = Counting {
-        pieces: 0,
-        bytes: 0,
-    };
-    are_pieces(&rt, &file.events, &mut out);
-    write_objects(&rt, &file.objects, &mut out);
+    let mut out = NONE_YET;
+    for event in &file.events {
+        assert!(rt; write_event(&mut out, event) == Ok(()));
+    }
+    assert!(rt; out.pieces == file.events.len());
+    for object in &file.objects {
+        assert!(rt; write_object(&mut out, object) == Ok(()));
+    }
     assert!(rt; out.bytes.wrapping_add(4) == HISTORY.len());
 }
 
