@@ -1,6 +1,7 @@
 //! durable serve PROGRAM DATABASE WINDOW COUNT [--fast]: COUNT transactions at `PROGRAM serve [--fast] DATABASE`, WINDOW of
 //! them at a time.
 //! durable whole PROGRAM DATABASE WINDOW COUNT [--fast]: the same by `do`, a line for each transaction.
+//! durable serve-keys .. and whole-keys ..: the same, each under a key of its own.
 //! durable fill PROGRAM DATABASE COUNT: the same, 1,000 at a time, and then the service is killed.
 //! durable open PROGRAM DATABASE: how long it takes to be greeted; the service is killed then.
 //! durable epoch PROGRAM DATABASE COUNT [OPTIONS]: COUNT transactions, 1,000 at a time, and one that aborts, by which the epoch
@@ -35,8 +36,23 @@ fn greeted(program: &str, database: &str, options: &[String]) -> (Child, ChildSt
     (child, input, output)
 }
 
+/// A key that no other transaction of the database has: it may have been served before.
+fn key(number: usize) -> String {
+    format!("order:{}:{number}", std::process::id())
+}
+
 /// `count` transactions, `window` at a time: each begins, makes a call and commits. How many reads of the answers there were.
 fn transactions(input: &mut ChildStdin, output: &mut ChildStdout, window: usize, count: usize) -> usize {
+    transactions_by(input, output, window, count, |_| String::new())
+}
+
+/// The same, each under a key.
+fn keyed_transactions(input: &mut ChildStdin, output: &mut ChildStdout, window: usize, count: usize) -> usize {
+    transactions_by(input, output, window, count, |number| format!(" {}", key(number)))
+}
+
+/// The same, with what comes behind the name of the transaction that begins as so many before it.
+fn transactions_by(input: &mut ChildStdin, output: &mut ChildStdout, window: usize, count: usize, behind: impl Fn(usize) -> String) -> usize {
     let mut buffer = vec![0; 1 << 16];
     let (mut begun, mut ended, mut reads) = (0, 0, 0);
     let (mut asked, mut half) = (String::new(), String::new());
@@ -58,7 +74,7 @@ fn transactions(input: &mut ChildStdin, output: &mut ChildStdout, window: usize,
             match &tag[..1] {
                 "b" => {
                     let t = answer.strip_prefix("ok ").unwrap();
-                    asked.push_str(&format!("c {0} {t} 0 inc:1\nd commit {t}\n", "call"));
+                    asked.push_str(&format!("c call {t} 0 inc:1\nd commit {t}{}\n", behind(tag[1..].parse().unwrap())));
                 }
                 "c" => assert!(answer == "reply ok", "{line}"),
                 _ => {
@@ -77,9 +93,19 @@ fn transactions(input: &mut ChildStdin, output: &mut ChildStdout, window: usize,
 
 /// `count` transactions of one line each, `window` at a time. How many reads of the answers there were.
 fn whole_transactions(input: &mut ChildStdin, output: &mut ChildStdout, window: usize, count: usize) -> usize {
+    whole_transactions_by(input, output, window, count, |_| String::new())
+}
+
+/// The same, each under a key.
+fn keyed_whole_transactions(input: &mut ChildStdin, output: &mut ChildStdout, window: usize, count: usize) -> usize {
+    whole_transactions_by(input, output, window, count, |number| format!(" ={}", key(number)))
+}
+
+/// The same, with what comes behind the verb of the transaction behind so many others.
+fn whole_transactions_by(input: &mut ChildStdin, output: &mut ChildStdout, window: usize, count: usize, behind: impl Fn(usize) -> String) -> usize {
     let mut buffer = vec![0; 1 << 16];
     let (mut begun, mut ended, mut reads, mut half) = (window.min(count), 0, 0, String::new());
-    let mut asked = "d do 0 inc:1\n".repeat(begun);
+    let mut asked: String = (0..begun).map(|number| format!("d do{} 0 inc:1\n", behind(number))).collect();
     while ended < count {
         input.write_all(asked.as_bytes()).unwrap();
         asked.clear();
@@ -93,7 +119,7 @@ fn whole_transactions(input: &mut ChildStdin, output: &mut ChildStdout, window: 
             assert!(line == "d done ok", "{line}");
             ended += 1;
             if begun < count {
-                asked.push_str("d do 0 inc:1\n");
+                asked.push_str(&format!("d do{} 0 inc:1\n", behind(begun)));
                 begun += 1;
             }
         }
@@ -197,6 +223,8 @@ fn main() {
     match words[0].as_str() {
         "serve" => serve(transactions, &words[1], &words[2], &words[5..], number(3), number(4)),
         "whole" => serve(whole_transactions, &words[1], &words[2], &words[5..], number(3), number(4)),
+        "serve-keys" => serve(keyed_transactions, &words[1], &words[2], &words[5..], number(3), number(4)),
+        "whole-keys" => serve(keyed_whole_transactions, &words[1], &words[2], &words[5..], number(3), number(4)),
         "fill" => fill(&words[1], &words[2], number(3)),
         "epoch" => epoch(&words[1], &words[2], number(3), &words[4..]),
         "open" => open(&words[1], &words[2]),

@@ -83,6 +83,17 @@ def epoch(colock, program, folder, *options):
     return seconds(program, "epoch", colock, path, 326_666, *options)
 
 
+def keys(colock, program, folder):
+    """How much longer commits take under keys, where so many outcomes are there before: by three lines and by one."""
+    for before in (0, 1_000_000):
+        path = database(colock, folder, f"keys{before}.db")
+        if before:
+            seconds(program, "whole-keys", colock, path, 1_000, before)
+        for way in ("serve", "whole"):
+            plain, keyed = (min(seconds(program, f"{way}{kind}", colock, path, 64, 100_000)[0] for _ in range(5)) for kind in ("", "-keys"))
+            yield f"{way}, behind {before} keys: {keyed / plain:.2f} of the time without"
+
+
 def main():
     """One run on one disk: the folder is beside this file, and not in /tmp, which may be memory."""
     with tempfile.TemporaryDirectory(dir=HERE) as folder:
@@ -100,6 +111,7 @@ def main():
                   f" {groups_rate / loop:.2f} of the loop's {loop:.0f} syncs, {rate / once:.1f} of SQLite")
         for clients, rate in postgres(folder).items():
             print(f"PostgreSQL, one row, {clients} clients: {rate:.0f} commits a second")
+        print(*keys(colock, program, folder), sep="\n")
         print(f"978,000 events are opened in {opening(colock, program, folder):.2f} s")
         archive = os.path.join(folder, "archive")
         os.mkdir(archive)

@@ -10,11 +10,11 @@ import re
 LONGEST, MOST_OPEN, MOST_TOLD, MOST_ASKED = 4_096, 1024, 65_536, 64
 # How many objects a text may have that doesn't say it.
 FEW = 256
-# What comes after each verb: a transaction, an object, a number, a name, or the name of an object; before a star what
-# comes once or more.
+# What comes after each verb: a transaction, an object, a number, a name, the name of an object, a key, or a key behind
+# `=`; before a star what comes once or more. The last two verbs are those of requests under keys.
 WORDS = {"begin": "", "call": "ton", "would": "ton", "commit": "t", "abort": "t", "rollback": "tx", "kept": "o",
          "objects": "", "types": "", "events": "xx", "stats": "", "end": "", "extend": "w*", "find": "m",
-         "do": "on*", "peek": "on*", "committed": "o*"}
+         "do": "on*", "peek": "on*", "committed": "o*", "outcome": "k", "commit KEY": "tk", "do KEY": "=on*"}
 
 
 # ---- what a line asks
@@ -29,6 +29,10 @@ def is_name(word):
 
 def is_object_name(word):
     return re.fullmatch(r"[a-zA-Z0-9_:./-]{1,64}", word) is not None
+
+
+def is_key(word):
+    return re.fullmatch(r"[a-zA-Z0-9_:.-]{1,64}", word) is not None
 
 
 def object_asked(word):
@@ -54,23 +58,33 @@ def transaction(word):
 def form_of(verb, count):
     """What so many words after a verb are, or as many as may be there."""
     form = WORDS[verb]
-    return form if not form.endswith("*") else form[:-1] * max(1, min(count // len(form[:-1]), MOST_ASKED))
+    if not form.endswith("*"):
+        return form
+    first = form.startswith("=")
+    return form[:first] + form[first:-1] * max(1, min((count - first) // len(form[first:-1]), MOST_ASKED))
+
+
+def verb_of(words):
+    """The verb, by whether there is a key."""
+    is_keyed = words[0] == "commit" and len(words) == 3 or words[0] == "do" and words[1:] and words[1].startswith("=")
+    return f"{words[0]} KEY" if is_keyed else words[0]
 
 
 def asked(words):
     """The verb and what comes after it."""
-    if not words or words[0] not in WORDS:
+    if not words or words[0] not in WORDS or " " in words[0]:
         raise Fault("UnknownVerb")
     if words[0] == "extend":
         if len(words) < 3:
             raise Fault("BadWords")
         return words
-    form = form_of(words[0], len(words) - 1)
-    tests = {"n": is_name, "m": is_object_name}
+    verb = verb_of(words)
+    form = form_of(verb, len(words) - 1)
+    tests = {"n": is_name, "m": is_object_name, "k": is_key, "=": lambda word: is_key(word[1:])}
     if len(words) != len(form) + 1 or any(f in tests and not tests[f](word) for f, word in zip(form, words[1:])):
         raise Fault("BadWords")
-    read = {"t": transaction, "x": number, "o": object_asked, "n": str, "m": str}
-    return [words[0]] + [read[f](word) for f, word in zip(form, words[1:])]
+    read = {"t": transaction, "x": number, "o": object_asked, "n": str, "m": str, "k": str, "=": lambda word: word[1:]}
+    return [verb] + [read[f](word) for f, word in zip(form, words[1:])]
 
 
 def line_asked(line):
@@ -306,12 +320,13 @@ class Seen:
 
 class Model:
     """A store in a file: the states where the epoch began, its whole history, how many of these events are answered as
-    durable, and the number of its life. An object is its kind, the place of its type, and where it has one its name."""
+    durable, and the number of its life; and of each key the replies of its transaction, and how many events there were when
+    it committed. An object is its kind, the place of its type, and where it has one its name."""
 
     def __init__(self, objects, types):
         self.objects, self.types = objects, types
         self.starts, self.events, self.durable = [types[place].initial for _, place, *_ in objects], [], 0
-        self.life = 0
+        self.life, self.keys = 0, {}
 
     def type_of(self, x):
         return self.types[self.objects[x][1]]
@@ -431,6 +446,34 @@ class Model:
         self.durable = len(self.events)
         return " ".join(["done", *replies])
 
+    def under_key(self, verb, *rest):
+        """What is asked under a key is answered each time, and done once. Whose commit was done before is aborted."""
+        key = rest[1] if verb == "commit" else rest[0]
+        if key in self.keys:
+            if verb == "commit" and not self.refusal(Seen(self.events), "abort", rest[0]):
+                self.events.append(("abort", rest[0][1]))
+            self.durable = len(self.events)
+            return "ok" if verb == "commit" else " ".join(["done", *self.keys[key][0]])
+        if verb == "commit":
+            refused = self.refusal(Seen(self.events), "commit", rest[0])
+            answer = f"refused {refused}" if refused else self.done(Seen(self.events), "commit", rest[0])[0]
+        else:
+            answer = self.attempted(Seen(self.events), list(zip(rest[1::2], rest[2::2])))
+        word, *replies = answer.split(" ")
+        if word in ("ok", "done"):
+            self.keys[key] = replies, len(self.events)
+        return answer
+
+    def known(self, key):
+        """What is known of a key. It is durable then."""
+        self.durable = len(self.events)
+        return " ".join(["committed", *self.keys[key][0]]) if key in self.keys else "unknown"
+
+    def cut(self, count):
+        """Only the first events are there."""
+        del self.events[count:]
+        self.keys = {key: (replies, at) for key, (replies, at) in self.keys.items() if at <= count}
+
     def told(self, event):
         """What a call is answered that makes this event."""
         if event[0] == "op":
@@ -458,6 +501,10 @@ class Model:
         if verb == "committed":
             is_there = all(x < len(self.objects) for x in rest)
             return [self.seen(s, [self.committed(s, x) for x in rest]) if is_there else "refused NoObject"]
+        if verb in ("commit KEY", "do KEY"):
+            return [self.under_key(verb.removesuffix(" KEY"), *rest)]
+        if verb == "outcome":
+            return [self.known(rest[0])]
         if verb in ("peek", "do"):
             return [{"peek": self.peeked, "do": self.attempted}[verb](s, list(zip(rest[::2], rest[1::2])))]
         if verb == "kept":
@@ -501,6 +548,7 @@ class Model:
         s = Seen(self.events)
         self.starts = [self.kept(s, x) for x in range(len(self.objects))]
         self.events, self.durable, self.life = [], 0, self.life + 1
+        self.keys = {key: (replies, 0) for key, (replies, _) in self.keys.items()}
 
     def extended(self, objects, types):
         """Another epoch begins, with more objects, whose places are those of these types: the types that the file has

@@ -1,5 +1,5 @@
 -- The audit of what a file says.
-use Rattle.std.proofs.Common.{◌≡◌, List, ℕ, map, Option, None, Some, IfSome, IfOk, Result, Ok, Err, subst, sym}
+use Rattle.std.proofs.Common.{◌≡◌, ◌∙◌, List, ℕ, map, Option, None, Some, IfSome, IfOk, Result, Ok, Err, subst, sym}
 use Rattle.std.specs.declared.sync.Arc.{Arc}
 use Rattle.type_table.specs.Table.{Table}
 use Rattle.table_checker.specs.Checked.{Checked}
@@ -11,7 +11,10 @@ use Rattle.history_judge.specs.declared.outcome.Audit.{Audit}
 use Rattle.history_judge.specs.declared.outcome.AuditFault.{AuditFault}
 use Rattle.history_judge.specs.declared.outcome.AuditFault.TheVariants.{BadEvent, IllegalOp, NoMemory}
 use Rattle.sqlite_trees.specs.Tree.{Trees}
+use Rattle.journal.specs.declared.contents.FileContents.{FileContents}
+use Rattle.journal.specs.declared.outcome_row.KeyedOutcome.{KeyedOutcome}
 use Rattle.journal.specs.Contents.{Contents}
+use Rattle.journal.specs.Said.{contents, contents_beside}
 use Rattle.durable_store.specs.Types.{HasTypes}
 use Rattle.durable_store.specs.Durable.{events_of_kinds}
 use Rattle.command_files.specs.declared.status.Verdict.{Verdict}
@@ -42,6 +45,17 @@ says c (Err (BadEvent at)) lines is No text of same =
 says c (Err (IllegalOp i x j)) lines is Yes text of same = absurd of
 says c (Err (IllegalOp i x j)) lines is No text of same =
     (IllegalOp i x j, (λ clash. let c' = clash in cc), subst (λ (t : List ℕ). IsAuditOfContents c (Err (IllegalOp i x j)) t) (sym same) is)
+
+-- what keys say is nothing to an audit
+pub beside_keys : (outcomes : ℕ → Option KeyedOutcome) (said : FileContents) (v : Verdict) (text : List ℕ) → AuditsContents (contents said) v text → AuditsContents (contents_beside outcomes said) v text
+beside_keys outcomes said Yes text told = (told.0, record { types = told.1.types; are = told.1.are; audits = told.1.audits; is = told.1.is })
+beside_keys outcomes said No text told = (told.0, told.1, record { types = told.2.types; are = told.2.are; audits = told.2.audits; is = told.2.is })
+
+-- so what is said of what a file says holds of the file
+pub told_beside : {T E : Type 0} (r : Result T E) (clean : Type 0) (c d : Contents) (said : FileContents) (verdict : T → Verdict) (text : T → List ℕ) → (clean → d ≡ contents_beside d.outcomes said) → (clean → d ≡ c)
+    → IfOk r (λ x. AuditsContents (contents said) (verdict x) (text x)) → IfOk r (λ x. clean → AuditsContents c (verdict x) (text x))
+told_beside (Ok x) clean c d said verdict text is same told = λ now. subst (λ (f : Contents). AuditsContents f (verdict x) (text x)) (sym (is now) ∙ same now) (beside_keys d.outcomes said (verdict x) (text x) told)
+told_beside (Err e) clean c d said verdict text is same told = tt
 
 -- of what is held a fact holds that holds of what was opened
 pub of_held : (held : Option Trees) (opened : Trees) (P : Trees → Type 0) → IfSome held (λ db. opened ≡ db) → P opened → IfSome held P

@@ -5,7 +5,7 @@ ghost use Rattle.sqlite_trees.specs.View.{IsClean};
 ghost use Rattle.store_laws.specs.Stored.{Stored};
 ghost use Rattle.journal.specs.Contents.{contents_of};
 ghost use Rattle.journal.specs.Journal.{Clean, IsJournal, IsOpen, ShowsCommit, durable, written};
-ghost use Rattle.journal.specs.Said.{contents};
+ghost use Rattle.journal.specs.Said.{contents_beside};
 ghost use Rattle.durable_store.specs.Durable.{IsDurable};
 ghost use Rattle.durable_store.specs.Growth.{Grows};
 ghost use Rattle.command_files.specs.Answers.{Comes, IsEarlyFault};
@@ -163,10 +163,10 @@ fn grow<'a, S: Alter>(
 ) -> (Result<Answer, Fault<'a>>, S)
     requires journal { IsJournal S.Store journal }
     requires same { Clean S.Store journal → written S.Store journal ≡ durable S.Store journal }
-    requires said { Clean S.Store journal → durable S.Store journal ≡ contents said.now }
+    requires said { Clean S.Store journal → durable S.Store journal ≡ contents_beside (durable S.Store journal).outcomes said.now }
     requires is_open { Clean S.Store journal → IsOpen S.Store journal }
     ensures yes { IfOk result.0 (λ a. (a.verdict ≡ Verdict.Yes) × (a.text.bytes.items ≡ [])) }
-    ensures extended { OnOk result.0 (IsClean (S.Store.view result.1) → HasGrown texts.now objects.now (contents said.now) (contents_of (S.Store.view result.1).committed)) }
+    ensures extended { OnOk result.0 (IsClean (S.Store.view result.1) → HasGrown texts.now objects.now (durable S.Store journal) (contents_of (S.Store.view result.1).committed)) }
     ensures clean { OnOk result.0 (IsClean (S.Store.view result.1) → Clean S.Store journal) }
     ensures refused { IfErr result.0 (IsEarlyFault ⊤) }
 {

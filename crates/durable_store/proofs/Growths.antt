@@ -1,5 +1,5 @@
 -- A store that has begun anew with more objects is ahead of its journal: their types are those of a file that has their texts and lines too.
-use Rattle.std.proofs.Common.{◌≡◌, ◌∙◌, inl, inr, ℕ, ◌+◌, ◌-◌, ◌<◌, zero, suc, List, [], ◌∷◌, ◌++◌, length, get_or, Some, refl, sym, ap, subst, arith}
+use Rattle.std.proofs.Common.{◌≡◌, ◌∙◌, inl, inr, ℕ, ◌+◌, ◌-◌, ◌<◌, zero, suc, List, [], ◌∷◌, ◌++◌, length, get_or, None, Some, refl, sym, ap, subst, arith}
 use Rattle.std.specs.Prelude.{slice_get}
 use Rattle.std.proofs.lemmas.Bool.{cases_lt}
 use Rattle.std.proofs.lemmas.List.{length-append, length-map, map-append}
@@ -40,7 +40,7 @@ use Rattle.durable_store.proofs.New.{at-own, first-of}
 -- types that were accepted begin at their initial states
 pub added-of : (texts : List (List ℕ)) (declared : List Declaration) (lines : List ObjectLine) (types : List Checked) → AreRead texts declared → AreTypesOf declared lines types → AreAdded texts lines types
 added-of texts declared lines types read of =
-    let said : Contents = record { events = []; headers = []; types = texts; objects = lines; states = firsts types } in
+    let said : Contents = record { events = []; headers = []; types = texts; objects = lines; states = firsts types; outcomes = λ n. None } in
     are-types said declared types types read of (length-map types first-of ∙ of.as_many) of.as_many (at-own types (types_checked declared lines types of))
 
 -- a line with the place that stands at its place

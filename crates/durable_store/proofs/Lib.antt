@@ -11,3 +11,4 @@ mod Attempted
 pub mod New
 pub mod NameSets
 pub mod NameIndexes
+mod ReplyTexts

@@ -8,3 +8,4 @@ pub mod Created
 pub mod Names
 pub mod Growth
 pub mod GrowthParts
+pub mod Keys

@@ -6,6 +6,7 @@ mod durable;
 mod extension;
 mod format;
 mod growth;
+mod keyed;
 mod limits;
 mod new_file;
 mod object_names;
@@ -16,6 +17,7 @@ mod taken_names;
 
 pub use begun_types::file_types;
 pub use durable::Durable;
+pub use keyed::{KeyState, Keyed, Unfinished, op_at};
 pub use limits::file_limits;
 pub use new_file::create;
 pub use object_names::ObjectNames;

@@ -1,7 +1,7 @@
 //! A store that is made again of its file.
 
 ghost use Rattle.std.specs.Prelude.{◌≡◌, ◌++◌, ◌∷◌, [], IfOk, OnOk, ◌⊎◌, length, IfErr, IsTrue};
-ghost use Rattle.journal.specs.Said.{contents};
+ghost use Rattle.journal.specs.Said.{contents, contents_beside};
 ghost use Rattle.store.specs.Follows.{IsMade};
 ghost use Rattle.store.specs.OwnHistory.{IsOwnHistory};
 ghost use Rattle.store.specs.Replays.{AreMade};
@@ -102,15 +102,15 @@ pub fn resume<S: Alter>(
 ) -> Result<Durable<S>, (OpenError, S)>
     requires journal { IsJournal S.Store journal }
     requires same { Clean S.Store journal → written S.Store journal ≡ durable S.Store journal }
-    requires said { Clean S.Store journal → durable S.Store journal ≡ contents said.now }
+    requires said { Clean S.Store journal → durable S.Store journal ≡ contents_beside (durable S.Store journal).outcomes said.now }
     requires is_open { Clean S.Store journal → IsOpen S.Store journal }
     ensures sound { IfOk result (λ d. IsDurable S.Store d) }
     ensures clean { IfOk result (λ d. Clean S.Store d.journal → Clean S.Store journal) }
     ensures is_open { IfOk result (λ d. Clean S.Store d.journal → IsOpen S.Store d.journal) }
     ensures shows { IfOk result (λ d. ShowsCommit S.Store d.journal) }
-    ensures found { IfOk result (λ d. Clean S.Store d.journal → IsRecoveredBut S.Store prepared.now (contents said.now) d) }
+    ensures found { IfOk result (λ d. Clean S.Store d.journal → IsRecoveredBut S.Store prepared.now (durable S.Store journal) d) }
     ensures crash { IfErr result (λ e. (db : Trees) → S.Store.recovers e.1 db
-        → (Clean S.Store journal × IsFile db × (contents_of db ≡ recovered_but prepared.now (contents said.now))) ⊎ may_leave S.Store journal db) }
+        → (Clean S.Store journal × IsFile db × (contents_of db ≡ recovered_but prepared.now (durable S.Store journal))) ⊎ may_leave S.Store journal db) }
     ensures followed { IfErr result (λ e. IsStrayError e.0 → (e.1 ≡ journal.store) × IsNotFollowed (contents said.now)) }
 {
     journal.is_settled();

@@ -17,7 +17,7 @@ use Rattle.journal.proofs.RowLemmas.{rows-told}
 
 -- the views are those of the file before, without events, with the first states, with all states, with all types, and with all objects
 module _ (old none first states types new : View) (starts : List ℕ) (n : ℕ) (header : Header) (front back : List FirstState) (texts : List (List ℕ)) (lines : List ObjectLine) (known count : ℕ)
-    (kept : IsKeptFile old starts n header) (gone : Empties old none) (again : Rewrites none first 4 (value_rows state_row 0 front))
+    (kept : IsKeptFile old starts n header) (gone : Empties old none 0) (again : Rewrites none first 4 (value_rows state_row 0 front))
     (more_states : AreBehind state_row first states 4 count back) (more_types : AreBehind type_row states types 2 known texts) (more_objects : AreBehind object_row types new 3 count lines)
     (many : length front ≡ count) (many_types : length (contents_of old.trees).types ≡ known) (many_objects : length (contents_of old.trees).objects ≡ count) where
   before : IsFile old.trees
@@ -49,7 +49,7 @@ module _ (old none first states types new : View) (starts : List ℕ) (n : ℕ) 
   stays t not0 not2 not3 not4 low = same t not2 not3 not4 ∙ gone.others t not0 low
 
   events : new.trees 0 ≡ []
-  events = same 0 (λ is. omega (arith, is)) (λ is. omega (arith, is)) (λ is. omega (arith, is)) ∙ gone.events
+  events = same 0 (λ is. omega (arith, is)) (λ is. omega (arith, is)) (λ is. omega (arith, is)) ∙ gone.rows
 
   headers : new.trees 1 ≡ old.trees 1
   headers = stays 1 (λ is. omega (arith, is)) (λ is. omega (arith, is)) (λ is. omega (arith, is)) (λ is. omega (arith, is)) (lit< tt)
@@ -69,8 +69,11 @@ module _ (old none first states types new : View) (starts : List ℕ) (n : ℕ) 
   states-told : map state_told (new.trees 4) ≡ front ++ back
   states-told = ap (map state_told) state-rows ∙ rows-told state_row state_told state_read_back 0 (front ++ back)
 
+  outcomes : new.trees 6 ≡ old.trees 6
+  outcomes = stays 6 (λ is. omega (arith, is)) (λ is. omega (arith, is)) (λ is. omega (arith, is)) (λ is. omega (arith, is)) (lit< tt)
+
   pub extends : contents_of new.trees ≡ extended (contents_of old.trees) texts lines (front ++ back)
-  extends = rw (events, headers, types-told, objects-told, states-told) refl
+  extends = rw (events, headers, types-told, objects-told, states-told, outcomes) refl
 
   committed-same : new.committed ≡ old.committed
   committed-same = named.committed ∙ typed.committed ∙ all.committed ∙ again.committed ∙ gone.committed
@@ -85,7 +88,7 @@ module _ (old none first states types new : View) (starts : List ℕ) (n : ℕ) 
       objects = named.rows_are ∙ ap (value_rows object_row 0) (sym objects-told);
       states = state-rows ∙ ap (value_rows state_row 0) (sym states-told);
       prepared = stays 5 (λ is. omega (arith, is)) (λ is. omega (arith, is)) (λ is. omega (arith, is)) (λ is. omega (arith, is)) (lit< tt) ∙ before.prepared;
-      outcomes = stays 6 (λ is. omega (arith, is)) (λ is. omega (arith, is)) (λ is. omega (arith, is)) (λ is. omega (arith, is)) (lit< tt) ∙ before.outcomes;
+      outcomes = rw (headers, outcomes) before.outcomes;
     };
     count_is = λ _. rw events refl;
     starts_are = λ _. rw events refl;

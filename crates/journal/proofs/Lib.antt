@@ -6,6 +6,7 @@ pub mod Scans
 pub mod Names
 pub mod Opens
 pub mod Emptied
+pub mod Outcomes
 pub mod NewHeaders
 pub mod Rewritten
 pub mod MoreRows

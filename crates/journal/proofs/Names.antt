@@ -1,11 +1,11 @@
 -- The names of the objects of a file, by the first five columns of each.
-use Rattle.std.proofs.Common.{◌≡◌, ◌≢◌, ℕ, codes, List, [], ◌∷◌, map, take, false, refl, subst, sym, ◌∙◌}
+use Rattle.std.proofs.Common.{◌≡◌, ◌≢◌, ℕ, ◌+◌, List, [], ◌∷◌, map, take, false, refl, subst, sym, ◌∙◌}
 use Rattle.std.specs.Prelude.{pos}
 use Rattle.std.specs.List.{AllByRecursion}
 use Rattle.sqlite_value.specs.declared.value.Value.TheVariants.{Text}
 use Rattle.sqlite_value.specs.Order.{Row, column}
 use Rattle.sqlite_trees.specs.Tree.{has_rowid}
-use Rattle.journal.specs.Journal.{IsNamedOnce, name_column}
+use Rattle.journal.specs.Journal.{IsNamedOnce, IsOwnNamed, name_column}
 
 first_column : (r : Row) → column (take 5 r) 0 ≡ column r 0
 first_column [] = refl
@@ -24,8 +24,8 @@ each-told P Q turn (r ∷ rs) all = (turn r all.0, each-told P Q turn rs all.1)
 
 pub named-wholly : (rs : List Row) → IsNamedOnce (map (take 5) rs) → IsNamedOnce rs
 named-wholly rs named =
-    each-told (λ r. has_rowid (pos 1) r ≡ false → column r name_column ≢ Text (codes "event")) (λ r. has_rowid (pos 1) r ≡ false → column r name_column ≢ Text (codes "event"))
-    (λ r his other is. his (subst (λ v. has_rowid (pos 1) (v ∷ []) ≡ false) (sym (first_column r)) other) (third_column r ∙ is)) rs named
+    each-told IsOwnNamed IsOwnNamed
+    (λ r his table name remade other is. his table name remade (subst (λ v. has_rowid (pos (table + 1)) (v ∷ []) ≡ false) (sym (first_column r)) other) (third_column r ∙ is)) rs named
 
 pub unnamed-wholly : (name : List ℕ) (rs : List Row) → AllByRecursion (λ r. column r name_column ≢ Text name) (map (take 5) rs) → AllByRecursion (λ r. column r name_column ≢ Text name) rs
 unnamed-wholly name rs none = each-told (λ r. column r name_column ≢ Text name) (λ r. column r name_column ≢ Text name) (λ r his is. his (third_column r ∙ is)) rs none

@@ -1,5 +1,5 @@
 -- The header is written anew.
-use Rattle.std.proofs.Common.{◌≡◌, refl, sym, ap, subst, ℕ, List, [], ◌∷◌, length, map, ◌∙◌, IsTrue, lit<}
+use Rattle.std.proofs.Common.{◌≡◌, ◌<◌, arith, refl, sym, ap, subst, ℕ, List, [], ◌∷◌, length, map, ◌∙◌, IsTrue, lit<}
 use Rattle.sqlite_trees.specs.Objects.{catalog_tree}
 use Rattle.sqlite_trees.specs.Tree.{put_row}
 use Rattle.sqlite_trees.specs.View.{View, SetsTree}
@@ -7,7 +7,7 @@ use Rattle.journal.specs.declared.header.Header.{Header}
 use Rattle.journal.specs.HeaderRow.{header_row, header_told}
 use Rattle.journal.specs.Rows.{value_rows}
 use Rattle.journal.specs.EventRow.{event_told, row_starts}
-use Rattle.journal.specs.Contents.{Contents, IsFile, contents_of, in_life, newest_format}
+use Rattle.journal.specs.Contents.{Contents, IsFile, IsOlder, contents_of, in_life, newest_format}
 use Rattle.journal.specs.Journal.{HasTables, IsKeptFile, IsNamedOnce}
 use Rattle.journal.proofs.RowLemmas.{put-set}
 
@@ -24,9 +24,14 @@ module _ (old new : View) (starts : List ℕ) (n : ℕ) (was now : Header) (sets
   told : contents_of new.trees ≡ record (contents_of old.trees) { headers = now ∷ [] }
   told = ap (λ (v : View). contents_of v.trees) sets.is ∙ ap (λ rs. record (contents_of old.trees) { headers = map header_told rs }) other
 
+  aged : now.format ≡ newest_format → IsOlder (map header_told (put_row (header_row 0 now) (old.trees 1))) → ⊥
+  aged newest older =
+      let low : now.format < newest_format = subst IsOlder (ap (map header_told) other) older in
+      omega (arith, newest, low)
+
   -- it is a file of a store with this header
-  pub raises : IsKeptFile new starts n now
-  raises = record {
+  pub raises : now.format ≡ newest_format → IsKeptFile new starts n now
+  raises newest = record {
     tables = subst (λ (v : View). HasTables v) (sym sets.is) (record { each = kept.tables.each });
     file = λ _. subst (λ (v : View). IsFile v.trees) (sym sets.is) (record {
       events = before.events;
@@ -35,7 +40,7 @@ module _ (old new : View) (starts : List ℕ) (n : ℕ) (was now : Header) (sets
       objects = before.objects;
       states = before.states;
       prepared = before.prepared;
-      outcomes = before.outcomes;
+      outcomes = λ older. absurd (aged newest older);
     });
     count_is = λ _. kept.count_is sets.sound ∙ ap (λ (c : Contents). length c.events) (sym told);
     starts_are = λ _. kept.starts_are sets.sound ∙ ap (λ (v : View). row_starts 0 (map event_told (v.trees 0))) (sym sets.is);

@@ -12,8 +12,8 @@ use Rattle.journal.specs.HeaderRow.{header_row, header_told, header_read_back}
 use Rattle.journal.specs.TypeRow.{type_row, type_told, type_read_back}
 use Rattle.journal.specs.ObjectRows.{object_row, object_told, object_read_back}
 use Rattle.journal.specs.StateRow.{state_row, state_told, state_read_back}
-use Rattle.journal.specs.Contents.{Contents, IsFile, contents_of}
-use Rattle.journal.specs.Said.{HasRowsOf, contents}
+use Rattle.journal.specs.Contents.{Contents, IsFile, IsOlder, contents_of}
+use Rattle.journal.specs.Said.{HasRowsOf, contents_beside}
 use Rattle.journal.specs.Tables.{IsUnused, OnlyReads}
 use Rattle.journal.specs.Journal.{HasTables, IsKeptFile, IsNamedOnce}
 use Rattle.journal.proofs.RowLemmas.{rows-told}
@@ -26,6 +26,9 @@ rows-of : {E : Type 0} (row_at : ℕ → E → Row) (told : Row → E) → ((n :
 rows-of row_at told back all es is = is ∙ ap (value_rows row_at 0) (sym (told-of row_at told back all es is))
 
 module _ (db : Trees) (said : FileContents) (starts : List ℕ) (told : HasRowsOf db said starts) where
+  headers-are : map header_told (db 1) ≡ said.header ∷ []
+  headers-are = told-of header_row header_told header_read_back (db 1) (said.header ∷ []) told.header
+
   -- it is a file of a store
   pub is-file : IsFile db
   is-file = record {
@@ -35,7 +38,7 @@ module _ (db : Trees) (said : FileContents) (starts : List ℕ) (told : HasRowsO
     objects = rows-of object_row object_told object_read_back (db 3) said.objects.items told.objects;
     states = rows-of state_row state_told state_read_back (db 4) said.states.items told.states;
     prepared = told.prepared;
-    outcomes = told.outcomes;
+    outcomes = λ older. told.outcomes (subst IsOlder headers-are older);
   }
 
   rows-are : map event_told (db 0) ≡ told.rows
@@ -47,11 +50,8 @@ module _ (db : Trees) (said : FileContents) (starts : List ℕ) (told : HasRowsO
   pub starts-are : starts ≡ row_starts 0 (map event_told (db 0))
   starts-are = told.starts_are ∙ ap (row_starts 0) (sym rows-are)
 
-  headers-are : map header_told (db 1) ≡ said.header ∷ []
-  headers-are = told-of header_row header_told header_read_back (db 1) (said.header ∷ []) told.header
-
   -- that says what was read
-  pub says : contents_of db ≡ contents said
+  pub says : contents_of db ≡ contents_beside (contents_of db).outcomes said
   says = rw (
     events-are,
     headers-are,

@@ -60,7 +60,7 @@ all-new old now states x first past =
 
 -- ---- a history begins anew at these states
 
-module _ (old middle new : View) (starts : List ℕ) (n : ℕ) (header : Header) (states : List FirstState) (kept : IsKeptFile old starts n header) (gone : Empties old middle) (again : Rewrites middle new 4 (value_rows state_row 0 states)) where
+module _ (old middle new : View) (starts : List ℕ) (n : ℕ) (header : Header) (states : List FirstState) (kept : IsKeptFile old starts n header) (gone : Empties old middle 0) (again : Rewrites middle new 4 (value_rows state_row 0 states)) where
   before : IsFile old.trees
   before = kept.file gone.sound
 
@@ -69,7 +69,7 @@ module _ (old middle new : View) (starts : List ℕ) (n : ℕ) (header : Header)
   stays t differs apart low = again.others t apart ∙ gone.others t differs low
 
   events : new.trees 0 ≡ []
-  events = again.others 0 (λ is. omega (arith, is)) ∙ gone.events
+  events = again.others 0 (λ is. omega (arith, is)) ∙ gone.rows
 
   headers : new.trees 1 ≡ old.trees 1
   headers = stays 1 (λ is. omega (arith, is)) (λ is. omega (arith, is)) (lit< tt)
@@ -83,8 +83,11 @@ module _ (old middle new : View) (starts : List ℕ) (n : ℕ) (header : Header)
   states-told : map state_told (new.trees 4) ≡ states
   states-told = ap (map state_told) again.rows_are ∙ rows-told state_row state_told state_read_back 0 states
 
+  outcomes : new.trees 6 ≡ old.trees 6
+  outcomes = stays 6 (λ is. omega (arith, is)) (λ is. omega (arith, is)) (lit< tt)
+
   pub from-states : contents_of new.trees ≡ from_states (contents_of old.trees) states
-  from-states = rw (events, headers, types, objects, states-told) refl
+  from-states = rw (events, headers, types, objects, states-told, outcomes) refl
 
   pub resets : IsKeptFile new [] 0 header
   resets = record {
@@ -96,7 +99,7 @@ module _ (old middle new : View) (starts : List ℕ) (n : ℕ) (header : Header)
       objects = rw objects before.objects;
       states = again.rows_are ∙ ap (value_rows state_row 0) (sym states-told);
       prepared = stays 5 (λ is. omega (arith, is)) (λ is. omega (arith, is)) (lit< tt) ∙ before.prepared;
-      outcomes = stays 6 (λ is. omega (arith, is)) (λ is. omega (arith, is)) (lit< tt) ∙ before.outcomes;
+      outcomes = rw (headers, outcomes) before.outcomes;
     };
     count_is = λ _. rw events refl;
     starts_are = λ _. rw events refl;

@@ -1,5 +1,5 @@
 -- What the tables of a file say.
-use Rattle.std.specs.Prelude.{◌≡◌, ℕ, List, [], ◌∷◌, ◌++◌, map}
+use Rattle.std.specs.Prelude.{◌≡◌, ℕ, ◌<◌, List, [], ◌∷◌, ◌++◌, Option, map}
 use Rattle.object_trait.specs.declared.event.EventKind.{EventKind}
 use Rattle.store_text.specs.declared.line.ObjectLine.{ObjectLine}
 use Rattle.sqlite_trees.specs.Tree.{Trees}
@@ -11,15 +11,18 @@ use Rattle.journal.specs.HeaderRow.{header_row, header_told}
 use Rattle.journal.specs.TypeRow.{type_row, type_told}
 use Rattle.journal.specs.ObjectRows.{object_row, object_told}
 use Rattle.journal.specs.StateRow.{state_row, state_told}
+use Rattle.journal.specs.declared.outcome_row.KeyedOutcome.{KeyedOutcome}
+use Rattle.journal.specs.OutcomeRow.{outcome_at, outcomes_with}
 
--- the events of the history since the file's states, what the file says of itself, the texts of types, the objects with their types, and
--- the states at which they began
+-- the events of the history since the file's states, what the file says of itself, the texts of types, the objects with their types,
+-- the states at which they began, and what became of transactions that have keys, by the places of these
 pub record Contents : Type 0 where
   pub events : List EventKind
   pub headers : List Header
   pub types : List (List ℕ)
   pub objects : List ObjectLine
   pub states : List FirstState
+  pub outcomes : ℕ → Option KeyedOutcome
 
 abbrev pub contents_of : Trees → Contents
 contents_of db = record {
@@ -28,9 +31,21 @@ contents_of db = record {
   types = map type_told (db 2);
   objects = map object_told (db 3);
   states = map state_told (db 4);
+  outcomes = outcome_at (db 6);
 }
 
--- each table has the rows of what it says, at the positions 0, 1, 2 and so on, and no other; a row of events may say several; those for commits over several stores have none
+-- the format of what is written: 6 has what became of transactions that have keys, 5 a row for the events that were written together,
+-- 4 names of objects, 3 operations with amounts, 2 types that are numbers
+abbrev pub newest_format : ℕ
+newest_format = 6
+
+-- a header of an older format
+abbrev pub IsOlder : List Header → Type 0
+IsOlder [] = ⊥
+IsOlder (h ∷ hs) = h.format < newest_format
+
+-- each table but the last one has the rows of what it says, at the positions 0, 1, 2 and so on, and no other; a row of events may say several; that
+-- for prepared transactions has none, nor has the last one in a file of an older format
 pub record IsFile (db : Trees) : Type 0 where
   pub events : db 0 ≡ value_rows event_row 0 (map event_told (db 0))
   pub headers : db 1 ≡ value_rows header_row 0 (contents_of db).headers
@@ -38,7 +53,7 @@ pub record IsFile (db : Trees) : Type 0 where
   pub objects : db 3 ≡ value_rows object_row 0 (contents_of db).objects
   pub states : db 4 ≡ value_rows state_row 0 (contents_of db).states
   pub prepared : db 5 ≡ []
-  pub outcomes : db 6 ≡ []
+  pub outcomes : IsOlder (contents_of db).headers → db 6 ≡ []
 
 -- with these events, which are in no row yet, behind the others
 abbrev pub with_pending : Contents → List EventKind → Contents
@@ -48,10 +63,9 @@ with_pending c events = record c { events = c.events ++ events }
 abbrev pub contents_with_event : Contents → EventKind → Contents
 contents_with_event c e = record c { events = c.events ++ e ∷ [] }
 
--- the format of what is written: 5 has a row for the events that were written together, 4 has names of objects, 3 operations with
--- amounts, 2 types that are numbers
-abbrev pub newest_format : ℕ
-newest_format = 5
+-- with what became of a transaction, at its key's place
+abbrev pub with_outcome : Contents → KeyedOutcome → Contents
+with_outcome c o = record c { outcomes = outcomes_with c.outcomes o }
 
 -- with this number of a life in the header, which is of the newest format then
 abbrev pub in_life : Contents → ℕ → Contents

@@ -1,4 +1,4 @@
--- The table of events is emptied, and nothing else changes.
+-- A table is made anew, with no row, and nothing else changes.
 use Rattle.std.specs.Prelude.{◌≡◌, ◌≢◌, ◌<◌, ℕ, false, [], IsTrue}
 use Rattle.sqlite_trees.specs.Objects.{catalog_tree}
 use Rattle.sqlite_trees.specs.View.{View}
@@ -10,10 +10,10 @@ pub record MayEmpty (v : View) : Type 0 where
   pub numbered : IsTrue v.is_numbered
   pub named : v.is_broken ≡ false → IsNamedOnce (v.trees catalog_tree)
 
-pub record Empties (old new : View) : Type 0 where
+pub record Empties (old new : View) (table : ℕ) : Type 0 where
   pub sound : old.is_broken ≡ false
-  pub events : new.trees 0 ≡ []
-  pub others : (t : ℕ) → t ≢ 0 → t < 7 → new.trees t ≡ old.trees t
+  pub rows : new.trees table ≡ []
+  pub others : (t : ℕ) → t ≢ table → t < 7 → new.trees t ≡ old.trees t
   pub tables : HasTables new
   pub numbered : IsTrue new.is_numbered
   pub named : IsNamedOnce (new.trees catalog_tree)

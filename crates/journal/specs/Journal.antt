@@ -1,5 +1,5 @@
 -- What a journal holds.
-use Rattle.std.specs.Prelude.{◌≢◌, codes, pos, ◌≡◌, ◌+◌, ◌<◌, ℕ, false, List, [], ◌∷◌, length, map, IsTrue}
+use Rattle.std.specs.Prelude.{◌≢◌, codes, pos, ◌≡◌, ◌⊎◌, ◌+◌, ◌<◌, ℕ, false, List, [], ◌∷◌, length, map, IsTrue}
 use Rattle.std.specs.List.{AllByRecursion}
 use Rattle.sqlite_value.specs.declared.value.Value.TheVariants.{Text}
 use Rattle.sqlite_value.specs.Order.{Row, column}
@@ -22,9 +22,16 @@ pub record HasTables (v : View) : Type 0 where
 abbrev pub name_column : ℕ
 name_column = 2
 
--- no object of the list but that of table 0 has its name
+-- the tables that are made anew, with their names: that of events by each epoch, the others by a newer format
+abbrev pub IsRemade : ℕ → List ℕ → Type 0
+IsRemade table name = ((table ≡ 0) × (name ≡ codes "event")) ⊎ (((table ≡ 5) × (name ≡ codes "prepared")) ⊎ ((table ≡ 6) × (name ≡ codes "outcome")))
+
+-- an object of the list has the name of such a table only where it is that table
+abbrev pub IsOwnNamed : Row → Type 0
+IsOwnNamed r = (table : ℕ) (name : List ℕ) → IsRemade table name → has_rowid (pos (table + 1)) r ≡ false → column r name_column ≢ Text name
+
 abbrev pub IsNamedOnce : List Row → Type 0
-IsNamedOnce = AllByRecursion (λ r. has_rowid (pos 1) r ≡ false → column r name_column ≢ Text (codes "event"))
+IsNamedOnce = AllByRecursion IsOwnNamed
 
 -- what the store shows: while it is not broken, a file of a store with this header and this many events, whose rows begin at these of them
 pub record IsKeptFile (v : View) (starts : List ℕ) (count : ℕ) (header : Header) : Type 0 where

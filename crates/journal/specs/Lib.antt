@@ -7,6 +7,7 @@ pub mod Rows
 pub mod Tables
 pub mod HeaderRow
 pub mod StateRow
+pub mod OutcomeRow
 pub mod ObjectRows
 pub mod TypeRow
 pub mod Contents

@@ -1,5 +1,5 @@
 -- What was read of a file.
-use Rattle.std.specs.Prelude.{◌≡◌, ℕ, List, [], ◌∷◌}
+use Rattle.std.specs.Prelude.{◌≡◌, ◌<◌, ℕ, List, [], ◌∷◌, Option, None}
 use Rattle.sqlite_trees.specs.Tree.{Trees}
 use Rattle.journal.specs.declared.contents.FileContents.{FileContents}
 use Rattle.journal.specs.Rows.{value_rows}
@@ -9,9 +9,10 @@ use Rattle.journal.specs.HeaderRow.{header_row}
 use Rattle.journal.specs.TypeRow.{type_row}
 use Rattle.journal.specs.ObjectRows.{object_row}
 use Rattle.journal.specs.StateRow.{state_row}
-use Rattle.journal.specs.Contents.{Contents}
+use Rattle.journal.specs.declared.outcome_row.KeyedOutcome.{KeyedOutcome}
+use Rattle.journal.specs.Contents.{Contents, newest_format}
 
--- the same as the tables say it
+-- the same as the tables say it, where no transaction had a key
 abbrev pub contents : FileContents → Contents
 contents said = record {
   events = said.events.items;
@@ -19,7 +20,12 @@ contents said = record {
   types = said.types.items;
   objects = said.objects.items;
   states = said.states.items;
+  outcomes = λ _. None;
 }
+
+-- and where this became of those that had, which isn't read
+abbrev pub contents_beside : (ℕ → Option KeyedOutcome) → FileContents → Contents
+contents_beside outcomes said = record (contents said) { outcomes = outcomes }
 
 -- the tables have the rows of just this, where the events of each row begin at these places
 pub record HasRowsOf (db : Trees) (said : FileContents) (starts : List ℕ) : Type 0 where
@@ -32,4 +38,4 @@ pub record HasRowsOf (db : Trees) (said : FileContents) (starts : List ℕ) : Ty
   pub objects : db 3 ≡ value_rows object_row 0 said.objects.items
   pub states : db 4 ≡ value_rows state_row 0 said.states.items
   pub prepared : db 5 ≡ []
-  pub outcomes : db 6 ≡ []
+  pub outcomes : said.header.format < newest_format → db 6 ≡ []

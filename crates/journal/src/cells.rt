@@ -1,6 +1,6 @@
 //! Numbers and texts in the columns of a row.
 
-ghost use Rattle.std.specs.Prelude.{◌≡◌, ◌<◌, ◌^◌, [], ◌∷◌, pos, true, IfSome, OnOk};
+ghost use Rattle.std.specs.Prelude.{◌≡◌, ◌<◌, ◌^◌, [], ◌∷◌, pos, true, IfSome, IsTrue, OnOk};
 ghost use Rattle.sqlite_value.specs.Order.{column};
 ghost use Rattle.sqlite_value.specs.Value.{owned};
 ghost use Rattle.sqlite_value.specs.declared.value.Value.TheVariants.{Null, Int, Text, Blob};
@@ -80,6 +80,17 @@ pub fn text_in(row: &Row, at: usize) -> Option<&[u8]>
     }
 }
 
+/// Whether a column has this text.
+pub fn is_text(row: &Row, at: usize, text: &[u8]) -> bool
+    ensures is { IsTrue result → column row.now at ≡ Text text.now }
+    ensures told { column row.now at ≡ Text text.now → IsTrue result }
+{
+    match row.get(at) {
+        ValueRef::Text(bytes) => bytes == text,
+        _ => false,
+    }
+}
+
 /// A number of 8 bits.
 pub fn byte(n: u32) -> Option<u8>
     ensures { IfSome result (λ m. n ≡ m) }
@@ -94,13 +105,21 @@ pub fn two_bytes(n: u32) -> Option<u16>
     u16::try_from(n).ok()
 }
 
+/// The rowid of a position.
+pub fn rowid_of(position: u64) -> i64
+    requires { position < 2 ^ 62 }
+    ensures { result ≡ pos position }
+{
+    position as i64
+}
+
 /// The key of the row at this position.
 pub fn begin_key(row: &mut Row, position: u64) -> Result<(), AllocError>
     requires { position < 2 ^ 62 }
     ensures { OnOk result (row.new ≡ Int (pos position) ∷ []) }
 {
     row.clear();
-    row.push(ValueRef::Int(position as i64))
+    row.push(ValueRef::Int(rowid_of(position)))
 }
 
 /// Begins the row at this position: with NULL in the position's own column, since SQLite keeps it as the

@@ -1,15 +1,16 @@
 //! What the tables of a file say, and how they are read.
 
-ghost use Rattle.std.specs.Prelude.{◌≡◌, ◌∷◌, [], IfOk, OnOk};
+ghost use Rattle.std.specs.Prelude.{◌≡◌, ◌<◌, ◌∷◌, [], IfOk, IsTrue, OnOk};
 ghost use Rattle.sqlite_trees.specs.Tree.{Trees};
 ghost use Rattle.sqlite_trees.specs.View.{IsClean};
 ghost use Rattle.journal.specs.HeaderRow.{header_row};
+ghost use Rattle.journal.specs.Contents.{newest_format};
 ghost use Rattle.journal.specs.Said.{HasRowsOf};
 ghost use Rattle.journal.specs.Journal.{HasTables};
 ghost use Rattle.journal.specs.Tables.{IsUnused, OnlyReads};
 
 use crate::event_row::{EventRow, events_of, starts_of};
-use crate::header::Header;
+use crate::header::{FORMAT, Header};
 use crate::journal_error::JournalError;
 use crate::object_row::TypeText;
 use crate::state_row::FirstState;
@@ -38,7 +39,7 @@ pub const STATES: u32 = 4;
 /// The table of transactions that are prepared, which has no rows.
 pub const PREPARED: u32 = 5;
 
-/// The table of what others decided of them, which has none either.
+/// The table of what became of transactions that have keys.
 pub const OUTCOMES: u32 = 6;
 
 /// Where the name is in a row of the list of a file's objects.
@@ -62,7 +63,7 @@ pub struct FoundContents {
     pub starts: Vec<u64>,
 }
 
-/// Reads all tables.
+/// Reads all tables but that of what became of transactions, which may be long.
 ///
 /// # Errors
 ///
@@ -85,7 +86,7 @@ pub fn read_contents<S: Store>(
     let objects = read_all(alloc, store, OBJECTS, row)?;
     let states = read_all(alloc, store, STATES, row)?;
     let rows: Vec<EventRow> = read_all(alloc, store, EVENTS, row)?;
-    if !has_no_rows(store, PREPARED, row)? || !has_no_rows(store, OUTCOMES, row)? {
+    if !has_no_rows(store, PREPARED, row)? || !may_have_outcomes(store, header, row)? {
         return Err(JournalError::Foreign);
     }
     let events = events_of(alloc, &rows)?;
@@ -98,6 +99,29 @@ pub fn read_contents<S: Store>(
         events,
     };
     Ok(FoundContents { said, starts })
+}
+
+/// Whether the table of what became of transactions is as the file's format has it: those before 6 have no row there.
+///
+/// # Errors
+///
+/// The file failed, or memory was refused.
+fn may_have_outcomes<S: Store>(
+    store: &mut S,
+    header: Header,
+    row: &mut Row,
+) -> Result<bool, JournalError>
+    requires unused { IsClean (S.Store.view store.old) → IsUnused (S.Store.view store.old) }
+    requires tables { IsClean (S.Store.view store.old) → HasTables (S.Store.view store.old) }
+    ensures told { IfOk result (λ may. IsTrue may → IsClean (S.Store.view store.new) → header.format < newest_format → (S.Store.view store.old).trees 6 ≡ []) }
+    ensures same { OnOk result (IsClean (S.Store.view store.new) → OnlyReads (S.Store.view store.old) (S.Store.view store.new)) }
+    ensures clean { IsClean (S.Store.view store.new) → IsClean (S.Store.view store.old) }
+    ensures crash { (db : Trees) → S.Store.recovers store.new db → S.Store.recovers store.old db }
+{
+    if header.format >= FORMAT {
+        return Ok(true);
+    }
+    has_no_rows(store, OUTCOMES, row)
 }
 
 /// Reads the one header.

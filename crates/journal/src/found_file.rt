@@ -1,16 +1,16 @@
 //! Opening a journal: its tables are looked for and read.
 
-ghost use Rattle.std.specs.Prelude.{◌≡◌, ◌≢◌, codes, false, true, pos, IfErr, IfOk, IsTrue};
+ghost use Rattle.std.specs.Prelude.{◌≡◌, ◌≢◌, ◌+◌, ◌<◌, ◌^◌, false, true, pos, IfErr, IfOk, IsTrue};
 ghost use Rattle.sqlite_value.specs.Order.{column};
 ghost use Rattle.sqlite_value.specs.declared.value.Value.TheVariants.{Text};
 ghost use Rattle.sqlite_trees.specs.Tree.{Trees, has_rowid};
 ghost use Rattle.sqlite_trees.specs.Objects.{catalog_tree};
 ghost use Rattle.sqlite_trees.specs.View.{IsClean};
 ghost use Rattle.journal.specs.Contents.{IsFile, contents_of};
-ghost use Rattle.journal.specs.Journal.{Clean, HasTables, IsJournal, IsNamedOnce, IsOpen, ShowsCommit, durable, may_leave, name_column, written};
-ghost use Rattle.journal.specs.Said.{contents};
+ghost use Rattle.journal.specs.Journal.{Clean, HasTables, IsJournal, IsNamedOnce, IsOpen, IsOwnNamed, ShowsCommit, durable, may_leave, name_column, written};
+ghost use Rattle.journal.specs.Said.{contents_beside};
 
-use crate::cells::is_number;
+use crate::cells::{is_number, is_text};
 use crate::contents::{
     EVENTS, FileContents, FoundContents, HEADER, NAME, OBJECTS, OUTCOMES, PREPARED, STATES, TYPES,
     read_contents,
@@ -20,7 +20,6 @@ use crate::journal_error::JournalError;
 use event_text::EventGroup;
 use sqlite_trees::store::{Alter, Shape, Store};
 use sqlite_value::row::Row;
-use sqlite_value::value::ValueRef;
 use std::alloc::{AllocError, Global};
 
 impl<S: Alter> Journal<S> {
@@ -40,7 +39,7 @@ impl<S: Alter> Journal<S> {
         ensures is_open { IfOk result (λ r. Clean S.Store r.0 → IsOpen S.Store r.0) }
         ensures shows { IfOk result (λ r. ShowsCommit S.Store r.0) }
         ensures clean { IfOk result (λ r. Clean S.Store r.0 → IsClean (S.Store.view store)) }
-        ensures said { IfOk result (λ r. Clean S.Store r.0 → durable S.Store r.0 ≡ contents r.1) }
+        ensures said { IfOk result (λ r. Clean S.Store r.0 → durable S.Store r.0 ≡ contents_beside (durable S.Store r.0).outcomes r.1) }
         ensures was_open { IfOk result (λ r. Clean S.Store r.0 → IsTrue (S.Store.view store).is_open) }
         ensures same { IfOk result (λ r. Clean S.Store r.0 → durable S.Store r.0 ≡ contents_of (S.Store.view store).committed) }
         ensures file { IfOk result (λ r. Clean S.Store r.0 → IsFile (S.Store.view store).committed) }
@@ -74,8 +73,8 @@ impl<S: Alter> Journal<S> {
     }
 }
 
-/// Whether the trees aren't broken, have the tables of a store, and no other object has the name of its
-/// table of events.
+/// Whether the trees aren't broken, have the tables of a store, and no other object has the name of one that is made
+/// anew.
 fn is_ready<S: Alter>(alloc: Global, store: &S) -> Result<bool, AllocError>
     ensures sound { IfOk result (λ ready. IsTrue ready → IsClean (S.Store.view store.now) → (S.Store.view store.now).is_broken ≡ false) }
     ensures tables { IfOk result (λ ready. IsTrue ready → HasTables (S.Store.view store.now)) }
@@ -108,38 +107,30 @@ pub fn is_table<S: Store>(store: &S, tree: u32) -> bool
     matches!(store.shape(tree), Shape::Table)
 }
 
-/// Whether no object but that with the rowid of the table of events has its name.
+/// Whether no object has the name of a table that is made anew but that table.
 fn are_named_once(objects: &Vec<Row>) -> bool
     ensures { IsTrue result → IsNamedOnce objects.now.items }
 {
     for object in objects {
-        if !is_other_named(object) {
+        if !is_own_named(object) {
             return false;
         }
     }
     true
 }
 
-/// Whether an object has the rowid of the table of events, or another name.
-fn is_other_named(object: &Row) -> bool
-    ensures { IsTrue result → has_rowid (pos 1) object.now ≡ false → column object.now name_column ≢ Text (codes "event") }
+/// Whether an object has the name of such a table only where it is that table.
+fn is_own_named(object: &Row) -> bool
+    ensures { IsTrue result → IsOwnNamed object.now }
 {
-    is_first(object) || !is_named(object)
+    has_own_name(object, EVENTS, "event")
+        && has_own_name(object, PREPARED, "prepared")
+        && has_own_name(object, OUTCOMES, "outcome")
 }
 
-/// Whether an object has the rowid of the table of events.
-fn is_first(object: &Row) -> bool
-    ensures { IsTrue result → has_rowid (pos 1) object.now ≡ true }
+/// Whether an object is the table with this number, or has another name than this.
+fn has_own_name(object: &Row, tree: u32, name: &str) -> bool
+    ensures { IsTrue result → has_rowid (pos (tree + 1)) object.now ≡ false → column object.now name_column ≢ Text name.now }
 {
-    is_number(object, 0, EVENTS as u64 + 1)
-}
-
-/// Whether an object has the name of the table of events.
-fn is_named(object: &Row) -> bool
-    ensures { column object.now name_column ≡ Text (codes "event") → IsTrue result }
-{
-    match object.get(NAME) {
-        ValueRef::Text(name) => name == b"event".as_slice(),
-        _ => false,
-    }
+    is_number(object, 0, tree as u64 + 1) || !is_text(object, NAME, name.as_bytes())
 }

@@ -17,7 +17,7 @@ const ID: usize = 3;
 const LIFE: usize = 4;
 
 /// The format of what is written.
-pub const FORMAT: u32 = 5;
+pub const FORMAT: u32 = 6;
 
 /// What a file says of itself: the version of its format, 16 bytes that were drawn when it was made, and
 /// how many lives of stores began over it, which is the number of the present one.

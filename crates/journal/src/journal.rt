@@ -2,7 +2,7 @@
 
 ghost use Rattle.std.specs.Prelude.{◌≡◌, ◌^◌, ◌⊎◌, ◌∷◌, [], IsTrue, OnOk, ◌<◌, drop, map, take, IfOk, ◌+◌, ◌≤◌, ℕ, List, false, length};
 ghost use Rattle.sqlite_trees.specs.Tree.{Trees};
-ghost use Rattle.journal.specs.Contents.{contents_with_event, extended, from_states, in_life};
+ghost use Rattle.journal.specs.Contents.{contents_with_event, extended, from_states, in_life, with_outcome};
 ghost use Rattle.journal.specs.Journal.{Clean, IsAsWritten, IsJournal, IsNumbered, IsOpen, IsSettled, ShowsCommit, durable, may_leave, written};
 ghost use Rattle.sqlite_trees.specs.declared.store.Shape.TheVariants.{Table};
 ghost use Rattle.sqlite_trees.specs.View.{IsClean};
@@ -10,16 +10,19 @@ ghost use Rattle.journal.specs.declared.state_row.FirstState.{FirstState as Firs
 ghost use Rattle.journal.specs.Rows.{value_rows};
 ghost use Rattle.journal.specs.StateRow.{state_row};
 ghost use Rattle.journal.specs.Tables.{Rewrites};
+ghost use Rattle.transaction_key.specs.TransactionKey.{key_place};
 
-use crate::contents::{EVENTS, HEADER, OBJECTS, STATES, TYPES};
+use crate::contents::{EVENTS, HEADER, OBJECTS, OUTCOMES, PREPARED, STATES, TYPES};
 use crate::entry::Entry;
 use crate::event_row::{EventRow, put_group, some_of};
-use crate::event_table::empty_events;
 use crate::header::{FORMAT, Header};
 use crate::journal_error::JournalError;
 use crate::more_rows::append_each;
+use crate::new_table::make_anew;
 use crate::object_row::TypeText;
+use crate::outcome_row::{KeyedOutcome, kept_at};
 use crate::row_places::rows_of;
+use crate::schema::{EVENT_SQL, OUTCOME_SQL, PREPARED_SQL};
 use crate::state_row::FirstState;
 use crate::table::{MOST_ROWS, append, read_all, read_from};
 use event_text::EventGroup;
@@ -28,6 +31,7 @@ use sqlite_trees::store::{Alter, Store};
 use sqlite_value::row::Row;
 use std::alloc::Global;
 use store_text::ObjectLine;
+use transaction_key::TransactionKey;
 
 /// What a store did, in the tables of a file, by way of a store of trees: what is written, and what of it
 /// no crash can take away.
@@ -143,6 +147,52 @@ impl<S: Store> Journal<S> {
     {
         self.store.commit()?;
         Ok(())
+    }
+
+    /// Keeps what became of a transaction at its key's place, and nothing else there. A crash may still take it away.
+    ///
+    /// # Errors
+    ///
+    /// `Foreign` where the file is of an older format, which the next life raises, and nothing changes; the file failed, or
+    /// memory was refused: the journal isn't to be used any more.
+    pub fn keep_outcome(&mut self, kept: &KeyedOutcome) -> Result<(), JournalError>
+        requires { IsJournal S.Store self.old }
+        ensures kept { OnOk result (IsJournal S.Store self.new) }
+        ensures written { OnOk result (Clean S.Store self.new → written S.Store self.new ≡ with_outcome (written S.Store self.old) kept.now) }
+        ensures durable { OnOk result (Clean S.Store self.new → durable S.Store self.new ≡ durable S.Store self.old) }
+        ensures header { self.new.header ≡ self.old.header }
+        ensures clean { Clean S.Store self.new → Clean S.Store self.old }
+        ensures crash { (db : Trees) → may_leave S.Store self.new db → may_leave S.Store self.old db }
+    {
+        if self.header.format < FORMAT {
+            return Err(JournalError::Foreign);
+        }
+        let (store, row) = (&mut self.store, &mut self.row);
+        append(store, OUTCOMES, kept.key.place(), kept, row)?;
+        Ok(())
+    }
+
+    /// What is kept at the place of this key: of its transaction, or of one whose key has the same place.
+    ///
+    /// # Errors
+    ///
+    /// As `types`.
+    pub fn outcome(
+        &mut self,
+        alloc: Global,
+        key: &TransactionKey,
+    ) -> Result<Option<KeyedOutcome>, JournalError>
+        requires { IsJournal S.Store self.old }
+        ensures found { IfOk result (λ found. Clean S.Store self.new → found ≡ (written S.Store self.old).outcomes (key_place key.now)) }
+        ensures kept { OnOk result (IsJournal S.Store self.new) }
+        ensures written { OnOk result (Clean S.Store self.new → written S.Store self.new ≡ written S.Store self.old) }
+        ensures durable { OnOk result (Clean S.Store self.new → durable S.Store self.new ≡ durable S.Store self.old) }
+        ensures header { self.new.header ≡ self.old.header }
+        ensures shows { OnOk result (ShowsCommit S.Store self.old → ShowsCommit S.Store self.new) }
+        ensures clean { Clean S.Store self.new → Clean S.Store self.old }
+        ensures crash { (db : Trees) → may_leave S.Store self.new db → may_leave S.Store self.old db }
+    {
+        kept_at(alloc, &mut self.store, key.place(), &mut self.row)
     }
 
     /// What the file says of itself.
@@ -293,7 +343,9 @@ impl<S: Store> Journal<S> {
     {
         read_all(alloc, &mut self.store, table, &mut self.row)
     }
+}
 
+impl<S: Alter> Journal<S> {
     /// Begins another life: its number, which is one more than the last one's, is written into the header, which
     /// is of the newest format then.
     ///
@@ -314,6 +366,7 @@ impl<S: Store> Journal<S> {
         let Some(life) = self.header.life.checked_add(1) else {
             return Err(JournalError::Full);
         };
+        self.raise_tables()?;
         let header = Header {
             format: FORMAT,
             life,
@@ -323,9 +376,29 @@ impl<S: Store> Journal<S> {
         self.header = header;
         Ok(life)
     }
-}
 
-impl<S: Alter> Journal<S> {
+    /// Makes the tables of a file of an older format anew that the newest one has otherwise: they have no row.
+    ///
+    /// # Errors
+    ///
+    /// The file failed, or memory was refused.
+    fn raise_tables(&mut self) -> Result<(), JournalError>
+        requires { IsJournal S.Store self.old }
+        ensures kept { OnOk result (IsJournal S.Store self.new) }
+        ensures written { OnOk result (Clean S.Store self.new → written S.Store self.new ≡ written S.Store self.old) }
+        ensures durable { OnOk result (Clean S.Store self.new → durable S.Store self.new ≡ durable S.Store self.old) }
+        ensures header { self.new.header ≡ self.old.header }
+        ensures clean { Clean S.Store self.new → Clean S.Store self.old }
+        ensures crash { (db : Trees) → may_leave S.Store self.new db → may_leave S.Store self.old db }
+    {
+        if self.header.format >= FORMAT {
+            return Ok(());
+        }
+        make_anew(&mut self.store, PREPARED, "prepared", PREPARED_SQL)?;
+        make_anew(&mut self.store, OUTCOMES, "outcome", OUTCOME_SQL)?;
+        Ok(())
+    }
+
     /// Begins another epoch, and another life with it: no event is left, and these are the objects' states.
     /// A crash before the next commit takes all of it away.
     ///
@@ -409,7 +482,7 @@ impl<S: Alter> Journal<S> {
     {
         let count = states.len() - objects.len();
         let (store, row) = (&mut self.store, &mut self.row);
-        empty_events(store)?;
+        make_anew(store, EVENTS, "event", EVENT_SQL)?;
         rewrite_states(store, &states[..count], row)?;
         append_each(store, STATES, count as u64, &states[count..], row)?;
         append_each(store, TYPES, known, types, row)?;
@@ -437,7 +510,7 @@ impl<S: Alter> Journal<S> {
         ensures clean { Clean S.Store self.new → Clean S.Store self.old }
         ensures crash { (db : Trees) → may_leave S.Store self.new db → may_leave S.Store self.old db }
     {
-        empty_events(&mut self.store)?;
+        make_anew(&mut self.store, EVENTS, "event", EVENT_SQL)?;
         rewrite_states(&mut self.store, states, &mut self.row)?;
         self.starts.clear();
         self.pending.clear();

@@ -10,18 +10,18 @@ ghost use Rattle.sqlite_trees.specs.View.{IsClean};
 ghost use Rattle.journal.specs.Journal.{Clean, IsJournal, IsOpen, ShowsCommit, durable, name_column, written};
 ghost use Rattle.journal.specs.Said.{contents};
 
-use crate::contents::{FileContents, HEADER, NAME, OBJECTS, STATES, TYPES};
+use crate::cells::is_text;
+use crate::contents::{FileContents, HEADER, NAME, OBJECTS, OUTCOMES, STATES, TYPES};
 use crate::entry::FilledEntry;
 use crate::found_file::is_table;
 use crate::journal::Journal;
 use crate::journal_error::JournalError;
 use crate::schema::TABLES;
-use crate::table::append;
+use crate::table::{append, has_no_rows};
 use object_trait::EventKind;
 use sqlite_trees::schema::Object;
 use sqlite_trees::store::{Alter, Shape, Store};
 use sqlite_value::row::Row;
-use sqlite_value::value::ValueRef;
 use std::alloc::{AllocError, Global};
 
 /// Makes the tables of a store.
@@ -92,21 +92,11 @@ fn has_none_named(objects: &Vec<Row>, name: &str) -> bool
     ensures { IsTrue result → AllByRecursion (λ r. column r name_column ≢ Text name.now) objects.now.items }
 {
     for object in objects {
-        if is_named_so(object, name) {
+        if is_text(object, NAME, name.as_bytes()) {
             return false;
         }
     }
     true
-}
-
-/// Whether an object has this name.
-fn is_named_so(object: &Row, name: &str) -> bool
-    ensures { column object.now name_column ≡ Text name.now → IsTrue result }
-{
-    match object.get(NAME) {
-        ValueRef::Text(text) => text == name.as_bytes(),
-        _ => false,
-    }
 }
 
 /// Writes the values of a table that is empty.
@@ -238,10 +228,14 @@ impl<S: Alter> Journal<S> {
         if let Err(error) = write_new(&mut store, said, &mut row) {
             return Err((error, store));
         }
-        let (journal, found) = Journal::open(alloc, store)?;
+        let (mut journal, found) = Journal::open(alloc, store)?;
         if !is_same(&found, said) {
             return Err((JournalError::Foreign, journal.into_store()));
         }
-        Ok(journal)
+        match has_no_rows(&mut journal.store, OUTCOMES, &mut journal.row) {
+            Ok(true) => Ok(journal),
+            Ok(false) => Err((JournalError::Foreign, journal.into_store())),
+            Err(error) => Err((error, journal.into_store())),
+        }
     }
 }

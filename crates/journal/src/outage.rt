@@ -5,7 +5,7 @@ ghost use Rattle.sqlite_trees.specs.Tree.{Trees};
 ghost use Rattle.sqlite_trees.specs.View.{IsClean};
 ghost use Rattle.journal.specs.Contents.{contents_of};
 ghost use Rattle.journal.specs.Journal.{Clean, IsJournal, IsNumbered, IsOpen, durable, may_leave, written};
-ghost use Rattle.journal.specs.Said.{contents};
+ghost use Rattle.journal.specs.Said.{contents_beside};
 
 use crate::contents::FileContents;
 use crate::journal::Journal;
@@ -22,8 +22,8 @@ pub fn restart<S: Alter + Reopen + Drop>(
     ensures clean { IfSome result (λ r. Clean S.Store r.0 → Clean S.Store journal) }
     ensures settled { IfSome result (λ r. Clean S.Store r.0 → written S.Store r.0 ≡ durable S.Store r.0) }
     ensures is_open { IfSome result (λ r. Clean S.Store r.0 → IsOpen S.Store r.0) }
-    ensures said { IfSome result (λ r. Clean S.Store r.0 → durable S.Store r.0 ≡ contents r.1) }
-    ensures found { IfSome result (λ r. Clean S.Store r.0 → (db : Trees) × may_leave S.Store journal db × (contents r.1 ≡ contents_of db)) }
+    ensures said { IfSome result (λ r. Clean S.Store r.0 → durable S.Store r.0 ≡ contents_beside (durable S.Store r.0).outcomes r.1) }
+    ensures found { IfSome result (λ r. Clean S.Store r.0 → (db : Trees) × may_leave S.Store journal db × (durable S.Store r.0 ≡ contents_of db)) }
 {
     let mut store = journal.into_store();
     if store.crash_and_reopen().is_err() {
@@ -44,8 +44,9 @@ pub fn commit_and_restart<S: Alter + Reopen + Drop>(
     requires journal { IsJournal S.Store journal }
     requires is_open { IsOpen S.Store journal }
     ensures found { IfSome result.1 (λ r. Clean S.Store r.0
-        → (contents r.1 ≡ written S.Store journal) ⊎ (contents r.1 ≡ durable S.Store journal)) }
-    ensures acknowledged { IfSome result.1 (λ r. Clean S.Store r.0 → IsTrue result.0 → contents r.1 ≡ written S.Store journal) }
+        → (durable S.Store r.0 ≡ written S.Store journal) ⊎ (durable S.Store r.0 ≡ durable S.Store journal)) }
+    ensures acknowledged { IfSome result.1 (λ r. Clean S.Store r.0 → IsTrue result.0 → durable S.Store r.0 ≡ written S.Store journal) }
+    ensures said { IfSome result.1 (λ r. Clean S.Store r.0 → durable S.Store r.0 ≡ contents_beside (durable S.Store r.0).outcomes r.1) }
 {
     let mut journal = journal;
     let is_committed = journal.commit().is_ok();

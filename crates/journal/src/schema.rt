@@ -8,8 +8,16 @@ use sqlite_trees::store::Shape;
 pub const EVENT_SQL: &str =
     "CREATE TABLE event (number INTEGER PRIMARY KEY, lines TEXT NOT NULL, events INTEGER NOT NULL)";
 
-/// Each table's name and the statement that makes it, in the order of their numbers. The last two are
-/// empty: they are for commits over several stores.
+/// The statement that makes the table of prepared transactions, which is empty.
+pub const PREPARED_SQL: &str =
+    "CREATE TABLE prepared (position INTEGER PRIMARY KEY, key TEXT NOT NULL, s INTEGER NOT NULL, n INTEGER NOT NULL, number INTEGER NOT NULL, until INTEGER NOT NULL)";
+
+/// The statement that makes the table of what became of transactions that have keys. Formats 1 to 5 have another one,
+/// which is empty.
+pub const OUTCOME_SQL: &str =
+    "CREATE TABLE outcome (place INTEGER PRIMARY KEY, key TEXT NOT NULL, how TEXT NOT NULL, replies TEXT NOT NULL)";
+
+/// Each table's name and the statement that makes it, in the order of their numbers.
 pub const TABLES: [(&str, &str); 7] = [
     ("event", EVENT_SQL),
     (
@@ -28,12 +36,6 @@ pub const TABLES: [(&str, &str); 7] = [
         "snapshot",
         "CREATE TABLE snapshot (x INTEGER PRIMARY KEY, state INTEGER NOT NULL)",
     ),
-    (
-        "prepared",
-        "CREATE TABLE prepared (gid TEXT NOT NULL, s INTEGER NOT NULL, n INTEGER NOT NULL)",
-    ),
-    (
-        "outcome",
-        "CREATE TABLE outcome (gid TEXT NOT NULL, kind TEXT NOT NULL)",
-    ),
+    ("prepared", PREPARED_SQL),
+    ("outcome", OUTCOME_SQL),
 ];

@@ -2,7 +2,7 @@
 use Rattle.std.specs.Prelude.{ℕ, Bool, ◌&&◌, nat_le, List, [], ◌∷◌, drop, length, ◌==◌, if◌then◌else◌, Some, None, Result, Ok, Err, codes}
 use Rattle.std.specs.List.{list_all, slice_split}
 use Rattle.type_table.specs.Name.{is_name}
-use Rattle.request_text.specs.Shapes.{◌>>=◌, has_words, has_words_from, request_name_at, number_at, object_at, asked_name_at, transaction_at, is_verb}
+use Rattle.request_text.specs.Shapes.{◌>>=◌, has_words, has_words_from, request_name_at, number_at, object_at, asked_name_at, transaction_at, is_keyed, is_verb, key_at, key_in_front, word_at}
 use Rattle.request_text.specs.Calls.{calls_said, has_calls, has_objects, objects_said}
 use Rattle.request_text.specs.declared.fault.RequestFault.{RequestFault}
 use Rattle.request_text.specs.declared.fault.RequestFault.TheVariants.{TooLong, NotAscii, BadTag, UnknownVerb}
@@ -10,7 +10,7 @@ use Rattle.request_text.specs.declared.request.Asked.{Asked}
 use Rattle.request_text.specs.declared.request.AskedCall.{AskedCall}
 use Rattle.request_text.specs.declared.request.ObjectWord.{ObjectWord}
 use Rattle.request_text.specs.declared.request.Request.{Request}
-use Rattle.request_text.specs.declared.request.Request.TheVariants.{Begin, Call, Would, Commit, Abort, Rollback, Kept, Peek, Committed, Do, Find, Objects, Types, Events, Stats, Extend, End}
+use Rattle.request_text.specs.declared.request.Request.TheVariants.{Begin, Call, Would, Commit, CommitUnder, Abort, Rollback, Kept, Peek, Committed, Do, DoUnder, Outcome, Find, Objects, Types, Events, Stats, Extend, End}
 
 -- ---- a request
 
@@ -36,11 +36,22 @@ would_of words = do
   x ← object_at words 2
   Ok (Would t x call)
 
-unfoldable pub commit_request_of : List (List ℕ) → Result Request RequestFault
-commit_request_of words = do
+-- with a key behind the transaction
+unfoldable pub keyed_commit_of : List (List ℕ) → Result Request RequestFault
+keyed_commit_of words = do
+  key ← key_at words 2
+  t ← transaction_at words 1
+  Ok (CommitUnder t key)
+
+-- alone
+unfoldable pub plain_commit_of : List (List ℕ) → Result Request RequestFault
+plain_commit_of words = do
   done ← has_words words 2
   t ← transaction_at words 1
   Ok (Commit t)
+
+unfoldable pub commit_request_of : List (List ℕ) → Result Request RequestFault
+commit_request_of words = if length words == 3 then keyed_commit_of words else plain_commit_of words
 
 unfoldable pub abort_request_of : List (List ℕ) → Result Request RequestFault
 abort_request_of words = do
@@ -86,6 +97,22 @@ calls_request_of words request = do
   done ← has_calls words
   Ok request
 
+-- the same, behind a key
+unfoldable pub keyed_do_of : List (List ℕ) → Result Request RequestFault
+keyed_do_of words = do
+  key ← key_in_front words
+  done ← has_calls (drop 1 words)
+  Ok (DoUnder key)
+
+unfoldable pub do_request_of : List (List ℕ) → Result Request RequestFault
+do_request_of words = if is_keyed (word_at words 1) then keyed_do_of words else calls_request_of words Do
+
+unfoldable pub outcome_request_of : List (List ℕ) → Result Request RequestFault
+outcome_request_of words = do
+  done ← has_words words 2
+  key ← key_at words 1
+  Ok (Outcome key)
+
 -- one to 64 objects
 unfoldable pub objects_request_of : List (List ℕ) → Result Request RequestFault
 objects_request_of words = do
@@ -98,13 +125,14 @@ question_of words =
     if is_verb words (codes "kept") then kept_of words
     else (if is_verb words (codes "peek") then calls_request_of words Peek
     else (if is_verb words (codes "committed") then objects_request_of words
+    else (if is_verb words (codes "outcome") then outcome_request_of words
     else (if is_verb words (codes "find") then find_of words
     else (if is_verb words (codes "objects") then alone words Objects
     else (if is_verb words (codes "types") then alone words Types
     else (if is_verb words (codes "events") then events_request_of words
     else (if is_verb words (codes "stats") then alone words Stats
     else (if is_verb words (codes "end") then alone words End
-    else Err UnknownVerb))))))))
+    else Err UnknownVerb)))))))))
 
 -- by the verb
 unfoldable pub request_of : List (List ℕ) → Result Request RequestFault
@@ -116,7 +144,7 @@ request_of words =
     else (if is_verb words (codes "abort") then abort_request_of words
     else (if is_verb words (codes "rollback") then rollback_request_of words
     else (if is_verb words (codes "extend") then extend_request_of words
-    else (if is_verb words (codes "do") then calls_request_of words Do
+    else (if is_verb words (codes "do") then do_request_of words
     else question_of words)))))))
 
 -- ---- a line
@@ -133,9 +161,14 @@ words_between line = slice_split (λ b. b == 32) line
 abbrev pub file_words : List ℕ → List (List ℕ)
 file_words line = drop 2 (words_between line)
 
--- the calls behind the verb
+-- those behind a key, where one stands in front
+abbrev pub behind_key : List (List ℕ) → List (List ℕ)
+behind_key [] = []
+behind_key (w ∷ words) = if is_keyed w then words else w ∷ words
+
+-- the calls behind the verb, or behind the key
 abbrev pub calls_asked : List ℕ → List AskedCall
-calls_asked line = calls_said (file_words line)
+calls_asked line = calls_said (behind_key (file_words line))
 
 -- the objects behind the verb
 abbrev pub objects_asked : List ℕ → List ObjectWord

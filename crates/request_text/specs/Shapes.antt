@@ -1,8 +1,9 @@
 -- What the words of a request are to be.
-use Rattle.std.specs.Prelude.{ℕ, Bool, nat_le, List, [], length, ◌∷◌, ◌==◌, if◌then◌else◌, slice_index_or, Option, Some, None, Result, Ok, Err}
+use Rattle.std.specs.Prelude.{ℕ, Bool, true, false, nat_le, List, [], length, ◌∷◌, ◌==◌, if◌then◌else◌, slice_index_or, Option, Some, None, Result, Ok, Err}
 use Rattle.std.specs.Str.{bytes_eq}
 use Rattle.type_table.specs.Name.{is_name}
 use Rattle.object_name.specs.ObjectName.{is_object_name}
+use Rattle.transaction_key.specs.TransactionKey.{is_transaction_key}
 use Rattle.request_text.specs.Numbers.{request_number, transaction_of}
 use Rattle.request_text.specs.declared.fault.RequestFault.{RequestFault}
 use Rattle.request_text.specs.declared.fault.RequestFault.TheVariants.{BadWords, BadNumber}
@@ -40,6 +41,28 @@ request_name_at words position = if is_name (word_at words position) then Ok (wo
 -- the name of an object at a position
 unfoldable pub asked_name_at : List (List ℕ) → ℕ → Result (List ℕ) RequestFault
 asked_name_at words position = if is_object_name (word_at words position) then Ok (word_at words position) else Err BadWords
+
+-- the key that a word is
+abbrev pub key_word : List ℕ → Result (List ℕ) RequestFault
+key_word w = if is_transaction_key w then Ok w else Err BadWords
+
+-- the key at a position
+unfoldable pub key_at : List (List ℕ) → ℕ → Result (List ℕ) RequestFault
+key_at words position = key_word (word_at words position)
+
+-- the word begins with `=`
+abbrev pub is_keyed : List ℕ → Bool
+is_keyed [] = false
+is_keyed (b ∷ w) = b == 61
+
+-- the key behind it
+abbrev pub key_behind : List ℕ → Result (List ℕ) RequestFault
+key_behind [] = Err BadWords
+key_behind (b ∷ w) = if b == 61 then key_word w else Err BadWords
+
+-- that of the second word
+unfoldable pub key_in_front : List (List ℕ) → Result (List ℕ) RequestFault
+key_in_front words = key_behind (word_at words 1)
 
 -- an object by its number
 abbrev pub number_word : Option ℕ → Result ObjectWord RequestFault

@@ -97,7 +97,7 @@ pub fn objects_said(alloc: Global, words: &[&[u8]]) -> Result<Vec<ObjectWord>, A
 }
 
 /// What comes behind the first word.
-fn behind_verb<'a, 'b>(words: &'a [&'b [u8]]) -> &'a [&'b [u8]]
+pub fn behind_verb<'a, 'b>(words: &'a [&'b [u8]]) -> &'a [&'b [u8]]
     ensures { map (λ w. w.now) result.now ≡ drop 1 (map (λ w. w.now) words.now) }
 {
     match words {

@@ -1,13 +1,14 @@
 //! The requests, by their verbs.
 
 ghost use Rattle.std.specs.Prelude.{◌≡◌, map};
-ghost use Rattle.request_text.specs.Requests.{request_of, question_of, alone, call_request_of, would_of, commit_request_of, abort_request_of, rollback_request_of, extend_request_of, calls_request_of, objects_request_of, kept_of, find_of, events_request_of};
+ghost use Rattle.request_text.specs.Requests.{request_of, question_of, alone, call_request_of, would_of, commit_request_of, keyed_commit_of, plain_commit_of, keyed_do_of, do_request_of, outcome_request_of, abort_request_of, rollback_request_of, extend_request_of, calls_request_of, objects_request_of, kept_of, find_of, events_request_of};
 
-use crate::calls::{has_calls, has_objects};
+use crate::calls::{behind_verb, has_calls, has_objects};
 use crate::fault::RequestFault;
 use crate::request::Request;
 use crate::shapes::{
-    asked_name_at, at_least, exactly, is_verb, name_at, number_at, object_at, transaction_at,
+    asked_name_at, at_least, exactly, is_keyed, is_verb, key_at, key_in_front, name_at, number_at,
+    object_at, transaction_at, word,
 };
 
 /// The request of these words.
@@ -30,7 +31,7 @@ pub fn request_of(words: &[&[u8]]) -> Result<Request, RequestFault>
     } else if is_verb(words, "extend") {
         extend_of(words)
     } else if is_verb(words, "do") {
-        calls_of(words, Request::Do)
+        do_of(words)
     } else {
         question_of(words)
     }
@@ -47,6 +48,8 @@ fn question_of(words: &[&[u8]]) -> Result<Request, RequestFault>
         calls_of(words, Request::Peek)
     } else if is_verb(words, "committed") {
         objects_of(words)
+    } else if is_verb(words, "outcome") {
+        outcome_of(words)
     } else if is_verb(words, "find") {
         find_of(words)
     } else if is_verb(words, "objects") {
@@ -98,9 +101,28 @@ fn would_of(words: &[&[u8]]) -> Result<Request, RequestFault>
 fn commit_of(words: &[&[u8]]) -> Result<Request, RequestFault>
     ensures { result ≡ commit_request_of (map (λ w. w.now) words.now) }
 {
+    if words.len() == 3 {
+        return keyed_commit_of(words);
+    }
+    plain_commit_of(words)
+}
+
+#[tactic(auto, unfolding(crate::specs::Requests::plain_commit_of))]
+fn plain_commit_of(words: &[&[u8]]) -> Result<Request, RequestFault>
+    ensures { result ≡ plain_commit_of (map (λ w. w.now) words.now) }
+{
     exactly(words, 2)?;
     let t = transaction_at(words, 1)?;
     Ok(Request::Commit { t })
+}
+
+#[tactic(auto, unfolding(crate::specs::Requests::keyed_commit_of))]
+fn keyed_commit_of(words: &[&[u8]]) -> Result<Request, RequestFault>
+    ensures { result ≡ keyed_commit_of (map (λ w. w.now) words.now) }
+{
+    let key = key_at(words, 2)?;
+    let t = transaction_at(words, 1)?;
+    Ok(Request::CommitUnder { t, key })
 }
 
 #[tactic(auto, unfolding(crate::specs::Requests::abort_request_of))]
@@ -128,6 +150,34 @@ fn extend_of(words: &[&[u8]]) -> Result<Request, RequestFault>
 {
     at_least(words, 3)?;
     Ok(Request::Extend)
+}
+
+#[tactic(auto, unfolding(crate::specs::Requests::do_request_of))]
+fn do_of(words: &[&[u8]]) -> Result<Request, RequestFault>
+    ensures { result ≡ do_request_of (map (λ w. w.now) words.now) }
+{
+    if is_keyed(word(words, 1)) {
+        return keyed_do_of(words);
+    }
+    calls_of(words, Request::Do)
+}
+
+#[tactic(auto, unfolding(crate::specs::Requests::keyed_do_of))]
+fn keyed_do_of(words: &[&[u8]]) -> Result<Request, RequestFault>
+    ensures { result ≡ keyed_do_of (map (λ w. w.now) words.now) }
+{
+    let key = key_in_front(words)?;
+    has_calls(behind_verb(words))?;
+    Ok(Request::DoUnder { key })
+}
+
+#[tactic(auto, unfolding(crate::specs::Requests::outcome_request_of))]
+fn outcome_of(words: &[&[u8]]) -> Result<Request, RequestFault>
+    ensures { result ≡ outcome_request_of (map (λ w. w.now) words.now) }
+{
+    exactly(words, 2)?;
+    let key = key_at(words, 1)?;
+    Ok(Request::Outcome { key })
 }
 
 #[tactic(auto, unfolding(crate::specs::Requests::calls_request_of))]

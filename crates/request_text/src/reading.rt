@@ -2,12 +2,13 @@
 
 ghost use Rattle.std.specs.Prelude.{◌≡◌, map, IfOk, OnOk};
 ghost use Rattle.std.specs.List.{list_all};
-ghost use Rattle.request_text.specs.Requests.{asked_by, calls_asked, objects_asked, file_words, is_ascii, tagged_of, untagged, words_between};
+ghost use Rattle.request_text.specs.Requests.{asked_by, behind_key, calls_asked, objects_asked, file_words, is_ascii, tagged_of, untagged, words_between};
 
 use crate::calls::{calls_said, objects_said};
 use crate::fault::RequestFault;
 use crate::line::request_of;
 use crate::request::{Asked, AskedCall, ObjectWord};
+use crate::shapes::is_keyed;
 use std::alloc::{AllocError, Global};
 use type_table::Name;
 
@@ -47,7 +48,7 @@ pub fn file_words(alloc: Global, line: &[u8]) -> Result<Vec<&[u8]>, AllocError>
     }
 }
 
-/// The calls behind the tag and the verb of a line, of `peek` and of `do`.
+/// The calls behind the tag and the verb of a line, of `peek` and of `do`, where a key may stand before them.
 ///
 /// # Errors
 ///
@@ -56,7 +57,17 @@ pub fn calls_asked(alloc: Global, line: &[u8]) -> Result<Vec<AskedCall>, AllocEr
     ensures { IfOk result (λ calls. calls.items ≡ calls_asked line.now) }
 {
     let words = file_words(alloc, line)?;
-    calls_said(alloc, &words)
+    calls_said(alloc, behind_key(&words))
+}
+
+/// What comes behind a key, where one stands in front.
+fn behind_key<'a, 'b>(words: &'a [&'b [u8]]) -> &'a [&'b [u8]]
+    ensures { map (λ w. w.now) result.now ≡ behind_key (map (λ w. w.now) words.now) }
+{
+    match words {
+        [first, rest @ ..] if is_keyed(first) => rest,
+        _ => words,
+    }
 }
 
 /// The objects behind them, of `committed`.

@@ -1,5 +1,6 @@
 use crate::fault::RequestFault;
 use object_name::ObjectName;
+use transaction_key::TransactionKey;
 use type_table::Name;
 
 /// What a transaction is called outside of its store: the life of the store that began it, and its number
@@ -41,6 +42,11 @@ pub enum Request {
     Commit {
         t: TransactionName,
     },
+    /// A commit under a key.
+    CommitUnder {
+        t: TransactionName,
+        key: TransactionKey,
+    },
     Abort {
         t: TransactionName,
     },
@@ -57,6 +63,14 @@ pub enum Request {
     Committed,
     /// A whole transaction is asked for: `calls_asked` are its calls.
     Do,
+    /// One under a key: `calls_asked` are its calls.
+    DoUnder {
+        key: TransactionKey,
+    },
+    /// What became of the transaction that has this key is asked for.
+    Outcome {
+        key: TransactionKey,
+    },
     /// The number is asked of the object that has this name.
     Find {
         name: ObjectName,

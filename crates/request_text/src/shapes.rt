@@ -1,12 +1,13 @@
 //! What the words of a request are to be.
 
 ghost use Rattle.std.specs.Prelude.{◌≡◌, map};
-ghost use Rattle.request_text.specs.Shapes.{word_at, has_words, has_words_from, number_at, transaction_at, request_name_at, asked_name_at, object_word, object_at, is_verb};
+ghost use Rattle.request_text.specs.Shapes.{word_at, has_words, has_words_from, number_at, transaction_at, request_name_at, asked_name_at, key_at, key_in_front, key_word, object_word, object_at, is_keyed, is_verb};
 
 use crate::fault::RequestFault;
 use crate::number::{number_of, transaction_of};
 use crate::request::{ObjectWord, TransactionName};
 use object_name::ObjectName;
+use transaction_key::TransactionKey;
 use type_table::Name;
 
 /// Whether the first word is this verb.
@@ -63,6 +64,42 @@ pub fn asked_name_at(words: &[&[u8]], position: usize) -> Result<ObjectName, Req
     }
 }
 
+/// The key at a position; else `BadWords`.
+#[tactic(auto, unfolding(crate::specs::Shapes::key_at))]
+pub fn key_at(words: &[&[u8]], position: usize) -> Result<TransactionKey, RequestFault>
+    ensures { result ≡ key_at (map (λ w. w.now) words.now) position }
+{
+    key_word(word(words, position))
+}
+
+/// The key behind `=` in the second word; else `BadWords`.
+#[tactic(auto, unfolding(crate::specs::Shapes::key_in_front))]
+pub fn key_in_front(words: &[&[u8]]) -> Result<TransactionKey, RequestFault>
+    ensures { result ≡ key_in_front (map (λ w. w.now) words.now) }
+{
+    match word(words, 1) {
+        [b'=', key @ ..] => key_word(key),
+        _ => Err(RequestFault::BadWords),
+    }
+}
+
+/// The key that a word is; else `BadWords`.
+fn key_word(word: &[u8]) -> Result<TransactionKey, RequestFault>
+    ensures { result ≡ key_word word.now }
+{
+    match TransactionKey::from_bytes(word) {
+        Some(key) => Ok(key),
+        None => Err(RequestFault::BadWords),
+    }
+}
+
+/// Whether a word begins with `=`, as a key in front of calls does.
+pub fn is_keyed(word: &[u8]) -> bool
+    ensures { result ≡ is_keyed word.now }
+{
+    matches!(word, [b'=', ..])
+}
+
 /// The object at a position, a number or `@` and a name; else `BadNumber`.
 #[tactic(auto, unfolding(crate::specs::Shapes::object_at))]
 pub fn object_at(words: &[&[u8]], position: usize) -> Result<ObjectWord, RequestFault>
@@ -110,7 +147,7 @@ pub fn transaction_at(words: &[&[u8]], position: usize) -> Result<TransactionNam
 }
 
 /// The word at a position, which is empty where there are fewer.
-fn word<'a>(words: &[&'a [u8]], position: usize) -> &'a [u8]
+pub fn word<'a>(words: &[&'a [u8]], position: usize) -> &'a [u8]
     ensures { result.now ≡ word_at (map (λ w. w.now) words.now) position }
 {
     match words.get(position) {

@@ -4,7 +4,7 @@ ghost use Rattle.std.specs.Prelude.{◌≡◌, ◌∷◌, [], codes, Some, None,
 ghost use Rattle.request_text.specs.Numbers.{request_number, transaction_of};
 ghost use Rattle.request_text.specs.Requests.{asked_by, calls_asked, objects_asked, file_words, untagged, words_between};
 ghost use Rattle.request_text.specs.declared.fault.RequestFault.TheVariants.{NotAscii, BadTag, UnknownVerb, BadWords, BadNumber};
-ghost use Rattle.request_text.specs.declared.request.Request.TheVariants.{Begin, Call, Kept, Peek, Committed, Do, Find, Extend};
+ghost use Rattle.request_text.specs.declared.request.Request.TheVariants.{Begin, Call, Commit, CommitUnder, Kept, Peek, Committed, Do, DoUnder, Outcome, Find, Extend};
 ghost use Rattle.request_text.specs.declared.request.ObjectWord.TheVariants.{Number, Name};
 
 pub fn numbers_are_read()
@@ -55,6 +55,20 @@ pub fn lines_that_ask_for_several()
 pub fn several_are_read()
     ensures calls { calls_asked (codes "7 do 0 inc:1 @A12 size") ≡ record { x = Number 0; call = codes "inc:1" } ∷ record { x = Name (codes "A12"); call = codes "size" } ∷ [] }
     ensures objects { objects_asked (codes "7 committed 1 @A12 1") ≡ Number 1 ∷ Name (codes "A12") ∷ Number 1 ∷ [] }
+{}
+
+/// A commit and a whole transaction may have a key.
+pub fn lines_that_have_keys()
+    ensures plain { asked_by (codes "7 commit 3.17") ≡ record { tag = Some (codes "7"); request = Ok (Commit (record { life = 3; number = 17 })) } }
+    ensures commit { asked_by (codes "7 commit 3.17 order:4711") ≡ record { tag = Some (codes "7"); request = Ok (CommitUnder (record { life = 3; number = 17 }) (codes "order:4711")) } }
+    ensures no_key { asked_by (codes "7 commit 3.17 a/b") ≡ record { tag = Some (codes "7"); request = Err BadWords } }
+    ensures key_before_number { asked_by (codes "7 commit 317 a/b") ≡ record { tag = Some (codes "7"); request = Err BadWords } }
+    ensures bad_number { asked_by (codes "7 commit 317 order:4711") ≡ record { tag = Some (codes "7"); request = Err BadNumber } }
+    ensures whole { asked_by (codes "7 do =order:4711 0 inc:1") ≡ record { tag = Some (codes "7"); request = Ok (DoUnder (codes "order:4711")) } }
+    ensures nothing { asked_by (codes "7 do =order:4711") ≡ record { tag = Some (codes "7"); request = Err BadWords } }
+    ensures empty_key { asked_by (codes "7 do = 0 inc:1") ≡ record { tag = Some (codes "7"); request = Err BadWords } }
+    ensures outcome { asked_by (codes "7 outcome order:4711") ≡ record { tag = Some (codes "7"); request = Ok (Outcome (codes "order:4711")) } }
+    ensures calls { calls_asked (codes "7 do =order:4711 0 inc:1") ≡ record { x = Number 0; call = codes "inc:1" } ∷ [] }
 {}
 
 /// An object is said by its number, or by `@` and its name.

@@ -58,7 +58,7 @@ begins-epoch g file said waits ended last now life reached says sound shows clea
     record {
       events = next-events waits (aborted last.store) now.store c d is;
       states = next-states waits (aborted last.store) now.store c d is;
-      says = says-next-then waits said c d (says.0, says.1) (next-says waits (aborted last.store) now.store c d is);
+      says = says-next-then waits said c d (says.0, says.1, says.2) (next-says waits (aborted last.store) now.store c d is);
       id = next-ids waits (aborted last.store) now.store c d is ∙ reached-ids reached;
       life = (now.journal.header, headers, lives);
     }

@@ -6,6 +6,7 @@ use Rattle.std.specs.Io.KnownBytes.{Appends, Consumes, IsAtEnd}
 use Rattle.std.specs.Prelude.{MatchResult, OnErr, OnOk}
 use Rattle.sqlite_trees.specs.declared.store.Store.{Ghosts}
 use Rattle.sqlite_trees.specs.Tree.{Trees}
+use Rattle.journal.specs.Contents.{Contents}
 use Rattle.journal.specs.Journal.{Clean, ShowsCommit, may_leave, written}
 use Rattle.durable_store.specs.declared.durable.Durable.{Durable}
 use Rattle.durable_store.specs.Durable.{IsDurable}
@@ -83,7 +84,7 @@ group-lines {S} {g} {began} mid new bytes none so_far serves left first second s
     let more = serves has.told has.seen has.served in
     let before = at-start none has (so_far.safe shows (first.clean (second.clean clean))) in
     let done = more.served in
-    lines-group (began_at g began) mid.session new (drop more.count bytes) mid.answers.items done.said mid.end done.asked done.lasts.sound done.lasts.named second settled same done.serves
+    lines-group (began_at g began) mid.session new (drop more.count bytes) mid.answers.items done.said mid.end done.says done.asked done.lasts.sound done.lasts.named second settled same done.serves
     (lines-settled mid new.store bytes serves left crash has.told has.seen has.served before more.count done) clean
 
 -- a group was answered
@@ -96,7 +97,7 @@ pub tells-group : {S : Type 0} {g : Ghosts S} {began : Session S} {given taken g
     → (Clean g new.session.store.journal → written g new.session.store.journal ≡ written g mid.session.store.journal) → LeavesWritten g mid.session.store new.session.store
     → new.line ≡ mid.line → new.end ≡ mid.end → new.answers.items ≡ [] → TellsSafely g began given taken new given_new taken_new
 tells-group mid new given_new taken_new bytes none so_far serves left consumed appended first second waits lets settled same crash line ended clear = record {
-  tells = group-told mid new given_new taken_new bytes none so_far.tells serves consumed appended second waits lets line ended clear;
+  tells = group-told mid new given_new taken_new bytes none so_far.tells serves consumed appended second waits lets line ended clear (λ now. ap (λ (x : Contents). x.outcomes) (same now));
   safe = λ shows clean. group-lines mid new.session bytes none so_far serves left first second settled same crash shows clean;
 }
 

@@ -37,7 +37,7 @@ use Rattle.serving.proofs.Places.{Lasts}
 
 -- ---- any lasting answer
 
-it-lasts : (line : List ℕ) (a : Answered) → is_lasting a.answer ≡ true → Lasts (IsIt line a)
+pub it-lasts : (line : List ℕ) (a : Answered) → is_lasting a.answer ≡ true → Lasts (IsIt line a)
 it-lasts line a lasting l x it = ap (λ (y : Answered). is_lasting y.answer) it.1 ∙ lasting
 
 pub answers-found : {S : Type 0} (g : Ghosts S) (b : Began) (last : List (List ℕ) → Type 0) (seen rest half : List ℕ) (lines : List (List ℕ)) (answers : List Answered) (now : Durable S) → AreLines seen lines half

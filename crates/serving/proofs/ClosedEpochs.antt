@@ -19,6 +19,7 @@ use Rattle.durable_store.specs.Recovered.{IsStoreOf}
 use Rattle.serving.specs.Archives.{KeepsAtLeast, KeepsEpochs, KeepsText, KeptHistory, text_of_epoch, with_kept}
 use Rattle.serving.specs.declared.extension.Extension.{Extension}
 use Rattle.serving.specs.EpochEnd.{LeavesClosed, LeavesEnd, LeavesNext}
+use Rattle.serving.specs.Server.{KeepsAll}
 use Rattle.serving.specs.Epochs.{LeavesEpochs, Reaches, aborted}
 use Rattle.serving.specs.Follows.{LeavesWritten}
 use Rattle.serving.specs.Requests.{LetsGo}
@@ -79,11 +80,11 @@ written-stays g old mid new crash stay db left = crash db (stay db left)
 
 -- what was open is aborted, and then all of it may become durable
 pub closed-left : {S : Type 0} (g : Ghosts S) (old mid new : Durable S) → mid.store ≡ aborted old.store → mid.journal.header ≡ old.journal.header → IsDurable g mid → (Clean g mid.journal → Clean g old.journal)
-    → OutcomesStay g old mid → LeavesWritten g mid new → LeavesClosed g old new
-closed-left g old mid new aborts header sound clean stay crash db left = elim (crash db left) [
+    → KeepsAll g old mid → OutcomesStay g old mid → LeavesWritten g mid new → LeavesClosed g old new
+closed-left g old mid new aborts header sound clean keeps stay crash db left = elim (crash db left) [
   | inl it ↦
       let store : IsStoreOf (contents_of db) mid.store = subst (λ (c : Contents). IsStoreOf c mid.store) (sym it.2) (is-store-of g mid sound it.0) in
-      inl (clean it.0, it.1, (subst (λ (s : Stored). IsStoreOf (contents_of db) s) aborts store, it.3 ∙ ap (λ (h : Header). h ∷ []) header))
+      inl (clean it.0, it.1, (subst (λ (s : Stored). IsStoreOf (contents_of db) s) aborts store, it.3 ∙ ap (λ (h : Header). h ∷ []) header, ap (λ (c : Contents). c.outcomes) it.2 ∙ keeps it.0))
   | inr before ↦ inr (stay db before)
 ]
 
@@ -98,8 +99,8 @@ store-as s t c lets is =
 
 -- and then the file may begin anew
 pub end-left : {S : Type 0} (g : Ghosts S) (waits : Option Extension) (old mid new : Durable S) → LetsGo (aborted old.store) mid.store → mid.journal.header ≡ old.journal.header → IsDurable g mid → (Clean g mid.journal → Clean g old.journal)
-    → LeavesClosed g old mid → LeavesNext g waits mid new → LeavesEnd g waits old new
-end-left g waits old mid new lets header sound clean crash anew db left = elim (anew db left) [
+    → KeepsAll g old mid → LeavesClosed g old mid → LeavesNext g waits mid new → LeavesEnd g waits old new
+end-left g waits old mid new lets header sound clean keeps crash anew db left = elim (anew db left) [
   | inl it ↦
       let (s, next) = it.2 in
       inl (
@@ -108,7 +109,7 @@ end-left g waits old mid new lets header sound clean crash anew db left = elim (
         inr (record {
           before = written g mid.journal;
           next = s;
-          over = (store-as (aborted old.store) mid.store (written g mid.journal) lets (is-store-of g mid sound it.0), it.3 ∙ ap (λ (h : Header). h ∷ []) header);
+          over = (store-as (aborted old.store) mid.store (written g mid.journal) lets (is-store-of g mid sound it.0), it.3 ∙ ap (λ (h : Header). h ∷ []) header, keeps it.0);
           is = next-file-as waits (aborted old.store) mid.store s (written g mid.journal) (contents_of db) lets next;
         }),
       )

@@ -11,7 +11,7 @@ use Rattle.serving.specs.declared.session.Session.{Session}
 use Rattle.serving.specs.declared.server.Server.{Server}
 use Rattle.serving.specs.Requests.{LetsGo}
 use Rattle.serving.specs.Served.{Serves}
-use Rattle.serving.specs.Server.{StaysInEpoch, HasServed, ServesBytes}
+use Rattle.serving.specs.Server.{KeepsAll, StaysInEpoch, HasServed, ServesBytes}
 use Rattle.durable_store.specs.Durable.{IsDurable}
 use Rattle.serving.specs.Group.{HasTold, IsUnasked, StopsTelling}
 use Rattle.serving.specs.Told.{AppendsPart, answers_text}
@@ -100,9 +100,9 @@ abbrev pub group-told : {S : Type 0} {g : Ghosts S} {began : Session S} {given t
     → ((told : List Answered) (seen : List ℕ) → HasServed g began told seen old → ServesBytes g began told seen bytes mid)
     → Consumes given_now given_new bytes → Appends taken_now taken_new (answers_text mid.answers.items)
     → StaysInEpoch g mid.session new.session → new.session.waiting ≡ mid.session.waiting → LetsGo mid.session.store.store new.session.store.store
-    → new.line ≡ mid.line → new.end ≡ mid.end → new.answers.items ≡ []
+    → new.line ≡ mid.line → new.end ≡ mid.end → new.answers.items ≡ [] → KeepsAll g mid.session.store new.session.store
     → HasTold g began given taken new given_new taken_new
-group-told {S} {g} {began} {given} {taken} {given_now} {taken_now} {old} mid new given_new taken_new bytes none has serves consumed appended stays waits lets line ended clear =
+group-told {S} {g} {began} {given} {taken} {given_now} {taken_now} {old} mid new given_new taken_new bytes none has serves consumed appended stays waits lets line ended clear keyless =
     let more = serves has.told has.seen has.served in
     let served = more.served in
     record {
@@ -119,7 +119,7 @@ group-told {S} {g} {began} {given} {taken} {given_now} {taken_now} {old} mid new
         kept = ap (λ v. v.items) line ∙ served.kept;
         lasts = lasts-stays served.lasts stays;
         said = served.said;
-        says = λ now. says-then served.said (written g mid.session.store.journal) (written g new.session.store.journal) (served.says (stays.clean now)) (more-same (stays.follows now));
+        says = λ now. says-then served.said (written g mid.session.store.journal) (written g new.session.store.journal) (served.says (stays.clean now)) (more-same (stays.follows now) (keyless now));
         serves =
             let so_far = serves-weaker stays.clean served.serves in
             rw (lets, ended, stays.life, waits, ap (λ xs. (has.told ++ mid.answers.items) ++ xs) clear ∙ append-nil (has.told ++ mid.answers.items))
@@ -145,7 +145,7 @@ told-none {S} {g} given taken s sound fresh = record {
     kept = fresh.line;
     lasts = lasts-nowhere s.session sound fresh.named;
     said = written g s.session.store.journal;
-    says = λ now. (refl, refl);
+    says = λ now. (refl, refl, refl);
     serves = rw (fresh.answers, fresh.end, fresh.none_waits) (Serves.none s.session.store.store);
   };
   appended = Appends-nil taken;

@@ -17,6 +17,7 @@ use Rattle.attempts.specs.declared.outcome.Attempt.TheVariants as attempt
 use Rattle.attempts.specs.Commands.{CallAt}
 use Rattle.attempts.specs.Answers.{AttemptAnswers}
 use Rattle.store_text.specs.declared.line.ObjectLine.{ObjectLine}
+use Rattle.journal.specs.declared.outcome_row.Outcome.TheVariants as outcome
 use Rattle.journal.specs.Contents.{Contents}
 use Rattle.request_text.specs.Requests.{asked_by, calls_asked, objects_asked}
 use Rattle.request_text.specs.declared.fault.RequestFault.{RequestFault}
@@ -28,6 +29,10 @@ use Rattle.serving.specs.declared.answer_line.AnswerLine.{AnswerLine}
 use Rattle.serving.specs.declared.answer_line.AnswerLine.TheVariants.{Fault, NothingSeen, Refused, Seen, SeenStates, Unseen}
 use Rattle.serving.specs.declared.answer_line.Answered.{Answered}
 use Rattle.serving.specs.Does.{is_epoch_full}
+use Rattle.durable_store.specs.declared.keyed.Keyed.{Keyed}
+use Rattle.durable_store.specs.declared.keyed.Keyed.TheVariants as keyed
+use Rattle.durable_store.specs.declared.keyed.Unfinished.{Unfinished}
+use Rattle.durable_store.specs.Keys.{AttemptsUnder, CommitsUnder}
 use Rattle.serving.specs.Requests.{DoesRequest, LetsGo}
 use Rattle.serving.specs.Served.{IsAnswered}
 use Rattle.serving.specs.Several.{DoesCommitted, DoesPeek}
@@ -75,17 +80,33 @@ attempt-grows old calls (attempt.Done ks) new done = (_, ap (λ (s : Stored). s.
 attempt-grows old calls (attempt.Ended at how) new ended = (_, ap (λ (s : Stored). s.history) ended.events, ap (λ (s : Stored). s.types) ended.events)
 attempt-grows old calls (attempt.NotBegun refusal) new none = same-grows old new none.1
 
+commits-under-grow : (old : Stored) (t : ℕ) (came : Keyed Refusal) (new : Stored) → CommitsUnder old t came new → Grows old new
+commits-under-grow old t (keyed.Done kept) new did = steps-grow old 0 (command.Commit t) (Ok (tt {0})) new did.0
+commits-under-grow old t (keyed.Undone refusal) new did = steps-grow {T = Unit {0}} old 0 (command.Commit t) (Err refusal) new did
+commits-under-grow old t (keyed.Known (outcome.Committed replies)) new did = steps-grow old 0 (command.Abort t) did.0 new did.1
+commits-under-grow old t (keyed.Known outcome.Aborted) new did = same-grows old new did
+commits-under-grow old t keyed.Taken new did = same-grows old new did
+
+attempts-under-grow : (old : Stored) (calls : List CallAt) (came : Keyed Unfinished) (new : Stored) → AttemptsUnder old calls came new → Grows old new
+attempts-under-grow old calls (keyed.Done kept) new did = attempt-grows old calls did.0 new did.1.1
+attempts-under-grow old calls (keyed.Undone why) new did = attempt-grows old calls did.0 new did.1.1
+attempts-under-grow old calls (keyed.Known known) new did = same-grows old new did
+attempts-under-grow old calls keyed.Taken new did = same-grows old new did
+
 does-grow : (clean : Type 0) (most life : ℕ) (c : Contents) (line : List ℕ) (old : Stored) (r : Request) (answer : AnswerLine) (new : Stored) → DoesRequest clean most life c line old r answer new → Grows old new
 does-grow clean most life c line old request.Begin answer new does = either (is_epoch_full most old) does (λ p. same-grows old new p.1) (λ p. may-grow old 0 command.Begin p.0 new p.1)
 does-grow clean most life c line old (request.Call t x name) answer new does = either (t.life == life) does.2 (λ p. may-grow old 0 (command.Call t.number does.0 name) p.0 new p.1) (λ p. same-grows old new p.1)
 does-grow clean most life c line old (request.Would t x name) answer new does = either (t.life == life) does.2 (λ p. same-grows old new p.3) (λ p. same-grows old new p.1)
 does-grow clean most life c line old (request.Commit t) answer new does = either (t.life == life) does (λ p. steps-grow old 0 (command.Commit t.number) p.0 new p.1) (λ p. same-grows old new p.1)
+does-grow clean most life c line old (request.CommitUnder t key) answer new does = either (t.life == life) does (λ p. commits-under-grow old t.number p.0 new p.2) (λ p. same-grows old new p.3)
 does-grow clean most life c line old (request.Abort t) answer new does = either (t.life == life) does (λ p. steps-grow old 0 (command.Abort t.number) p.0 new p.1) (λ p. same-grows old new p.1)
 does-grow clean most life c line old (request.Rollback t count) answer new does = either (t.life == life) does (λ p. may-grow old 0 (command.Rollback t.number count) p.0 new p.1) (λ p. same-grows old new p.1)
 does-grow clean most life c line old (request.Kept x) answer new does = same-grows old new does.2.0
 does-grow clean most life c line old request.Peek answer new does = same-grows old new (peek-same clean answer life c.objects old (calls_asked line) new does)
 does-grow clean most life c line old request.Committed answer new does = same-grows old new (states-same clean answer life c.objects old (objects_asked line) new does)
 does-grow clean most life c line old request.Do answer new does = either (is_epoch_full most old) does (λ p. same-grows old new p.1) (λ it. attempt-grows old it.made it.came new it.answers)
+does-grow clean most life c line old (request.DoUnder key) answer new does = either (is_epoch_full most old) does (λ p. same-grows old new p.3) (λ p. attempts-under-grow old p.0 p.2 new p.4)
+does-grow clean most life c line old (request.Outcome key) answer new does = same-grows old new does.3
 does-grow clean most life c line old (request.Find name) answer new does = same-grows old new does.0
 does-grow clean most life c line old request.Objects answer new does = lets-grow old new does.1
 does-grow clean most life c line old request.Types answer new does = lets-grow old new does.1

@@ -31,7 +31,17 @@ use Rattle.serving.specs.declared.answer_line.AnswerLine.{AnswerLine}
 use Rattle.serving.specs.declared.answer_line.AnswerLine.TheVariants.{Committed, Completed, Done, Events, Fault, NotAdded, Nothing, NothingSeen, Objects, Refused, Seen, SeenStates, State, Types, Unseen}
 use Rattle.serving.specs.declared.answer_line.Answered.{Answered}
 use Rattle.serving.specs.declared.extension.Extension.{Extension}
-use Rattle.serving.specs.Does.{begin_answer, call_answer, done_or, is_epoch_full, op_of_object, reply_of}
+use Rattle.durable_store.specs.Keys.{op_of_object}
+use Rattle.serving.specs.Does.{begin_answer, call_answer, done_or, is_epoch_full, reply_of}
+use Rattle.journal.specs.declared.outcome_row.Outcome.{Outcome}
+use Rattle.journal.specs.declared.outcome_row.Outcome.TheVariants as outcome
+use Rattle.durable_store.specs.declared.keyed.Keyed.{Keyed}
+use Rattle.durable_store.specs.declared.keyed.Keyed.TheVariants as keyed
+use Rattle.durable_store.specs.declared.keyed.KeyState.{KeyState}
+use Rattle.durable_store.specs.declared.keyed.KeyState.TheVariants as state
+use Rattle.durable_store.specs.declared.keyed.Unfinished.{Unfinished}
+use Rattle.durable_store.specs.declared.keyed.Unfinished.TheVariants as unfinished
+use Rattle.serving.specs.Keys.{commit_under_answer, committed_before, do_under_answer, done_before, draining_under, not_open_under}
 use Rattle.serving.specs.NextEpoch.{MayWait, is_not_added, limit_while}
 use Rattle.serving.specs.Requests.{DoesRequest, found_answer, TellsEvents, TellsObjects, TellsTypes, events_from}
 use Rattle.serving.specs.Served.{IsAnswered, Serves}
@@ -109,17 +119,51 @@ turn-attempt s life calls (attempt.Done ks) answer tells = turn-replies (replies
 turn-attempt s life calls (attempt.Ended at how) answer tells = ap comes_late tells ∙ turn-ended life at how
 turn-attempt s life calls (attempt.NotBegun refusal) answer tells = ap comes_late tells
 
+turn-committed-before : (known : Outcome) → comes_late (committed_before known) ≡ false
+turn-committed-before (outcome.Committed replies) = refl
+turn-committed-before outcome.Aborted = refl
+
+turn-done-before : (known : Outcome) → comes_late (done_before known) ≡ false
+turn-done-before (outcome.Committed replies) = refl
+turn-done-before outcome.Aborted = refl
+
+turn-commit-under : (came : Keyed Refusal) → comes_late (commit_under_answer came) ≡ false
+turn-commit-under (keyed.Done kept) = refl
+turn-commit-under (keyed.Undone refusal) = refl
+turn-commit-under (keyed.Known known) = turn-committed-before known
+turn-commit-under keyed.Taken = refl
+
+turn-not-open : (known : KeyState) → comes_late (not_open_under known) ≡ false
+turn-not-open state.Free = refl
+turn-not-open (state.Known known) = turn-committed-before known
+turn-not-open state.Taken = refl
+
+turn-do-under : (life : ℕ) (came : Keyed Unfinished) → comes_late (do_under_answer life came) ≡ false
+turn-do-under life (keyed.Done kept) = turn-done-before kept
+turn-do-under life (keyed.Undone (unfinished.Ended at how)) = turn-ended life at how
+turn-do-under life (keyed.Undone (unfinished.NotBegun refusal)) = refl
+turn-do-under life (keyed.Known known) = turn-done-before known
+turn-do-under life keyed.Taken = refl
+
+turn-draining : (known : KeyState) → comes_late (draining_under known) ≡ false
+turn-draining state.Free = refl
+turn-draining (state.Known known) = turn-done-before known
+turn-draining state.Taken = refl
+
 does-turn : (clean : Type 0) (most life : ℕ) (c : Contents) (line : List ℕ) (old : Stored) (r : Request) (answer : AnswerLine) (new : Stored) → DoesRequest clean most life c line old r answer new → comes_late answer ≡ false
 does-turn clean most life c line old request.Begin answer new does = either (is_epoch_full most old) does (λ p. ap comes_late p.0) (λ p. ap comes_late p.2 ∙ turn-begin life p.0)
 does-turn clean most life c line old (request.Call t x name) answer new does = either (t.life == life) does.2 (λ p. ap comes_late p.2 ∙ turn-call new life does.0 p.0) (λ p. ap comes_late p.0)
 does-turn clean most life c line old (request.Would t x name) answer new does = either (t.life == life) does.2 (λ p. ap comes_late p.2 ∙ turn-call old life does.0 p.0) (λ p. ap comes_late p.0)
 does-turn clean most life c line old (request.Commit t) answer new does = either (t.life == life) does (λ p. ap comes_late p.2 ∙ turn-committed p.0) (λ p. ap comes_late p.0)
+does-turn clean most life c line old (request.CommitUnder t key) answer new does = either (t.life == life) does (λ p. ap comes_late p.3 ∙ turn-commit-under p.0) (λ p. ap comes_late p.2 ∙ turn-not-open p.0)
 does-turn clean most life c line old (request.Abort t) answer new does = either (t.life == life) does (λ p. ap comes_late p.2 ∙ turn-done p.0) (λ p. ap comes_late p.0)
 does-turn clean most life c line old (request.Rollback t count) answer new does = either (t.life == life) does (λ p. ap comes_late p.2 ∙ turn-done p.0) (λ p. ap comes_late p.0)
 does-turn clean most life c line old (request.Kept x) answer new does = turn-kept (slice_get (objects old) does.0) old does.0 answer does.2.1
 does-turn clean most life c line old request.Peek answer new does = turn-peek clean answer life c.objects old (calls_asked line) new does
 does-turn clean most life c line old request.Committed answer new does = turn-states clean answer life c.objects old (objects_asked line) new does
 does-turn clean most life c line old request.Do answer new does = either (is_epoch_full most old) does (λ p. ap comes_late p.0) (λ it. turn-attempt new life it.made it.came answer it.tells)
+does-turn clean most life c line old (request.DoUnder key) answer new does = either (is_epoch_full most old) does (λ p. ap comes_late p.2 ∙ turn-draining p.0) (λ p. ap comes_late p.5 ∙ turn-do-under life p.2)
+does-turn clean most life c line old (request.Outcome key) answer new does = ap comes_late does.1
 does-turn clean most life c line old (request.Find name) answer new does = ap comes_late does.2 ∙ turn-found does.1
 does-turn clean most life c line old request.Objects answer new does = turn-objects clean answer c.objects does.0
 does-turn clean most life c line old request.Types answer new does = turn-types clean answer c.types does.0

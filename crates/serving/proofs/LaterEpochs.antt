@@ -22,7 +22,7 @@ use Rattle.serving.specs.Archives.{KeepsEpochs, KeptHistory, life_in}
 use Rattle.serving.specs.Does.{is_epoch_full}
 use Rattle.serving.specs.EpochEnd.{EndsEpoch, LeavesNext, last_answers}
 use Rattle.serving.specs.Epochs.{LeavesEpochs, Reaches, WritesEpochs, aborted}
-use Rattle.serving.specs.Follows.{HasMoreEvents, LeavesMore}
+use Rattle.serving.specs.Follows.{HasMore, LeavesMore}
 use Rattle.serving.specs.Group.{HasTold}
 use Rattle.serving.specs.NextEpoch.{IsNextFile, IsNextStore, SaysNext, SaysSame, answers_in, late_answer, limit_while}
 use Rattle.serving.specs.Requests.{LetsGo}
@@ -43,7 +43,7 @@ reaches-then ended first (Reaches.events later mid new before follows) = Reaches
 reaches-then {a} ended first (Reaches.epoch later mid now waits old new before is next) =
     subst (λ es. Reaches a es now) (append_assoc ended later (mid ∷ [])) (Reaches.epoch (ended ++ later) mid now waits old new (reaches-then ended first before) is next)
 
-pub reaches-more : {a b : Contents} → HasMoreEvents a b → Reaches a [] b
+pub reaches-more : {a b : Contents} → HasMore a b → Reaches a [] b
 reaches-more {a} {b} follows = Reaches.events [] a b Reaches.none follows
 
 -- ---- stores
@@ -79,7 +79,7 @@ pub left-nowhere : {S : Type 0} (g : Ghosts S) (old new : Durable S) (kept : Opt
 left-nowhere g old new kept same = subst (λ d. LeavesEpochs g old d kept kept) (sym same) (λ db left. inr (left, least-none kept))
 
 -- one that went on in one epoch
-pub writes-one : {S : Type 0} (g : Ghosts S) (old new : Durable S) (kept : Option (List KeptHistory)) → (Clean g new.journal → HasMoreEvents (written g old.journal) (written g new.journal)) → WritesEpochs g old new kept kept
+pub writes-one : {S : Type 0} (g : Ghosts S) (old new : Durable S) (kept : Option (List KeptHistory)) → (Clean g new.journal → HasMore (written g old.journal) (written g new.journal)) → WritesEpochs g old new kept kept
 writes-one g old new kept more clean = ([], reaches-more (more clean), keeps-none kept)
 
 pub left-more : {S : Type 0} (g : Ghosts S) (old new : Durable S) (kept : Option (List KeptHistory)) → LeavesMore g old new → LeavesEpochs g old new kept kept
@@ -231,7 +231,7 @@ served-epoch {S} {g} {began} {told} {bytes} {old} new kept kept_now none empty f
   kept = ap (λ v. v.items) line ∙ served.kept;
   lasts = lasts-epoch new.session kept kept_now served.lasts sound named most writes clean crash;
   said = written g new.session.store.journal;
-  says = λ now. (refl, refl);
+  says = λ now. (refl, refl, refl);
   serves =
       let file = written g began.store.journal in
       let waits = old.session.waiting in
@@ -242,7 +242,7 @@ served-epoch {S} {g} {began} {told} {bytes} {old} new kept kept_now none empty f
       (subst (λ e. Serves (Clean g old.session.store.journal) began.most_events file began.life served.lines began.store.store (told ++ old.answers.items) old.session.life served.said old.session.store.store e waits) none served.serves) in
       let life : Clean g new.session.store.journal → new.session.life ≡ suc old.session.life = λ now. named ∙ ends.life now ∙ ap suc (sym served.lasts.named) in
       let says : Clean g new.session.store.journal → SaysNext waits served.said (written g new.session.store.journal) =
-      λ now. says-next-then waits served.said closed (written g new.session.store.journal) ((served.says (clean now)).0, (served.says (clean now)).1)
+      λ now. says-next-then waits served.said closed (written g new.session.store.journal) ((served.says (clean now)).0, (served.says (clean now)).1, (served.says (clean now)).2)
       (next-says waits (aborted old.session.store.store) new.session.store.store closed (written g new.session.store.journal)
       (subst (λ c. IsNextFile waits (aborted old.session.store.store) new.session.store.store closed c) (shown-durable g new.session.store shows now) (ends.durable now))) in
       rw (ended ∙ none, no_more, epoch-told told old.answers.items new.answers.items late empty (ap (λ v. v.items) answers))

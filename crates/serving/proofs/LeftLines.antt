@@ -23,7 +23,7 @@ use Rattle.serving.specs.EpochEnd.{BeginsAnew, IsEpochOver, LeavesEnd}
 use Rattle.serving.specs.Follows.{LeavesWritten}
 use Rattle.serving.specs.Left.{AreFirstAnswers, IsStoreFile, IsLeftAfter, LeavesLines, Survives, Began, began_at}
 use Rattle.serving.specs.Lines.{AreLines, asks_end}
-use Rattle.serving.specs.NextEpoch.{limit_while}
+use Rattle.serving.specs.NextEpoch.{SaysSame, limit_while}
 use Rattle.serving.specs.Served.{Serves}
 use Rattle.serving.specs.Server.{AnswersLine, DoesLine, HasServed, KeepsByte, StaysInEpoch, TakesByte, TakesEnd, life_of}
 use Rattle.serving.specs.Told.{has_lasting, is_lasting}
@@ -74,10 +74,10 @@ pub rest-read : (seen bytes : List ℕ) (i : ℕ) → (seen ++ take i bytes) ++ 
 rest-read seen bytes i = append_assoc seen (take i bytes) (drop i bytes) ∙ ap (λ bs. seen ++ bs) (take-append-drop i bytes)
 
 -- where it is over for another reason too
-file-last : {over others : Type 0} {waits : Option Extension} {life : ℕ} {s : Stored} {c : Contents} → (over → others) → IsStoreFile over waits life s c → IsStoreFile others waits life s c
-file-last turn (IsStoreFile.present c is lives) = IsStoreFile.present c is lives
-file-last turn (IsStoreFile.closed c so is lives) = IsStoreFile.closed c (turn so) is lives
-file-last turn (IsStoreFile.anew c now next so is lives begins) = IsStoreFile.anew c now next (turn so) is lives begins
+file-last : {over others : Type 0} {waits : Option Extension} {life : ℕ} {said : Contents} {s : Stored} {c : Contents} → (over → others) → IsStoreFile over waits life said s c → IsStoreFile others waits life said s c
+file-last turn (IsStoreFile.present c is lives knows) = IsStoreFile.present c is lives knows
+file-last turn (IsStoreFile.closed c so is lives knows) = IsStoreFile.closed c (turn so) is lives knows
+file-last turn (IsStoreFile.anew c now next so is lives knows begins) = IsStoreFile.anew c now next (turn so) is lives knows begins
 
 module _ {b : Began} where
   -- of more bytes
@@ -132,7 +132,7 @@ module _ {b : Began} where
   -- after these lines
   left-of : {last : List (List ℕ) → Type 0} (seen rest : List ℕ) (lines : List (List ℕ)) (half : List ℕ) (c : Contents) (told waiting done : List Answered) (life : ℕ) (said : Contents) (reached : Stored) (ended : Option Asked) (waits : Option Extension)
       → AreLines seen lines half → told ++ waiting ≡ done → Serves (Unit {0}) b.most b.file b.life lines b.store done life said reached ended waits
-      → IsStoreFile ((is_epoch_full (limit_while waits b.most) reached ≡ true) ⊎ last lines) waits life reached c → IsLeftAfter b last (seen ++ rest) told waiting c
+      → IsStoreFile ((is_epoch_full (limit_while waits b.most) reached ≡ true) ⊎ last lines) waits life said reached c → IsLeftAfter b last (seen ++ rest) told waiting c
   left-of seen rest lines half c told waiting done life said reached ended waits asked all serves file = record {
     count = length seen;
     within = omega (arith, length-append seen rest);
@@ -186,18 +186,19 @@ module _ {S : Type 0} (g : Ghosts S) (b : Began) (now : Durable S) where
 
 module _ {S : Type 0} {g : Ghosts S} where
   -- all that was written by then
-  file-written : {over : Type 0} {waits : Option Extension} (s : Server S) (c : Contents) → IsDurable g s.session.store → s.session.life ≡ life_of s.session.store → Clean g s.session.store.journal
-      → c ≡ written g s.session.store.journal → c.headers ≡ s.session.store.journal.header ∷ [] → IsStoreFile over waits s.session.life s.session.store.store c
-  file-written s c sound named clean is said =
-      IsStoreFile.present c (subst (λ (x : Contents). IsStoreOf x s.session.store.store) (sym is) (is-store-of g s.session.store sound clean)) (s.session.store.journal.header, said, sym named)
+  file-written : {over : Type 0} {waits : Option Extension} (s : Server S) (said c : Contents) → SaysSame said (written g s.session.store.journal) → IsDurable g s.session.store → s.session.life ≡ life_of s.session.store → Clean g s.session.store.journal
+      → c ≡ written g s.session.store.journal → c.headers ≡ s.session.store.journal.header ∷ [] → IsStoreFile over waits s.session.life said s.session.store.store c
+  file-written s said c says sound named clean is headers =
+      IsStoreFile.present c (subst (λ (x : Contents). IsStoreOf x s.session.store.store) (sym is) (is-store-of g s.session.store sound clean)) (s.session.store.journal.header, headers, sym named)
+      (ap (λ (x : Contents). x.outcomes) is ∙ says.2)
 
   -- where one is to a commit, all that was written is durable
   pub lines-group : (b : Began) {last : List (List ℕ) → Type 0} {all : List (List ℕ)} {half seen : List ℕ} {told : List Answered} (mid new : Session S) (rest : List ℕ) (answers : List Answered) (said : Contents) (ended : Option Asked)
-      → AreLines seen all half → IsDurable g mid.store → mid.life ≡ life_of mid.store → StaysInEpoch g mid new → (has_lasting answers ≡ true → ShowsCommit g new.store.journal)
+      → (Clean g mid.store.journal → SaysSame said (written g mid.store.journal)) → AreLines seen all half → IsDurable g mid.store → mid.life ≡ life_of mid.store → StaysInEpoch g mid new → (has_lasting answers ≡ true → ShowsCommit g new.store.journal)
       → (Clean g new.store.journal → written g new.store.journal ≡ written g mid.store.journal)
       → Serves (Clean g mid.store.journal) b.most b.file b.life all b.store (told ++ answers) mid.life said mid.store.store ended mid.waiting
       → LeavesLines g b last (seen ++ rest) told answers new.store → Clean g new.store.journal → LeavesLines g b last (seen ++ rest) (told ++ answers) [] new.store
-  lines-group b {last} {all} {half} {seen} {told} mid new rest answers said ended asked sound named stays settled same serves so_far clean =
+  lines-group b {last} {all} {half} {seen} {told} mid new rest answers said ended says asked sound named stays settled same serves so_far clean =
       elim (has_lasting answers) as (λ v. has_lasting answers ≡ v → LeavesLines g b last (seen ++ rest) (told ++ answers) [] new.store) [
         | true ↦ λ some db left.
             let was = stays.clean clean in
@@ -207,7 +208,7 @@ module _ {S : Type 0} {g : Ghosts S} where
             let store : IsStoreOf (contents_of db) mid.store.store = subst (λ (x : Contents). IsStoreOf x mid.store.store) (sym (is ∙ same clean)) (is-store-of g mid.store sound was) in (
               (so_far db left).0,
               left-of seen rest all half (contents_of db) (told ++ answers) [] (told ++ answers) mid.life said mid.store.store ended mid.waiting asked (append-nil (told ++ answers)) (serves-weaker (λ known. was) serves)
-                  (IsStoreFile.present (contents_of db) store (new.store.journal.header, header, stays.same ∙ sym named)),
+                  (IsStoreFile.present (contents_of db) store (new.store.journal.header, header, stays.same ∙ sym named) (ap (λ (x : Contents). x.outcomes) (is ∙ same clean) ∙ (says was).2)),
             )
         | false ↦ λ none. lines-first g b new.store (λ done first. first-told none first) so_far
       ] refl
@@ -223,21 +224,21 @@ module _ {S : Type 0} {g : Ghosts S} where
       let store : IsStoreOf (contents_of db) began.store.store = subst (λ (x : Contents). IsStoreOf x began.store.store) (sym is) (is-store-of g began.store sound clean) in (
         subst IsFile (sym (last_commit db it.is_open left)) (file.kept it.is_open),
         left-of [] [] [] [] (contents_of db) [] [] [] began.life (written g began.store.journal) began.store.store None None (record { text = refl; whole = tt; within = refl }) refl (Serves.none began.store.store)
-            (IsStoreFile.present (contents_of db) store (began.store.journal.header, ap (λ (c : Contents). c.headers) is ∙ file.header_is it.sound, sym named)),
+            (IsStoreFile.present (contents_of db) store (began.store.journal.header, ap (λ (c : Contents). c.headers) is ∙ file.header_is it.sound, sym named) (ap (λ (c : Contents). c.outcomes) is)),
       )
 
 -- the file of an epoch that is over
-file-ended : {S : Type 0} {over : Type 0} (waits : Option Extension) (s : Server S) (c : Contents) → over → s.session.life ≡ life_of s.session.store → (IsEpochOver s.session.store c ⊎ BeginsAnew waits s.session.store c)
-    → IsStoreFile over waits s.session.life s.session.store.store c
-file-ended waits s c so named ended = elim ended [
-  | inl it ↦ IsStoreFile.closed c so it.0 (s.session.store.journal.header, it.1, sym named)
-  | inr it ↦ IsStoreFile.anew it.before c it.next so it.over.0 (s.session.store.journal.header, it.over.1, sym named) it.is
+file-ended : {S : Type 0} (g : Ghosts S) {over : Type 0} (waits : Option Extension) (s : Server S) (said c : Contents) → SaysSame said (written g s.session.store.journal) → over → s.session.life ≡ life_of s.session.store
+    → (IsEpochOver g s.session.store c ⊎ BeginsAnew g waits s.session.store c) → IsStoreFile over waits s.session.life said s.session.store.store c
+file-ended g waits s said c says so named ended = elim ended [
+  | inl it ↦ IsStoreFile.closed c so it.0 (s.session.store.journal.header, it.1, sym named) (it.2 ∙ says.2)
+  | inr it ↦ IsStoreFile.anew it.before c it.next so it.over.0 (s.session.store.journal.header, it.over.1, sym named) (it.over.2 ∙ says.2) it.is
 ]
 
 module _ {S : Type 0} {g : Ghosts S} {began : Session S} where
   -- after all lines so far
   left-now : {last : List (List ℕ) → Type 0} {told : List Answered} {seen : List ℕ} (s : Server S) (rest : List ℕ) (c : Contents) → (served : HasServed g began told seen s) → Clean g s.session.store.journal
-      → IsStoreFile ((is_epoch_full (limit_while s.session.waiting began.most_events) s.session.store.store ≡ true) ⊎ last served.lines) s.session.waiting s.session.life s.session.store.store c
+      → IsStoreFile ((is_epoch_full (limit_while s.session.waiting began.most_events) s.session.store.store ≡ true) ⊎ last served.lines) s.session.waiting s.session.life served.said s.session.store.store c
       → IsLeftAfter (began_at g began) last (seen ++ rest) told s.answers.items c
   left-now {last} {told} {seen} s rest c served clean file =
       left-of seen rest served.lines served.half c told s.answers.items (told ++ s.answers.items) s.session.life served.said s.session.store.store s.end s.session.waiting served.asked refl
@@ -249,7 +250,7 @@ module _ {S : Type 0} {g : Ghosts S} {began : Session S} where
   pub lines-on : {last : List (List ℕ) → Type 0} {told : List Answered} {seen : List ℕ} (s : Server S) (new : Durable S) (rest : List ℕ) → HasServed g began told seen s → LeavesWritten g s.session.store new
       → LeavesLines g (began_at g began) last (seen ++ rest) told s.answers.items s.session.store → LeavesLines g (began_at g began) last (seen ++ rest) told s.answers.items new
   lines-on s new rest served crash so_far db left = elim (crash db left) [
-    | inl it ↦ (it.1, left-now s rest (contents_of db) served it.0 (file-written s (contents_of db) served.lasts.sound served.lasts.named it.0 it.2 it.3))
+    | inl it ↦ (it.1, left-now s rest (contents_of db) served it.0 (file-written s served.said (contents_of db) (served.says it.0) served.lasts.sound served.lasts.named it.0 it.2 it.3))
     | inr before ↦ so_far db before
   ]
 
@@ -284,7 +285,7 @@ module _ {S : Type 0} {g : Ghosts S} {began : Session S} where
       → (served : HasServed g began told seen s) → ((is_epoch_full (limit_while s.session.waiting began.most_events) s.session.store.store ≡ true) ⊎ last served.lines)
       → LeavesEnd g s.session.waiting s.session.store new → LeavesLines g (began_at g began) last (seen ++ rest) told s.answers.items s.session.store → LeavesLines g (began_at g began) last (seen ++ rest) told s.answers.items new
   lines-ended s new rest served so crash so_far db left = elim (crash db left) [
-    | inl it ↦ (it.1, left-now s rest (contents_of db) served it.0 (file-ended s.session.waiting s (contents_of db) so served.lasts.named it.2))
+    | inl it ↦ (it.1, left-now s rest (contents_of db) served it.0 (file-ended g s.session.waiting s served.said (contents_of db) (served.says it.0) so served.lasts.named it.2))
     | inr before ↦ so_far db before
   ]
 
@@ -296,4 +297,4 @@ module _ {S : Type 0} {g : Ghosts S} {began : Session S} where
       let it = (shows clean).0 in
       let is : contents_of db ≡ written g s.session.store.journal = sound.settled clean db left ∙ shown-durable g s.session.store shows clean in
       let header = ap (λ (c : Contents). c.headers) is ∙ (sound.journal clean).0.header_is it.sound in
-      (files db left, left-now s rest (contents_of db) served clean (file-written s (contents_of db) sound served.lasts.named clean is header))
+      (files db left, left-now s rest (contents_of db) served clean (file-written s served.said (contents_of db) (served.says clean) sound served.lasts.named clean is header))

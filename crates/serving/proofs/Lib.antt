@@ -4,6 +4,7 @@ pub mod Peeked
 pub mod ToldReplies
 pub mod MoreEvents
 pub mod Staying
+pub mod UnderKeys
 pub mod Premises
 pub mod Attempts
 pub mod ByteByByte
@@ -27,3 +28,4 @@ pub mod Growth
 pub mod Moments
 pub mod CommitEvents
 pub mod AnswersFound
+pub mod KeysFound

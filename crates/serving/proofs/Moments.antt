@@ -64,7 +64,7 @@ not-added-lasts : (answer : AnswerLine) → is_not_added answer ≡ true → is_
 not-added-lasts (NotAdded why) it = refl
 not-added-lasts answer it = absurd cc
 
-more-lasts : (a : Answered) (waits : Option Extension) → MayWait a.tag a.answer waits → is_lasting a.answer ≡ false
+pub more-lasts : (a : Answered) (waits : Option Extension) → MayWait a.tag a.answer waits → is_lasting a.answer ≡ false
 more-lasts a None it = not-added-lasts a.answer it
 more-lasts a (Some e) it = ap is_lasting it.0
 
@@ -127,13 +127,13 @@ gone-in c life born moment (h, said, lives) gone =
       λ same. elim gone [ inl over ↦ absurd (omega (arith, over, is, same)) | inr it ↦ it.1 ],
     )
 
-pub file-goes : {over : Type 0} {waits : Option Extension} {life : ℕ} {s : Stored} {c : Contents} (born : ℕ) (moment : Stored) → IsStoreFile over waits life s c → GoesFurther born moment life s → FileGoesOn c born moment
-file-goes {over} {waits} {life} {s} born moment (IsStoreFile.present c is lives) goes = gone-in c life born moment lives (store-gone c s life is goes)
-file-goes {over} {waits} {life} {s} born moment (IsStoreFile.closed c so is lives) goes =
+pub file-goes : {over : Type 0} {waits : Option Extension} {life : ℕ} {said : Contents} {s : Stored} {c : Contents} (born : ℕ) (moment : Stored) → IsStoreFile over waits life said s c → GoesFurther born moment life s → FileGoesOn c born moment
+file-goes {over} {waits} {life} {said} {s} born moment (IsStoreFile.present c is lives knows) goes = gone-in c life born moment lives (store-gone c s life is goes)
+file-goes {over} {waits} {life} {said} {s} born moment (IsStoreFile.closed c so is lives knows) goes =
     gone-in c life born moment lives (store-gone c (aborted s) life is (goes-grow (aborted s) goes (closing s.history, refl, refl)))
-file-goes {over} {waits} {life} {s} born moment (IsStoreFile.anew c now next so is (h, said, lives) begins) goes =
+file-goes {over} {waits} {life} {said} {s} born moment (IsStoreFile.anew c now next so is (h, headers, lives) knows begins) goes =
     let gone = store-gone c (aborted s) life is (goes-grow (aborted s) goes (closing s.history, refl, refl)) in
-    let later : life_in now.headers ≡ suc life = ap life_in (next-headers waits (aborted s) next c now begins) ∙ ap (λ hs. life_in (raised hs)) said ∙ ap suc lives in (
+    let later : life_in now.headers ≡ suc life = ap life_in (next-headers waits (aborted s) next c now begins) ∙ ap (λ hs. life_in (raised hs)) headers ∙ ap suc lives in (
       elim gone [ inl over ↦ omega (arith, over, later) | inr it ↦ omega (arith, it.0, later) ],
       λ same. elim gone [ inl over ↦ absurd (omega (arith, over, later, same)) | inr it ↦ absurd (omega (arith, it.0, later, same)) ],
     )

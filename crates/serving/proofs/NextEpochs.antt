@@ -12,18 +12,18 @@ use Rattle.serving.specs.declared.answer_line.AnswerLine.TheVariants.{Extended}
 use Rattle.serving.specs.declared.answer_line.Answered.{Answered}
 use Rattle.serving.specs.declared.extension.Extension.{Extension}
 use Rattle.serving.specs.Epochs.{aborted}
-use Rattle.serving.specs.Follows.{HasMoreEvents}
+use Rattle.serving.specs.Follows.{HasMore}
 use Rattle.serving.specs.NextEpoch.{IsNextFile, IsNextStore, SaysNext, SaysSame, late_answer}
 use Rattle.serving.specs.Requests.{LetsGo}
 
 -- ---- what a file says of its objects
 
 pub says-then : (a b c : Contents) → SaysSame a b → SaysSame b c → SaysSame a c
-says-then a b c first second = (second.0 ∙ first.0, second.1 ∙ first.1)
+says-then a b c first second = (second.0 ∙ first.0, second.1 ∙ first.1, second.2 ∙ first.2)
 
--- events change nothing of it
-pub more-same : {a b : Contents} → HasMoreEvents a b → SaysSame a b
-more-same more = (ap (λ (x : Contents). x.objects) more.others, ap (λ (x : Contents). x.types) more.others)
+-- events change nothing of it, where what is known of keys stays
+pub more-same : {a b : Contents} → HasMore a b → b.outcomes ≡ a.outcomes → SaysSame a b
+more-same more outcomes = (ap (λ (x : Contents). x.objects) more.others, ap (λ (x : Contents). x.types) more.others, outcomes)
 
 pub says-next-then : (waits : Option Extension) (a b c : Contents) → SaysSame a b → SaysNext waits b c → SaysNext waits a c
 says-next-then None a b c first second = says-then a b c first second
@@ -34,6 +34,7 @@ says-next-then (Some e) a b c first second = record {
   are_placed = subst (λ ts. ArePlaced e.added.texts.items (ts ++ second.fresh) e.added.lines.items second.placed) first.1 second.are_placed;
   objects = second.objects ∙ ap (λ os. os ++ second.placed) first.0;
   types = second.types ∙ ap (λ ts. ts ++ second.fresh) first.1;
+  outcomes = second.outcomes ∙ first.2;
 }
 
 -- ---- a file that begins anew
@@ -43,7 +44,7 @@ next-store None old new c now next = next.0
 next-store (Some e) old new c now next = (next.added, next.are, next.extends)
 
 pub next-says : (waits : Option Extension) (old new : Stored) (c now : Contents) → IsNextFile waits old new c now → SaysNext waits c now
-next-says None old new c now next = (ap (λ (x : Contents). x.objects) next.1, ap (λ (x : Contents). x.types) next.1)
+next-says None old new c now next = (ap (λ (x : Contents). x.objects) next.1, ap (λ (x : Contents). x.types) next.1, ap (λ (x : Contents). x.outcomes) next.1)
 next-says (Some e) old new c now next = record {
   fresh = next.fresh;
   unknown = next.unknown;
@@ -51,6 +52,7 @@ next-says (Some e) old new c now next = record {
   are_placed = next.are_placed;
   objects = ap (λ (x : Contents). x.objects) next.is;
   types = ap (λ (x : Contents). x.types) next.is;
+  outcomes = ap (λ (x : Contents). x.outcomes) next.is;
 }
 
 -- the same headers, in the next life

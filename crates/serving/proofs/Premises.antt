@@ -1,12 +1,14 @@
 -- What was answered holds under a stronger premise too.
 use Rattle.std.proofs.Common.{◌≡◌, ◌∙◌, inl, inr, ℕ, Bool, true, false, List, [], ◌∷◌, take, Option, Some, None, Result, Ok, Err, refl, sym, ap, subst}
-use Rattle.std.specs.Prelude.{MatchBool, MatchResult}
+use Rattle.std.specs.Prelude.{◌==◌, MatchBool, MatchResult}
+use Rattle.std.specs.Str.{bytes_eq}
 use Rattle.object_trait.specs.declared.event.EventKind.{EventKind}
 use Rattle.store_laws.specs.Stored.{Stored}
 use Rattle.store_text.specs.declared.line.ObjectLine.{ObjectLine}
 use Rattle.journal.specs.Contents.{Contents}
 use Rattle.serial_order.specs.declared.refusal.Refusal.TheVariants.{NoObject}
 use Rattle.store.specs.declared.refusals.PeekRefusal.{PeekRefusal}
+use Rattle.attempts.specs.Commands.{CallAt}
 use Rattle.request_text.specs.Requests.{asked_by, calls_asked, objects_asked}
 use Rattle.request_text.specs.declared.fault.RequestFault.{RequestFault}
 use Rattle.request_text.specs.declared.request.Asked.{Asked}
@@ -24,7 +26,14 @@ use Rattle.request_text.specs.declared.request.ObjectWord.{ObjectWord}
 use Rattle.request_text.specs.declared.request.ObjectWord.TheVariants.{Number, Name}
 use Rattle.serving.specs.Does.{is_epoch_full}
 use Rattle.serving.specs.Means.{Means}
-use Rattle.serving.specs.Several.{Attempts, DoesCommitted, DoesPeek, InTurn, IsAnsweredThere, IsFirstWithout, IsRepliedThere}
+use Rattle.serving.specs.Several.{IsCallAt, Attempts, DoesCommitted, DoesPeek, InTurn, IsAnsweredThere, IsFirstWithout, IsRepliedThere}
+use Rattle.transaction_key.specs.TransactionKey.{key_place}
+use Rattle.journal.specs.declared.outcome_row.KeyedOutcome.{KeyedOutcome}
+use Rattle.durable_store.specs.Keys.{IsInState, KnowsKey, outcome_for}
+use Rattle.durable_store.specs.declared.keyed.Keyed.{Keyed}
+use Rattle.durable_store.specs.declared.keyed.Keyed.TheVariants as keyed
+use Rattle.durable_store.specs.declared.keyed.KeyState.{KeyState}
+use Rattle.durable_store.specs.declared.keyed.KeyState.TheVariants as state
 use Rattle.serving.specs.Requests.{DoesRequest, TellsEvents, TellsObjects, TellsTypes}
 use Rattle.serving.specs.Served.{IsAnswered, Serves}
 use Rattle.serving.proofs.ByteByByte.{AskSame}
@@ -83,10 +92,13 @@ module _ {clean clean' : Type 0} (sure : clean' → clean) where
   states-before (Refused NoObject) life was now old xs new same does = (does.0, does.1, does.2, does.3, means-before does.1 does.3 was now same does.4, does.5)
   states-before answer life was now old xs new same does = absurd does
 
+  pub called-before : (was now : List ObjectLine) → (clean' → was ≡ now) → (calls : List AskedCall) (made : List CallAt) → InTurn (IsCallAt clean was) calls made → InTurn (IsCallAt clean' now) calls made
+  called-before was now same calls made = in-turn (λ call at is. (means-before call.x at.0 was now same is.0, is.1)) calls made
+
   pub attempts-before : (answer : AnswerLine) (life : ℕ) (was now : List ObjectLine) (old : Stored) (calls : List AskedCall) (new : Stored) → (clean' → was ≡ now) → Attempts clean life was old calls answer new → Attempts clean' life now old calls answer new
   attempts-before answer life was now old calls new same it = record {
     made = it.made;
-    are_made = in-turn (λ call at is. (means-before call.x at.0 was now same is.0, is.1)) calls it.made it.are_made;
+    are_made = called-before was now same calls it.made it.are_made;
     came = it.came;
     replays = it.replays;
     answers = it.answers;
@@ -98,21 +110,55 @@ module _ {clean clean' : Type 0} (sure : clean' → clean) where
   whole-before true answer life was now old calls new same does = does
   whole-before false answer life was now old calls new same does = attempts-before answer life was now old calls new same does
 
+  -- ---- keys
+
+  key-before : {T : Type 0} (key : List ℕ) (came : Keyed T) (d c : Contents) → (clean' → d.outcomes ≡ c.outcomes) → (clean → KnowsKey d key came) → clean' → KnowsKey c key came
+  key-before key (keyed.Done kept) d c same knows now = subst (λ (outcomes : ℕ → Option KeyedOutcome). outcomes (key_place key) ≡ None) (same now) (knows (sure now))
+  key-before key (keyed.Undone why) d c same knows now = subst (λ (outcomes : ℕ → Option KeyedOutcome). outcomes (key_place key) ≡ None) (same now) (knows (sure now))
+  key-before key (keyed.Known known) d c same knows now = subst (λ (outcomes : ℕ → Option KeyedOutcome). outcome_for key (outcomes (key_place key)) ≡ Some known) (same now) (knows (sure now))
+  key-before key keyed.Taken d c same knows now =
+      subst (λ (outcomes : ℕ → Option KeyedOutcome). (kept : KeyedOutcome) × (outcomes (key_place key) ≡ Some kept) × (bytes_eq kept.key key ≡ false)) (same now) (knows (sure now))
+
+  state-before : (key : List ℕ) (known : KeyState) (d c : Contents) → (clean' → d.outcomes ≡ c.outcomes) → (clean → IsInState d key known) → clean' → IsInState c key known
+  state-before key state.Free d c same knows now = subst (λ (outcomes : ℕ → Option KeyedOutcome). outcomes (key_place key) ≡ None) (same now) (knows (sure now))
+  state-before key (state.Known known) d c same knows now = subst (λ (outcomes : ℕ → Option KeyedOutcome). outcome_for key (outcomes (key_place key)) ≡ Some known) (same now) (knows (sure now))
+  state-before key state.Taken d c same knows now =
+      subst (λ (outcomes : ℕ → Option KeyedOutcome). (kept : KeyedOutcome) × (outcomes (key_place key) ≡ Some kept) × (bytes_eq kept.key key ≡ false)) (same now) (knows (sure now))
+
+  -- each of two cases
+  match-before : (test : Bool) {P Q P' Q' : Type 0} → (P → P') → (Q → Q') → MatchBool test P Q → MatchBool test P' Q'
+  match-before true first second it = first it
+  match-before false first second it = second it
+
   -- ---- requests
 
-  -- over a file with the same objects and types
-  done-before : (most life : ℕ) (c d : Contents) (line : List ℕ) (old : Stored) (r : Request) (answer : AnswerLine) (new : Stored) → (clean' → (d.objects ≡ c.objects) × (d.types ≡ c.types))
+  -- over a file that says the same
+  done-before : (most life : ℕ) (c d : Contents) (line : List ℕ) (old : Stored) (r : Request) (answer : AnswerLine) (new : Stored) → (clean' → (d.objects ≡ c.objects) × (d.types ≡ c.types) × (d.outcomes ≡ c.outcomes))
       → DoesRequest clean most life d line old r answer new → DoesRequest clean' most life c line old r answer new
   done-before most life c d line old request.Begin answer new same does = does
   done-before most life c d line old (request.Call t x name) answer new same does = (does.0, means-before x does.0 d.objects c.objects (λ now. (same now).0) does.1, does.2)
   done-before most life c d line old (request.Would t x name) answer new same does = (does.0, means-before x does.0 d.objects c.objects (λ now. (same now).0) does.1, does.2)
   done-before most life c d line old (request.Commit t) answer new same does = does
+  done-before most life c d line old (request.CommitUnder t key) answer new same does =
+      match-before (t.life == life) (λ it. (it.0, key-before key it.0 d c (λ now. (same now).2) it.1, it.2, it.3)) (λ it. (it.0, state-before key it.0 d c (λ now. (same now).2) it.1, it.2, it.3)) does
   done-before most life c d line old (request.Abort t) answer new same does = does
   done-before most life c d line old (request.Rollback t count) answer new same does = does
   done-before most life c d line old (request.Kept x) answer new same does = (does.0, means-before x does.0 d.objects c.objects (λ now. (same now).0) does.1, does.2)
   done-before most life c d line old request.Peek answer new same does = peeks-before answer life d.objects c.objects old (calls_asked line) new (λ now. (same now).0) does
   done-before most life c d line old request.Committed answer new same does = states-before answer life d.objects c.objects old (objects_asked line) new (λ now. (same now).0) does
   done-before most life c d line old request.Do answer new same does = whole-before (is_epoch_full most old) answer life d.objects c.objects old (calls_asked line) new (λ now. (same now).0) does
+  done-before most life c d line old (request.DoUnder key) answer new same does =
+      match-before (is_epoch_full most old) (λ it. (it.0, state-before key it.0 d c (λ now. (same now).2) it.1, it.2, it.3))
+      (λ it. (
+        it.0,
+        called-before d.objects c.objects (λ now. (same now).0) (calls_asked line) it.0 it.1,
+        it.2,
+        key-before key it.2 d c (λ now. (same now).2) it.3,
+        it.4,
+        it.5,
+      )) does
+  done-before most life c d line old (request.Outcome key) answer new same does =
+      (does.0, does.1, λ now. does.2 (sure now) ∙ ap (λ (outcomes : ℕ → Option KeyedOutcome). outcome_for key (outcomes (key_place key))) (same now).2, does.3)
   done-before most life c d line old (request.Find name) answer new same does = (does.0, does.1, does.2, λ now. does.3 (sure now) ∙ ap (λ os. find_named os name) (same now).0)
   done-before most life c d line old request.Objects answer new same does = (tells-objects answer d.objects c.objects (λ now. (same now).0) does.0, does.1)
   done-before most life c d line old request.Types answer new same does = (tells-types answer d.types c.types (λ now. (same now).1) does.0, does.1)
@@ -122,7 +168,7 @@ module _ {clean clean' : Type 0} (sure : clean' → clean) where
   done-before most life c d line old request.End answer new same does = does
 
   -- a line that asks the same
-  pub answered-before : (most life : ℕ) (c d : Contents) (kept half : List ℕ) (old : Stored) (a : Answered) (new : Stored) → (clean' → (d.objects ≡ c.objects) × (d.types ≡ c.types))
+  pub answered-before : (most life : ℕ) (c d : Contents) (kept half : List ℕ) (old : Stored) (a : Answered) (new : Stored) → (clean' → (d.objects ≡ c.objects) × (d.types ≡ c.types) × (d.outcomes ≡ c.outcomes))
       → AskSame kept half → IsAnswered clean most life d kept old a new → IsAnswered clean' most life c half old a new
   answered-before most life c d kept half old a new files (inl same) answered = subst (λ line. IsAnswered clean' most life c line old a new) same (record {
     tag = answered.tag;
@@ -147,7 +193,7 @@ module _ {clean clean' : Type 0} (sure : clean' → clean) where
   serves-weaker (Serves.none s) = Serves.none s
   serves-weaker {most} (Serves.line lines asked old mid new answers a life said waits before other may answered) =
       Serves.line lines asked old mid new answers a life said waits (serves-weaker before) other may
-      (answered-before (limit_while waits most) life said said asked asked mid a new (λ now. (refl, refl)) (inl refl) answered)
+      (answered-before (limit_while waits most) life said said asked asked mid a new (λ now. (refl, refl, refl)) (inl refl) answered)
   serves-weaker (Serves.more lines asked old new answers a life said waits before may more) = Serves.more lines asked old new answers a life said waits (serves-weaker before) may more
   serves-weaker (Serves.end lines asked old new answers life said waits before ends) = Serves.end lines asked old new answers life said waits (serves-weaker before) ends
   serves-weaker (Serves.forget lines old mid answers life n said ended waits before) = Serves.forget lines old mid answers life n said ended waits (serves-weaker before)

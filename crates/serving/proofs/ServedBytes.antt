@@ -1,25 +1,29 @@
 -- A server goes on byte by byte.
-use Rattle.std.proofs.Common.{◌≡◌, inr, ◌∙◌, ◌<◌, ◌+◌, get_or, ℕ, true, false, List, [], ◌∷◌, ◌++◌, length, take, refl, sym, ap, subst, Option, None, Some}
+use Rattle.std.proofs.Common.{◌≡◌, inr, ◌∙◌, ◌<◌, ◌+◌, get_or, ℕ, true, false, List, [], ◌∷◌, ◌++◌, length, take, refl, sym, ap, ap₂, subst, Option, None, Some, Result}
 use Rattle.std.proofs.lemmas.List.{append_assoc, take_more}
 use Rattle.std.proofs.lemmas.Bool.{eqb-true}
 use Rattle.std.specs.Prelude.{◌==◌, MatchBool, MatchResult, nat_lt, if◌then◌else◌}
 use Rattle.sqlite_trees.specs.declared.store.Store.{Ghosts}
+use Rattle.journal.specs.declared.outcome_row.KeyedOutcome.{KeyedOutcome}
+use Rattle.journal.specs.Contents.{Contents}
 use Rattle.journal.specs.Journal.{Clean, written}
 use Rattle.request_text.specs.Requests.{asked_by}
+use Rattle.request_text.specs.declared.fault.RequestFault.{RequestFault}
 use Rattle.request_text.specs.declared.request.Asked.{Asked}
+use Rattle.request_text.specs.declared.request.Request.{Request}
 use Rattle.serving.specs.declared.answer_line.AnswerLine.TheVariants.{Fault}
 use Rattle.serving.specs.declared.answer_line.Answered.{Answered}
 use Rattle.serving.specs.declared.extension.Extension.{Extension}
 use Rattle.serving.specs.declared.session.Session.{Session}
 use Rattle.serving.specs.declared.server.Server.{Server}
+use Rattle.serving.specs.Keys.{kept_answered, outcomes_after, said_after}
 use Rattle.serving.specs.Lines.{asks_end, is_end, is_taken, may_wait}
 use Rattle.serving.specs.NextEpoch.{limit_while}
 use Rattle.serving.specs.Requests.{DoesRequest}
 use Rattle.serving.specs.Served.{IsAnswered, IsAskedMore, Serves}
-use Rattle.serving.specs.Server.{AnswersLine, DoesAsked, DoesLine, StaysInEpoch, HasServed, KeepsByte, TakesByte, TakesEnd, most_kept}
+use Rattle.serving.specs.Server.{AnswersLine, DoesAsked, DoesLine, StaysInEpoch, HasServed, KeepsByte, KeepsKeys, TakesByte, TakesEnd, most_kept}
 use Rattle.durable_store.specs.Durable.{IsDurable}
 use Rattle.serving.proofs.MoreEvents.{follows-none, leaves-then, writes-then}
-use Rattle.serving.proofs.NextEpochs.{more-same, says-then}
 use Rattle.serving.proofs.LaterEpochs.{lasts-stays}
 use Rattle.serving.proofs.Premises.{answered-before, serves-weaker}
 use Rattle.serving.proofs.ByteByByte.{AskSame, same-kept, asked-kept, byte-more, kept-more, line-more}
@@ -66,8 +70,9 @@ byte-kept {S} {g} {began} {told} {bytes} {old} {new} b other keeps served =
 line-answered : {S : Type 0} {g : Ghosts S} {began : Session S} {told : List Answered} {bytes : List ℕ} {old new : Server S} (b : ℕ) (a : Answered) → b ≡ 10 → old.end ≡ None → new.end ≡ None → new.line.items ≡ []
     → asks_end old.line.items ≡ false → may_wait old.session.waiting old.line.items ≡ false → StaysInEpoch g old.session new.session → new.session.waiting ≡ old.session.waiting
     → IsAnswered (Clean g new.session.store.journal) (limit_while old.session.waiting old.session.most_events) old.session.life (written g old.session.store.journal) old.line.items old.session.store.store a new.session.store.store
+    → KeepsKeys g old.session.store old.line.items a.answer new.session.store
     → new.answers.items ≡ old.answers.items ++ a ∷ [] → HasServed g began told bytes old → HasServed g began told (bytes ++ b ∷ []) new
-line-answered {S} {g} {began} {told} {bytes} {old} {new} b a is none ended clear other may stays waits does told_now served =
+line-answered {S} {g} {began} {told} {bytes} {old} {new} b a is none ended clear other may stays waits does keeps told_now served =
     let same : asked_by old.line.items ≡ asked_by served.half = ap asked_by served.kept ∙ asked-kept served.half in
     let most = began.most_events in
     let limit = limit_while old.session.waiting most in
@@ -78,8 +83,14 @@ line-answered {S} {g} {began} {told} {bytes} {old} {new} b a is none ended clear
       asked = line-more b is served.asked;
       kept = clear;
       lasts = lasts-stays served.lasts stays;
-      said = served.said;
-      says = λ now. says-then served.said (written g old.session.store.journal) (written g new.session.store.journal) (served.says (stays.clean now)) (more-same (stays.follows now));
+      said = said_after served.said served.half a.answer;
+      says = λ now.
+          let before = served.says (stays.clean now) in
+          let others = (stays.follows now).others in (
+            ap (λ (x : Contents). x.objects) others ∙ before.0,
+            ap (λ (x : Contents). x.types) others ∙ before.1,
+            keeps now ∙ ap₂ (λ (q : Result Request RequestFault) (outcomes : ℕ → Option KeyedOutcome). outcomes_after (kept_answered q a.answer) outcomes) (ap (λ (x : Asked). x.request) same) before.2,
+          );
       serves =
           let so_far : Serves (Clean g new.session.store.journal) most file began.life served.lines began.store.store (told ++ old.answers.items) old.session.life served.said old.session.store.store None old.session.waiting =
           serves-weaker stays.clean
@@ -143,10 +154,10 @@ line-told : {S : Type 0} {g : Ghosts S} {began : Session S} {told : List Answere
 line-told {S} {g} {began} {told} {bytes} {old} {new} b is none clear other answers served =
     elim (may_wait old.session.waiting old.line.items) as (λ v. may_wait old.session.waiting old.line.items ≡ v
     → MatchBool v (IsAskedMore old.line.items answers.a new.session.waiting × (new.session ≡ record old.session { waiting = new.session.waiting }))
-    (StaysInEpoch g old.session new.session × (new.session.waiting ≡ old.session.waiting) × IsAnswered (Clean g new.session.store.journal) (limit_while old.session.waiting old.session.most_events) old.session.life (written g old.session.store.journal) old.line.items old.session.store.store answers.a new.session.store.store)
+    (StaysInEpoch g old.session new.session × (new.session.waiting ≡ old.session.waiting) × IsAnswered (Clean g new.session.store.journal) (limit_while old.session.waiting old.session.most_events) old.session.life (written g old.session.store.journal) old.line.items old.session.store.store answers.a new.session.store.store × KeepsKeys g old.session.store old.line.items answers.a.answer new.session.store)
     → HasServed g began told (bytes ++ b ∷ []) new) [
       | true ↦ λ may does. line-waits b answers.a is none clear may does.0 does.1 answers.others answers.told served
-      | false ↦ λ may does. line-answered b answers.a is none (ap (λ (s : Server S). s.end) answers.others ∙ none) clear other may does.0 does.1 does.2 answers.told served
+      | false ↦ λ may does. line-answered b answers.a is none (ap (λ (s : Server S). s.end) answers.others ∙ none) clear other may does.0 does.1 does.2 does.3 answers.told served
     ] refl answers.does
 
 -- the LF of a line that asks for the end
@@ -203,7 +214,7 @@ stays-waiting {g = g} s waits sound = record {
 asked-stays : {S : Type 0} {g : Ghosts S} (old : Session S) (line : List ℕ) (a : Answered) (new : Session S) → IsDurable g old.store → DoesAsked g old line a new → StaysInEpoch g old new
 asked-stays {S} {g} old line a new sound does =
     elim (may_wait old.waiting line) as (λ v. MatchBool v (IsAskedMore line a new.waiting × (new ≡ record old { waiting = new.waiting }))
-    (StaysInEpoch g old new × (new.waiting ≡ old.waiting) × IsAnswered (Clean g new.store.journal) (limit_while old.waiting old.most_events) old.life (written g old.store.journal) line old.store.store a new.store.store)
+    (StaysInEpoch g old new × (new.waiting ≡ old.waiting) × IsAnswered (Clean g new.store.journal) (limit_while old.waiting old.most_events) old.life (written g old.store.journal) line old.store.store a new.store.store × KeepsKeys g old.store line a.answer new.store)
     → StaysInEpoch g old new) [
       | true ↦ λ it. subst (λ (s : Session S). StaysInEpoch g old s) (sym it.1) (stays-waiting old new.waiting sound)
       | false ↦ λ it. it.0
@@ -212,9 +223,10 @@ asked-stays {S} {g} old line a new sound does =
 -- a line that doesn't wait, as a session answers it
 pub asked-answered : {S : Type 0} (g : Ghosts S) (old : Session S) (line : List ℕ) (asked : Asked) (a : Answered) (new : Session S) → asked ≡ asked_by line → is_taken old.waiting asked.request ≡ false
     → StaysInEpoch g old new → new.waiting ≡ old.waiting → a.tag ≡ asked.tag
+    → (Clean g new.store.journal → (written g new.store.journal).outcomes ≡ outcomes_after (kept_answered asked.request a.answer) (written g old.store.journal).outcomes)
     → MatchResult asked.request (λ r. DoesRequest (Clean g new.store.journal) (limit_while old.waiting old.most_events) old.life (written g old.store.journal) line old.store.store r a.answer new.store.store)
     (λ fault. (a.answer ≡ Fault fault) × (new.store.store ≡ old.store.store)) → DoesAsked g old line a new
-asked-answered {S} g old line asked a new is other stays waits tag does =
+asked-answered {S} g old line asked a new is other stays waits tag keys does =
     let answered : IsAnswered (Clean g new.store.journal) (limit_while old.waiting old.most_events) old.life (written g old.store.journal) line old.store.store a new.store.store = record {
       tag = tag ∙ ap (λ (x : Asked). x.tag) is;
       request =
@@ -223,8 +235,8 @@ asked-answered {S} g old line asked a new is other stays waits tag does =
     } in
     let test : false ≡ may_wait old.waiting line = sym other ∙ ap (λ (x : Asked). is_taken old.waiting x.request) is in
     subst (λ v. MatchBool v (IsAskedMore line a new.waiting × (new ≡ record old { waiting = new.waiting }))
-    (StaysInEpoch g old new × (new.waiting ≡ old.waiting) × IsAnswered (Clean g new.store.journal) (limit_while old.waiting old.most_events) old.life (written g old.store.journal) line old.store.store a new.store.store))
-    test (stays, waits, answered)
+    (StaysInEpoch g old new × (new.waiting ≡ old.waiting) × IsAnswered (Clean g new.store.journal) (limit_while old.waiting old.most_events) old.life (written g old.store.journal) line old.store.store a new.store.store × KeepsKeys g old.store line a.answer new.store))
+    test (stays, waits, answered, λ now. keys now ∙ ap (λ (x : Asked). outcomes_after (kept_answered x.request a.answer) (written g old.store.journal).outcomes) is)
 
 -- a byte goes on
 line-stays : {S : Type 0} {g : Ghosts S} {old new : Server S} → IsDurable g old.session.store → DoesLine g old new → StaysInEpoch g old.session new.session

@@ -8,14 +8,18 @@ use Rattle.object_trait.specs.declared.event.EventKind.{EventKind}
 use Rattle.store_text.specs.declared.line.ObjectLine.{ObjectLine}
 use Rattle.history_text.specs.Canonical.{words_of, object_line, event_line}
 use Rattle.script_run.specs.Lines.{refusal_name}
+use Rattle.journal.specs.declared.outcome_row.Outcome.{Outcome}
+use Rattle.journal.specs.declared.outcome_row.Outcome.TheVariants as outcome
 use Rattle.store.specs.declared.refusals.PeekRefusal.{PeekRefusal}
 use Rattle.store.specs.declared.refusals.PeekRefusal.TheVariants as peek
 use Rattle.request_text.specs.declared.fault.RequestFault.{RequestFault}
 use Rattle.request_text.specs.declared.fault.RequestFault.TheVariants.{TooLong, NotAscii, BadTag, UnknownVerb, BadWords, BadNumber}
 use Rattle.request_text.specs.declared.request.TransactionName.{TransactionName}
 use Rattle.serving.specs.declared.answer_line.AnswerLine.{AnswerLine}
+use Rattle.serving.specs.declared.answer_line.KeyRefusal.{KeyRefusal}
+use Rattle.serving.specs.declared.answer_line.KeyRefusal.TheVariants as key
 use Rattle.serving.specs.declared.answer_line.Moment.{Moment}
-use Rattle.serving.specs.declared.answer_line.AnswerLine.TheVariants.{Done, Committed, Begun, State, Reply, Busy, Draining, Nothing, Counts, Objects, Types, Events, Extended, Found, Seen, SeenStates, NothingSeen, Unseen, Completed, BusyAt, NothingAt, RefusedAt, NotAdded, Waiting, Refused, Fault}
+use Rattle.serving.specs.declared.answer_line.AnswerLine.TheVariants.{Done, Committed, Begun, State, Reply, Busy, Draining, Nothing, Counts, Objects, Types, Events, Extended, Found, Seen, SeenStates, NothingSeen, Unseen, Completed, BusyAt, NothingAt, RefusedAt, Replied, KeyRefused, OutcomeIs, NotAdded, Waiting, Refused, Fault}
 
 -- the tag, or `-` where a line has none
 abbrev pub tag_text : Option (List ℕ) → List ℕ
@@ -36,6 +40,11 @@ abbrev pub peek_refusal_name : PeekRefusal → List ℕ
 peek_refusal_name peek.NoObject = codes "NoObject"
 peek_refusal_name peek.NoCall = codes "NoCall"
 peek_refusal_name peek.Changes = codes "Changes"
+
+-- the name of a reason why nothing is done under a key
+abbrev pub key_refusal_name : KeyRefusal → List ℕ
+key_refusal_name key.Aborted = codes "Aborted"
+key_refusal_name key.Taken = codes "KeyTaken"
 
 -- pieces one after another
 abbrev pub pieces_text : List (List ℕ) → List ℕ
@@ -92,6 +101,17 @@ busy_text tag at t = pieces_text (tag ∷ codes " busy " ∷ decimal at ∷ code
 abbrev pub refused_text : List ℕ → ℕ → List ℕ → List ℕ
 refused_text tag at why = pieces_text (tag ∷ codes " refused " ∷ decimal at ∷ codes " " ∷ why ∷ (10 ∷ []) ∷ [])
 
+-- words that are there already, after a space where there are any
+abbrev pub words_behind : List ℕ → List ℕ
+words_behind [] = []
+words_behind (b ∷ text) = 32 ∷ b ∷ text
+
+-- a tag, what became of a transaction, and its replies
+abbrev pub outcome_text : List ℕ → Option Outcome → List ℕ
+outcome_text tag None = pieces_text (tag ∷ codes " unknown\n" ∷ [])
+outcome_text tag (Some (outcome.Committed replies)) = pieces_text (tag ∷ codes " committed" ∷ words_behind replies ∷ (10 ∷ []) ∷ [])
+outcome_text tag (Some outcome.Aborted) = pieces_text (tag ∷ codes " aborted\n" ∷ [])
+
 -- ---- several lines, each after the tag
 
 -- a line after a tag
@@ -136,6 +156,9 @@ answer_text tag (Completed replies) = (tag_text tag ++ codes " done") ++ (flat_m
 answer_text tag (BusyAt at blocker) = busy_text (tag_text tag) at blocker
 answer_text tag (NothingAt at) = place_text (tag_text tag) (codes " none ") at
 answer_text tag (RefusedAt at refusal) = refused_text (tag_text tag) at (refusal_name refusal)
+answer_text tag (Replied replies) = pieces_text (tag_text tag ∷ codes " done" ∷ words_behind replies ∷ (10 ∷ []) ∷ [])
+answer_text tag (KeyRefused why) = word_text (tag_text tag) (codes " refused ") (key_refusal_name why)
+answer_text tag (OutcomeIs found) = outcome_text (tag_text tag) found
 answer_text tag (NotAdded why) = word_text (tag_text tag) (codes " no ") why.items
 answer_text tag Waiting = []
 answer_text tag (Refused refusal) = word_text (tag_text tag) (codes " refused ") (refusal_name refusal)

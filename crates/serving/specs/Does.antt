@@ -1,8 +1,6 @@
 -- What a request does to a store, and what it is answered.
-use Rattle.std.specs.Prelude.{◌≡◌, ℕ, Bool, ◌==◌, nat_le, List, length, MatchBool, MatchOption, Option, Some, None, slice_get, option_and_then, Result, Ok, Err}
-use Rattle.type_table.specs.Table.{op_of}
+use Rattle.std.specs.Prelude.{◌≡◌, ℕ, Bool, ◌==◌, nat_le, List, length, MatchBool, MatchOption, Option, Some, None, slice_get, Result, Ok, Err}
 use Rattle.type_table.specs.declared.op.Op.{Op}
-use Rattle.object_trait.specs.Object.{Object}
 use Rattle.object_calls.specs.declared.answer.Answer as calls
 use Rattle.object_calls.specs.declared.answer.Answer.TheVariants as call
 use Rattle.serial_order.specs.declared.command.Command.TheVariants as command
@@ -13,6 +11,7 @@ use Rattle.store.specs.Calls.{Would}
 use Rattle.store.specs.KeptState.{IsKeptState}
 use Rattle.serial_order.specs.History.{begins, summary}
 use Rattle.serial_order.specs.Replay.{open_count}
+use Rattle.durable_store.specs.Keys.{op_of_object}
 use Rattle.request_text.specs.declared.request.TransactionName.{TransactionName}
 use Rattle.serving.specs.declared.answer_line.AnswerLine.{AnswerLine}
 use Rattle.serving.specs.declared.answer_line.AnswerLine.TheVariants.{Done, Committed, Begun, State, Reply, Busy, Draining, Nothing, Counts, Refused}
@@ -31,11 +30,7 @@ abbrev pub done_or : AnswerLine → Result (Unit {0}) Refusal → AnswerLine
 done_or answer (Ok u) = answer
 done_or answer (Err refusal) = Refused refusal
 
--- operation k of the object at x
-abbrev pub op_of_object : Stored → ℕ → ℕ → Option Op
-op_of_object s x k = option_and_then (λ (o : Object). op_of o.table k) (slice_get (objects s) x)
-
--- its reply
+-- the reply of an operation
 abbrev pub reply_of : Option Op → AnswerLine
 reply_of (Some op) = Reply op.reply
 reply_of None = Nothing

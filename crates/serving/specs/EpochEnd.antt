@@ -34,25 +34,26 @@ pub record EndsEpoch {S : Type 0} (g : Ghosts S) (waits : Option Extension) (old
 
 -- ---- a crash
 
--- the file of a store whose epoch is over, with an abort of each transaction that was open, under the header that it had
-abbrev pub IsEpochOver : {S : Type 0} → Durable S → Contents → Type 0
-IsEpochOver d c = IsStoreOf c (aborted d.store) × (c.headers ≡ d.journal.header ∷ [])
+-- the file of a store whose epoch is over, with an abort of each transaction that was open, under the header that it had, and
+-- with what it knew of keys
+abbrev pub IsEpochOver : {S : Type 0} (g : Ghosts S) → Durable S → Contents → Type 0
+IsEpochOver g d c = IsStoreOf c (aborted d.store) × (c.headers ≡ d.journal.header ∷ []) × (c.outcomes ≡ (written g d.journal).outcomes)
 
 -- one that begins anew from such a file
-pub record BeginsAnew {S : Type 0} (waits : Option Extension) (d : Durable S) (c : Contents) : Type 0 where
+pub record BeginsAnew {S : Type 0} (g : Ghosts S) (waits : Option Extension) (d : Durable S) (c : Contents) : Type 0 where
   pub before : Contents
   pub next : Stored
-  pub over : IsEpochOver d before
+  pub over : IsEpochOver g d before
   pub is : IsNextFile waits (aborted d.store) next before c
 
 -- a crash leaves what it could have left before, or the file of the epoch that is over
 abbrev pub LeavesClosed : {S : Type 0} (g : Ghosts S) → Durable S → Durable S → Type 0
-LeavesClosed g old new = (db : Trees) → may_leave g new.journal db → (Clean g old.journal × IsFile db × IsEpochOver old (contents_of db)) ⊎ may_leave g old.journal db
+LeavesClosed g old new = (db : Trees) → may_leave g new.journal db → (Clean g old.journal × IsFile db × IsEpochOver g old (contents_of db)) ⊎ may_leave g old.journal db
 
 -- the same, or one that begins anew from there
 abbrev pub LeavesEnd : {S : Type 0} (g : Ghosts S) → Option Extension → Durable S → Durable S → Type 0
 LeavesEnd g waits old new = (db : Trees) → may_leave g new.journal db
-    → (Clean g old.journal × IsFile db × (IsEpochOver old (contents_of db) ⊎ BeginsAnew waits old (contents_of db))) ⊎ may_leave g old.journal db
+    → (Clean g old.journal × IsFile db × (IsEpochOver g old (contents_of db) ⊎ BeginsAnew g waits old (contents_of db))) ⊎ may_leave g old.journal db
 
 -- the file of a store where nothing is open begins anew, or is as before
 abbrev pub LeavesNext : {S : Type 0} (g : Ghosts S) → Option Extension → Durable S → Durable S → Type 0

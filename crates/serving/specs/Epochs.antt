@@ -10,7 +10,7 @@ use Rattle.durable_store.specs.declared.durable.Durable.{Durable}
 use Rattle.durable_store.specs.Recovered.{IsStoreOf}
 use Rattle.serving.specs.Archives.{KeepsAtLeast, KeepsEpochs, KeptHistory}
 use Rattle.serving.specs.declared.extension.Extension.{Extension}
-use Rattle.serving.specs.Follows.{HasMoreEvents}
+use Rattle.serving.specs.Follows.{HasMore}
 use Rattle.serving.specs.NextEpoch.{IsNextFile}
 
 -- with an abort of each transaction that was open
@@ -21,7 +21,7 @@ aborted s = record s { history = s.history ++ closing s.history }
 -- what it said at the end of each epoch that is over, in their order
 pub data Reaches (c : Contents) : List Contents → Contents → Type 0 where
   none : Reaches c [] c
-  events : (ended : List Contents) (mid new : Contents) → Reaches c ended mid → HasMoreEvents mid new → Reaches c ended new
+  events : (ended : List Contents) (mid new : Contents) → Reaches c ended mid → HasMore mid new → Reaches c ended new
   epoch : (ended : List Contents) (mid now : Contents) (waits : Option Extension) (old new : Stored) → Reaches c ended mid → IsStoreOf mid old → IsNextFile waits old new mid now
       → Reaches c (ended ++ mid ∷ []) now
 

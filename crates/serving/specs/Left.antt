@@ -37,12 +37,16 @@ began_at g s = record { most = s.most_events; file = written g s.store.journal; 
 abbrev pub IsInLife : Contents → ℕ → Type 0
 IsInLife c life = (h : Header) × (c.headers ≡ h ∷ []) × (h.life ≡ life)
 
--- the file of this store in this life; where its epoch is over, also that file with an abort of each transaction that was open, and the file
--- that begins anew from there, with what waits to be added
-pub data IsStoreFile (over : Type 0) (waits : Option Extension) (life : ℕ) (s : Stored) : Contents → Type 0 where
-  present : (c : Contents) → IsStoreOf c s → IsInLife c life → IsStoreFile over waits life s c
-  closed : (c : Contents) → over → IsStoreOf c (aborted s) → IsInLife c life → IsStoreFile over waits life s c
-  anew : (c now : Contents) (next : Stored) → over → IsStoreOf c (aborted s) → IsInLife c life → IsNextFile waits (aborted s) next c now → IsStoreFile over waits life s now
+-- the file knows this of keys
+abbrev pub KnowsKeys : Contents → Contents → Type 0
+KnowsKeys said c = c.outcomes ≡ said.outcomes
+
+-- the file of this store in this life, which knows of keys what was said; where its epoch is over, also that file with an abort of each transaction that
+-- was open, and the file that begins anew from there, with what waits to be added
+pub data IsStoreFile (over : Type 0) (waits : Option Extension) (life : ℕ) (said : Contents) (s : Stored) : Contents → Type 0 where
+  present : (c : Contents) → IsStoreOf c s → IsInLife c life → KnowsKeys said c → IsStoreFile over waits life said s c
+  closed : (c : Contents) → over → IsStoreOf c (aborted s) → IsInLife c life → KnowsKeys said c → IsStoreFile over waits life said s c
+  anew : (c now : Contents) (next : Stored) → over → IsStoreOf c (aborted s) → IsInLife c life → KnowsKeys said c → IsNextFile waits (aborted s) next c now → IsStoreFile over waits life said s now
 
 -- since serving began these lines were done and so answered, and this is the file then; its epoch may be over where it is full or
 -- an extension waits, or where these lines are the last
@@ -53,7 +57,7 @@ pub record IsFileAfter (b : Began) (last : List (List ℕ) → Type 0) (lines : 
   pub ended : Option Asked
   pub waits : Option Extension
   pub serves : Serves (Unit {0}) b.most b.file b.life lines b.store done life said reached ended waits
-  pub file : IsStoreFile ((is_epoch_full (limit_while waits b.most) reached ≡ true) ⊎ last lines) waits life reached c
+  pub file : IsStoreFile ((is_epoch_full (limit_while waits b.most) reached ≡ true) ⊎ last lines) waits life said reached c
 
 -- ---- after a crash
 

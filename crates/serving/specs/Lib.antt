@@ -7,6 +7,7 @@ pub mod Archives
 pub mod Epochs
 pub mod Means
 pub mod Several
+pub mod Keys
 pub mod Requests
 pub mod Lines
 pub mod Served
@@ -19,3 +20,4 @@ pub mod Acknowledged
 pub mod Places
 pub mod CommitsFound
 pub mod AnswersFound
+pub mod KeysFound

@@ -30,9 +30,9 @@ abbrev pub IsNextFile : Option Extension → Stored → Stored → Contents → 
 IsNextFile None old new c now = Renews old new × (now ≡ renewed c new.types)
 IsNextFile (Some e) old new c now = Grows e.added.texts.items e.added.lines.items old new c now
 
--- a file says the same of its objects and their types
+-- a file says the same of its objects, their types, and what became of transactions that have keys
 abbrev pub SaysSame : Contents → Contents → Type 0
-SaysSame c now = (now.objects ≡ c.objects) × (now.types ≡ c.types)
+SaysSame c now = (now.objects ≡ c.objects) × (now.types ≡ c.types) × (now.outcomes ≡ c.outcomes)
 
 -- it has objects and texts more: none of these texts was there
 pub record HasMoreObjects (a : Added) (c now : Contents) : Type 0 where
@@ -42,8 +42,9 @@ pub record HasMoreObjects (a : Added) (c now : Contents) : Type 0 where
   pub are_placed : ArePlaced a.texts.items (c.types ++ fresh) a.lines.items placed
   pub objects : now.objects ≡ c.objects ++ placed
   pub types : now.types ≡ c.types ++ fresh
+  pub outcomes : now.outcomes ≡ c.outcomes
 
--- what it says of them where another epoch begins
+-- what it says of these where another epoch begins
 abbrev pub SaysNext : Option Extension → Contents → Contents → Type 0
 SaysNext None c now = SaysSame c now
 SaysNext (Some e) c now = HasMoreObjects e.added c now

@@ -12,6 +12,7 @@ use Rattle.serial_order.specs.declared.refusal.Refusal.TheVariants.{NoObject}
 use Rattle.serving.specs.declared.answer_line.AnswerLine.{AnswerLine}
 use Rattle.serving.specs.declared.answer_line.AnswerLine.TheVariants.{Done, Draining, Objects, Types, Events, Found, Refused}
 use Rattle.request_text.specs.Requests.{calls_asked, objects_asked}
+use Rattle.serving.specs.Keys.{DoesCommitUnder, DoesDoUnder, DoesOutcome}
 use Rattle.serving.specs.Means.{Means}
 use Rattle.serving.specs.Several.{DoesCommitted, DoesDo, DoesPeek}
 use Rattle.serving.specs.Does.{DoesAbort, DoesBegin, DoesCall, DoesCommit, DoesKept, DoesRollback, DoesStats, DoesWould}
@@ -59,12 +60,15 @@ DoesRequest clean most life c line old request.Begin answer new = DoesBegin most
 DoesRequest clean most life c line old (request.Call t x name) answer new = (n : ℕ) × Means clean c.objects x n × DoesCall life old t n name answer new
 DoesRequest clean most life c line old (request.Would t x name) answer new = (n : ℕ) × Means clean c.objects x n × DoesWould life old t n name answer new
 DoesRequest clean most life c line old (request.Commit t) answer new = DoesCommit life old t answer new
+DoesRequest clean most life c line old (request.CommitUnder t key) answer new = DoesCommitUnder clean life c old t key answer new
 DoesRequest clean most life c line old (request.Abort t) answer new = DoesAbort life old t answer new
 DoesRequest clean most life c line old (request.Rollback t count) answer new = DoesRollback life old t count answer new
 DoesRequest clean most life c line old (request.Kept x) answer new = (n : ℕ) × Means clean c.objects x n × DoesKept old n answer new
 DoesRequest clean most life c line old request.Peek answer new = DoesPeek clean life c.objects old (calls_asked line) answer new
 DoesRequest clean most life c line old request.Committed answer new = DoesCommitted clean life c.objects old (objects_asked line) answer new
 DoesRequest clean most life c line old request.Do answer new = DoesDo clean most life c.objects old (calls_asked line) answer new
+DoesRequest clean most life c line old (request.DoUnder key) answer new = DoesDoUnder clean most life c old (calls_asked line) key answer new
+DoesRequest clean most life c line old (request.Outcome key) answer new = DoesOutcome clean c old key answer new
 DoesRequest clean most life c line old (request.Find name) answer new = (new ≡ old) × (found : Option ℕ) × (answer ≡ found_answer found) × (clean → found ≡ find_named c.objects name)
 DoesRequest clean most life c line old request.Objects answer new = TellsObjects clean answer c.objects × LetsGo old new
 DoesRequest clean most life c line old request.Types answer new = TellsTypes clean answer c.types × LetsGo old new

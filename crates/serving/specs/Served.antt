@@ -8,6 +8,7 @@ use Rattle.serving.specs.declared.answer_line.Answered.{Answered}
 use Rattle.serving.specs.declared.answer_line.AnswerLine.TheVariants.{Fault}
 use Rattle.serving.specs.Does.{is_epoch_full}
 use Rattle.serving.specs.Epochs.{aborted}
+use Rattle.serving.specs.Keys.{said_after}
 use Rattle.serving.specs.Requests.{DoesRequest}
 use Rattle.serving.specs.declared.extension.Extension.{Extension}
 use Rattle.serving.specs.Lines.{asks_end, may_wait}
@@ -24,7 +25,7 @@ pub record IsAskedMore (line : List ℕ) (a : Answered) (waits : Option Extensio
   pub told : MayWait a.tag a.answer waits
 
 -- these lines were done in their order, from a file that says this, and so they were answered: by a store in this life, which is now this store
--- in that life, over a file that says these objects and types. An extension may wait, and then no transaction begins. Where an epoch is full
+-- in that life, over a file that says these objects, types and outcomes. An extension may wait, and then no transaction begins. Where an epoch is full
 -- another begins, in another life: with the objects of what waits, which is answered then. A line after one that asks for the end isn't done, and
 -- that one is answered later. If no wrong answer of the disk was taken as true, what is read of the file is so, and the other life is the next one
 pub data Serves (clean : Type 0) (most : ℕ) (c : Contents) (first : ℕ) : List (List ℕ) → Stored → List Answered → ℕ → Contents → Stored → Option Asked → Option Extension → Type 0 where
@@ -32,7 +33,7 @@ pub data Serves (clean : Type 0) (most : ℕ) (c : Contents) (first : ℕ) : Lis
   line : (lines : List (List ℕ)) (asked : List ℕ) (old mid new : Stored) (answers : List Answered) (a : Answered) (life : ℕ) (said : Contents) (waits : Option Extension)
       → Serves clean most c first lines old answers life said mid None waits → asks_end asked ≡ false → may_wait waits asked ≡ false
       → IsAnswered clean (limit_while waits most) life said asked mid a new
-      → Serves clean most c first (lines ++ asked ∷ []) old (answers ++ a ∷ []) life said new None waits
+      → Serves clean most c first (lines ++ asked ∷ []) old (answers ++ a ∷ []) life (said_after said asked a.answer) new None waits
   more : (lines : List (List ℕ)) (asked : List ℕ) (old new : Stored) (answers : List Answered) (a : Answered) (life : ℕ) (said : Contents) (waits : Option Extension)
       → Serves clean most c first lines old answers life said new None None → may_wait None asked ≡ true → IsAskedMore asked a waits
       → Serves clean most c first (lines ++ asked ∷ []) old (answers ++ a ∷ []) life said new None waits

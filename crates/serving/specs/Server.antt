@@ -5,11 +5,13 @@ use Rattle.journal.specs.Contents.{Contents}
 use Rattle.journal.specs.Journal.{Clean, written}
 use Rattle.durable_store.specs.declared.durable.Durable.{Durable}
 use Rattle.durable_store.specs.Durable.{IsDurable}
+use Rattle.serving.specs.declared.answer_line.AnswerLine.{AnswerLine}
 use Rattle.serving.specs.declared.answer_line.Answered.{Answered}
 use Rattle.serving.specs.declared.session.Session.{Session}
 use Rattle.serving.specs.declared.server.Server.{Server}
 use Rattle.serving.specs.Epochs.{LeavesEpochs, WritesEpochs}
 use Rattle.serving.specs.Follows.{LeavesMore, WritesMore}
+use Rattle.serving.specs.Keys.{said_after}
 use Rattle.serving.specs.Lines.{AreLines, asks_end, may_wait}
 use Rattle.serving.specs.NextEpoch.{SaysSame, limit_while}
 use Rattle.request_text.specs.Requests.{asked_by}
@@ -53,11 +55,20 @@ pub record HasServed {S : Type 0} (g : Ghosts S) (began : Session S) (told : Lis
   pub says : Clean g now.session.store.journal → SaysSame said (written g now.session.store.journal)
   pub serves : Serves (Clean g now.session.store.journal) began.most_events (written g began.store.journal) began.life lines began.store.store (told ++ now.answers.items) now.session.life said now.session.store.store now.end now.session.waiting
 
+-- what is written says of keys what it said
+abbrev pub KeepsAll : {S : Type 0} (g : Ghosts S) → Durable S → Durable S → Type 0
+KeepsAll g old new = Clean g new.journal → (written g new.journal).outcomes ≡ (written g old.journal).outcomes
+
+-- what is written says of keys what it says after this line
+abbrev pub KeepsKeys : {S : Type 0} (g : Ghosts S) → Durable S → List ℕ → AnswerLine → Durable S → Type 0
+KeepsKeys g old line answer new = Clean g new.journal → (written g new.journal).outcomes ≡ (said_after (written g old.journal) line answer).outcomes
+
 -- a line is answered: what it asks for may wait now; or it is done, in the same epoch
 abbrev pub DoesAsked : {S : Type 0} (g : Ghosts S) → Session S → List ℕ → Answered → Session S → Type 0
 DoesAsked g old line a new =
     MatchBool (may_wait old.waiting line) (IsAskedMore line a new.waiting × (new ≡ record old { waiting = new.waiting }))
-    (StaysInEpoch g old new × (new.waiting ≡ old.waiting) × IsAnswered (Clean g new.store.journal) (limit_while old.waiting old.most_events) old.life (written g old.store.journal) line old.store.store a new.store.store)
+    (StaysInEpoch g old new × (new.waiting ≡ old.waiting) × IsAnswered (Clean g new.store.journal) (limit_while old.waiting old.most_events) old.life (written g old.store.journal) line old.store.store a new.store.store
+    × KeepsKeys g old.store line a.answer new.store)
 
 pub record AnswersLine {S : Type 0} (g : Ghosts S) (old new : Server S) : Type 0 where
   pub a : Answered

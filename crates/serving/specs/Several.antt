@@ -19,7 +19,8 @@ use Rattle.request_text.specs.declared.request.ObjectWord.{ObjectWord}
 use Rattle.serving.specs.declared.answer_line.AnswerLine.{AnswerLine}
 use Rattle.serving.specs.declared.answer_line.Moment.{Moment}
 use Rattle.serving.specs.declared.answer_line.AnswerLine.TheVariants.{Draining, Seen, SeenStates, NothingSeen, Unseen, Completed, BusyAt, NothingAt, RefusedAt, Refused, Nothing}
-use Rattle.serving.specs.Does.{is_epoch_full, named, op_of_object}
+use Rattle.durable_store.specs.Keys.{op_of_object}
+use Rattle.serving.specs.Does.{is_epoch_full, named}
 use Rattle.serving.specs.Means.{Means}
 
 -- one of each list after another, and as many in both

@@ -4,11 +4,11 @@ use Rattle.std.specs.Fmt.{decimal}
 use Rattle.std.specs.List.{flat_map, list_any}
 use Rattle.std.specs.Io.KnownBytes.{Appends}
 use Rattle.serving.specs.declared.answer_line.AnswerLine.{AnswerLine}
-use Rattle.serving.specs.declared.answer_line.AnswerLine.TheVariants.{Committed, Extended, Seen, SeenStates, NothingSeen, Completed}
+use Rattle.serving.specs.declared.answer_line.AnswerLine.TheVariants.{Committed, Extended, Seen, SeenStates, NothingSeen, Completed, Replied, KeyRefused, OutcomeIs}
 use Rattle.serving.specs.declared.answer_line.Answered.{Answered}
 use Rattle.serving.specs.AnswerText.{answer_text, pieces_text}
 
--- it says that something is done which no crash takes away: a commit, or that objects were added; or what was seen of committed states
+-- it says that something is done which no crash takes away: a commit, or that objects were added; or what was seen of committed states, or of keys
 abbrev pub is_lasting : AnswerLine → Bool
 is_lasting Committed = true
 is_lasting (Extended first) = true
@@ -16,6 +16,9 @@ is_lasting (Seen moment replies) = true
 is_lasting (SeenStates moment states) = true
 is_lasting (NothingSeen at) = true
 is_lasting (Completed replies) = true
+is_lasting (Replied replies) = true
+is_lasting (KeyRefused why) = true
+is_lasting (OutcomeIs found) = true
 is_lasting answer = false
 
 abbrev pub has_lasting : List Answered → Bool

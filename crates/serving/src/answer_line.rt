@@ -1,4 +1,7 @@
-use journal::TypeText;
+ghost use Rattle.std.specs.Prelude.{◌≡◌};
+ghost use Rattle.serving.specs.Told.{is_lasting};
+
+use journal::{Outcome, ReplyText, TypeText};
 use object_trait::EventKind;
 use request_text::{RequestFault, TransactionName};
 use serial_order::Refusal;
@@ -55,6 +58,12 @@ pub enum AnswerLine {
     NothingAt { at: usize },
     /// The store refused the call at this place, which ended one.
     RefusedAt { at: usize, refusal: Refusal },
+    /// The replies of a whole transaction under a key, done now or before, which is answered only once it is durable.
+    Replied { replies: ReplyText },
+    /// Nothing is done under a key, which is answered only once what is known of it is durable.
+    KeyRefused { why: KeyRefusal },
+    /// What became of the transaction that has a key, where it is known, which is answered only once that is durable.
+    OutcomeIs { outcome: Option<Outcome> },
     /// What was asked for isn't added.
     NotAdded { why: Vec<u8> },
     /// What was asked for waits for another epoch. The client is told nothing of it before that.
@@ -63,6 +72,15 @@ pub enum AnswerLine {
     Refused { refusal: Refusal },
     /// The line is no request.
     Fault { fault: RequestFault },
+}
+
+/// Why nothing is done under a key.
+#[derive(Clone, Copy)]
+pub enum KeyRefusal {
+    /// Its transaction is aborted.
+    Aborted,
+    /// What is kept at its place is another one's.
+    Taken,
 }
 
 /// A moment of a store, between two commits. Of two of them that with the greater life is later, and in one life that with
@@ -80,4 +98,22 @@ pub struct Moment {
 pub struct Answered {
     pub tag: Option<Name>,
     pub answer: AnswerLine,
+}
+
+/// Whether it says that something is done which no crash takes away.
+pub(crate) fn is_lasting(answer: &AnswerLine) -> bool
+    ensures { result ≡ is_lasting answer.now }
+{
+    matches!(
+        answer,
+        AnswerLine::Committed
+            | AnswerLine::Extended { .. }
+            | AnswerLine::Seen { .. }
+            | AnswerLine::SeenStates { .. }
+            | AnswerLine::NothingSeen { .. }
+            | AnswerLine::Completed { .. }
+            | AnswerLine::Replied { .. }
+            | AnswerLine::KeyRefused { .. }
+            | AnswerLine::OutcomeIs { .. }
+    )
 }

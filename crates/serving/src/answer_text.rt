@@ -2,13 +2,13 @@
 
 ghost use Rattle.std.specs.Prelude.{◌≡◌, None, ◌+◌, ◌<◌, ◌==◌, [], ◌∷◌, ◌++◌, codes, IfSome, drop, length, position};
 ghost use Rattle.outputs.specs.Out.{Puts};
-ghost use Rattle.serving.specs.AnswerText.{answer_text, counts_text, done_text, draining_text, after_space, busy_text, number_after_space, peek_refusal_name, place_text, refused_text, seen_text, fault_name, number_text, tag_text, transaction_text, behind, event_text, answer_lines, object_answer};
+ghost use Rattle.serving.specs.AnswerText.{pieces_text, key_refusal_name, outcome_text, words_behind, answer_text, counts_text, done_text, draining_text, after_space, busy_text, number_after_space, peek_refusal_name, place_text, refused_text, seen_text, fault_name, number_text, tag_text, transaction_text, behind, event_text, answer_lines, object_answer};
 ghost use Rattle.std.specs.List.{flat_map};
 
-use crate::answer_line::{AnswerLine, Moment};
+use crate::answer_line::{AnswerLine, KeyRefusal, Moment};
 use history_text::{write_event, write_object};
 use itoa::Buffer;
-use journal::TypeText;
+use journal::{Outcome, TypeText};
 use object_trait::{Event, EventKind};
 use outputs::{Out, OutFault, items_in_turn, put_all, texts_in_turn};
 use request_text::{RequestFault, TransactionName};
@@ -70,6 +70,14 @@ pub fn write_answer<W: Out>(
         AnswerLine::RefusedAt { at, refusal } => {
             put_refused(out, tag, *at, name_of(*refusal).as_bytes())
         }
+        AnswerLine::Replied { replies } => put_replies(out, tag, b" done", replies.as_bytes()),
+        AnswerLine::KeyRefused { why } => {
+            put_all(
+                out,
+                &[tag, b" refused ", key_refusal_name(*why).as_bytes(), b"\n"],
+            )
+        }
+        AnswerLine::OutcomeIs { outcome } => put_outcome(out, tag, outcome),
         AnswerLine::NotAdded { why } => put_all(out, &[tag, b" no ", why.as_slice(), b"\n"]),
         AnswerLine::Waiting => put_all(out, &[]),
         AnswerLine::Refused { refusal } => {
@@ -103,6 +111,41 @@ pub(crate) fn put_done<W: Out>(out: &mut W, tag: &[u8]) -> Result<(), OutFault>
     ensures { Puts (W.taken out.old) (W.taken out.new) (W.fault out.new) (done_text tag.now) result }
 {
     put_all(out, &[tag, b" ok\n"])
+}
+
+/// Writes what became of a transaction.
+fn put_outcome<W: Out>(out: &mut W, tag: &[u8], outcome: &Option<Outcome>) -> Result<(), OutFault>
+    requires { W.fault out.old ≡ None }
+    ensures { Puts (W.taken out.old) (W.taken out.new) (W.fault out.new) (outcome_text tag.now outcome.now) result }
+{
+    match outcome {
+        None => put_all(out, &[tag, b" unknown\n"]),
+        Some(Outcome::Committed(replies)) => {
+            put_replies(out, tag, b" committed", replies.as_bytes())
+        }
+        Some(Outcome::Aborted) => put_all(out, &[tag, b" aborted\n"]),
+    }
+}
+
+/// Writes a tag, a word, and replies, of which there may be none.
+fn put_replies<W: Out>(out: &mut W, tag: &[u8], word: &[u8], replies: &[u8]) -> Result<(), OutFault>
+    requires { W.fault out.old ≡ None }
+    ensures { Puts (W.taken out.old) (W.taken out.new) (W.fault out.new) (pieces_text (tag.now ∷ word.now ∷ words_behind replies.now ∷ (10 ∷ []) ∷ [])) result }
+{
+    if replies.is_empty() {
+        return put_all(out, &[tag, word, b"\n"]);
+    }
+    put_all(out, &[tag, word, b" ", replies, b"\n"])
+}
+
+/// The name of a reason why nothing is done under a key.
+fn key_refusal_name(why: KeyRefusal) -> &'static str
+    ensures { result.now ≡ key_refusal_name why }
+{
+    match why {
+        KeyRefusal::Aborted => "Aborted",
+        KeyRefusal::Taken => "KeyTaken",
+    }
 }
 
 /// Writes that no further transaction begins.

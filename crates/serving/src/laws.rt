@@ -7,6 +7,7 @@ ghost use Rattle.request_text.specs.declared.request.Asked.{Asked};
 ghost use Rattle.serving.specs.Acknowledged.{AreLast};
 ghost use Rattle.serving.specs.AnswersFound.{AnswersAreFound, TransactionsAreFound};
 ghost use Rattle.serving.specs.CommitsFound.{CommitsAreFound};
+ghost use Rattle.serving.specs.KeysFound.{KeysAreFound};
 ghost use Rattle.serving.specs.Left.{Began, Survives};
 ghost use Rattle.serving.specs.Lines.{AreLines};
 
@@ -31,4 +32,11 @@ pub fn told_answers_are_found<S: Alter>()
 pub fn told_transactions_are_found<S: Alter>()
     ensures { (b : Began) (all : List (List ℕ)) (ended : Option Asked) (given_now : Option (List ℕ)) (seen rest half : List ℕ) (lines : List (List ℕ)) (answers : List Answered) (now : Durable S)
         → AreLines seen lines half → Survives S.Store b (AreLast all ended given_now) (seen ++ rest) answers now → TransactionsAreFound S.Store b (AreLast all ended given_now) lines answers now }
+{}
+
+/// So is what became of a transaction that has a key: whatever file a crash leaves knows each that was answered as committed under
+/// a key, with the replies that were told.
+pub fn told_keys_are_found<S: Alter>()
+    ensures { (b : Began) (all : List (List ℕ)) (ended : Option Asked) (given_now : Option (List ℕ)) (seen rest half : List ℕ) (lines : List (List ℕ)) (answers : List Answered) (now : Durable S)
+        → AreLines seen lines half → Survives S.Store b (AreLast all ended given_now) (seen ++ rest) answers now → KeysAreFound S.Store lines answers now }
 {}

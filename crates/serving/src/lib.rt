@@ -9,6 +9,7 @@ mod client;
 mod epoch;
 mod epoch_limits;
 mod extension;
+mod keys;
 mod laws;
 mod reads;
 mod serve_fault;
@@ -18,13 +19,16 @@ mod session;
 mod whole;
 
 pub use additions::{Added, AdditionFault, Additions, NoAdditions};
-pub use answer_line::{AnswerLine, Answered, Moment};
+pub use answer_line::{AnswerLine, Answered, KeyRefusal, Moment};
 pub use answer_text::write_answer;
 pub use archive::{Archive, ArchiveFault, NoArchive};
 pub use client::Client;
 pub use epoch_limits::EpochLimits;
 pub use extension::Extension;
-pub use laws::{told_answers_are_found, told_commits_are_found, told_transactions_are_found};
+pub use laws::{
+    told_answers_are_found, told_commits_are_found, told_keys_are_found,
+    told_transactions_are_found,
+};
 pub use serve_fault::ServeFault;
 pub use server::Server;
 pub use service::serve;

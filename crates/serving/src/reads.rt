@@ -6,7 +6,8 @@ ghost use Rattle.durable_store.specs.Durable.{IsDurable};
 ghost use Rattle.serving.specs.Several.{DoesCommitted, DoesPeek, IsAnsweredThere, moment_of, found_reply};
 
 use crate::answer_line::{AnswerLine, Moment};
-use crate::session::{Session, op_at};
+use crate::session::Session;
+use durable_store::op_at;
 use journal::JournalError;
 use objects::Object;
 use request_text::{AskedCall, ObjectWord};

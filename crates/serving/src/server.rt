@@ -23,7 +23,7 @@ ghost use Rattle.serving.specs.Requests.{LetsGo};
 ghost use Rattle.serving.specs.Told.{has_lasting, is_lasting};
 
 use crate::additions::Additions;
-use crate::answer_line::{AnswerLine, Answered};
+use crate::answer_line::{AnswerLine, Answered, is_lasting};
 use crate::archive::Archive;
 use crate::client::Client;
 use crate::extension::Extension;
@@ -572,21 +572,6 @@ fn has_lasting(answers: &[Answered]) -> bool
     ensures { result ≡ has_lasting answers.now }
 {
     answers.iter().any(|a| is_lasting(&a.answer))
-}
-
-/// Whether it says that something is done which no crash takes away.
-fn is_lasting(answer: &AnswerLine) -> bool
-    ensures { result ≡ is_lasting answer.now }
-{
-    matches!(
-        answer,
-        AnswerLine::Committed
-            | AnswerLine::Extended { .. }
-            | AnswerLine::Seen { .. }
-            | AnswerLine::SeenStates { .. }
-            | AnswerLine::NothingSeen { .. }
-            | AnswerLine::Completed { .. }
-    )
 }
 
 /// Whether this long has passed since then, by a clock; one that fails doesn't hold up what waits.

@@ -4,14 +4,16 @@ ghost use Rattle.std.specs.Prelude.{◌≡◌, ℕ, IfOk, OnOk, MatchResult, ◌
 ghost use Rattle.journal.specs.Journal.{Clean, written, ShowsCommit, durable};
 ghost use Rattle.durable_store.specs.Durable.{IsDurable};
 ghost use Rattle.serving.specs.Follows.{LeavesWritten};
+ghost use Rattle.durable_store.specs.Keys.{op_of_object};
 ghost use Rattle.durable_store.specs.Names.{find_named};
 ghost use Rattle.serving.specs.Means.{Means};
 ghost use Rattle.serving.specs.Requests.{LetsGo, found_answer, TellsEvents, TellsObjects, TellsTypes, events_from, DoesRequest};
 ghost use Rattle.request_text.specs.Requests.{asked_by};
 ghost use Rattle.serving.specs.Lines.{is_taken};
 ghost use Rattle.serving.specs.NextEpoch.{MayWait, late_answer, limit_while};
-ghost use Rattle.serving.specs.Server.{DoesAsked, StaysInEpoch, life_of};
-ghost use Rattle.serving.specs.Does.{DoesAbort, DoesBegin, DoesCall, DoesCommit, DoesRollback, done_or, is_epoch_full, DoesKept, DoesStats, DoesWould, call_answer, op_of_object, reply_of};
+ghost use Rattle.serving.specs.Keys.{kept_answered, kept_by, outcomes_after};
+ghost use Rattle.serving.specs.Server.{DoesAsked, KeepsAll, StaysInEpoch, life_of};
+ghost use Rattle.serving.specs.Does.{DoesAbort, DoesBegin, DoesCall, DoesCommit, DoesRollback, done_or, is_epoch_full, DoesKept, DoesStats, DoesWould, call_answer, reply_of};
 ghost use Rattle.serving.specs.EpochEnd.{EndsEpoch, LeavesEnd};
 ghost use Rattle.serving.specs.Epochs.{LeavesEpochs, WritesEpochs};
 
@@ -21,7 +23,7 @@ use crate::archive::Archive;
 use crate::epoch::end_epoch;
 use crate::extension::Extension;
 use crate::serve_fault::ServeFault;
-use durable_store::Durable;
+use durable_store::{Durable, op_at};
 use journal::JournalError;
 use object_calls::Answer;
 use object_name::ObjectName;
@@ -34,7 +36,7 @@ use serial_order::Refusal;
 use sqlite_trees::store::Alter;
 use std::alloc::Global;
 use store::Store;
-use type_table::{Name, Op, Operation};
+use type_table::{Name, Operation};
 
 /// The most events of one answer.
 const MOST_TOLD: u32 = 65_536;
@@ -133,6 +135,7 @@ impl<S: Alter> Session<S> {
         requires { IsDurable S.Store self.old.store }
         ensures does { IfOk result (λ a. MatchResult asked (λ request. DoesRequest (Clean S.Store self.new.store.journal) (limit_while self.old.waiting self.old.most_events) self.old.life (written S.Store self.old.store.journal) line.now self.old.store.store request a self.new.store.store)
             (λ fault. (a ≡ AnswerLine.Fault fault) × (self.new.store.store ≡ self.old.store.store))) }
+        ensures keys { IfOk result (λ a. Clean S.Store self.new.store.journal → (written S.Store self.new.store.journal).outcomes ≡ outcomes_after (kept_answered asked a) (written S.Store self.old.store.journal).outcomes) }
         ensures stays_in_epoch { OnOk result (StaysInEpoch S.Store self.old self.new) }
         ensures waits { self.new.waiting ≡ self.old.waiting }
         ensures clean { Clean S.Store self.new.store.journal → Clean S.Store self.old.store.journal }
@@ -158,6 +161,7 @@ impl<S: Alter> Session<S> {
     ) -> Result<AnswerLine, JournalError>
         requires { IsDurable S.Store self.old.store }
         ensures does { IfOk result (λ a. DoesRequest (Clean S.Store self.new.store.journal) (limit_while self.old.waiting self.old.most_events) self.old.life (written S.Store self.old.store.journal) line.now self.old.store.store request a self.new.store.store) }
+        ensures keys { IfOk result (λ a. Clean S.Store self.new.store.journal → (written S.Store self.new.store.journal).outcomes ≡ outcomes_after (kept_by request a) (written S.Store self.old.store.journal).outcomes) }
         ensures stays_in_epoch { OnOk result (StaysInEpoch S.Store self.old self.new) }
         ensures waits { self.new.waiting ≡ self.old.waiting }
         ensures clean { Clean S.Store self.new.store.journal → Clean S.Store self.old.store.journal }
@@ -170,6 +174,7 @@ impl<S: Alter> Session<S> {
                 self.call(t, x, call)
             }
             Request::Commit { t } => self.commit(t),
+            Request::CommitUnder { t, key } => self.commit_under(alloc, t, key),
             Request::Abort { t } => self.abort(t),
             Request::Rollback { t, count } => self.rollback(t, count),
             Request::Objects => self.objects(alloc),
@@ -189,6 +194,11 @@ impl<S: Alter> Session<S> {
                 let calls = calls_asked(alloc, line)?;
                 self.attempt(alloc, &calls)
             }
+            Request::DoUnder { key } => {
+                let calls = calls_asked(alloc, line)?;
+                self.attempt_under(alloc, &calls, key)
+            }
+            Request::Outcome { key } => self.outcome(alloc, key),
             Request::Find { name } => Ok(self.find(name)),
             Request::Stats => Ok(self.counts()),
             Request::Extend => Ok(AnswerLine::Draining),
@@ -200,6 +210,7 @@ impl<S: Alter> Session<S> {
     pub(crate) fn begin(&mut self) -> Result<AnswerLine, JournalError>
         requires { IsDurable S.Store self.old.store }
         ensures does { IfOk result (λ a. DoesBegin (limit_while self.old.waiting self.old.most_events) self.old.life self.old.store.store a self.new.store.store) }
+        ensures keyless { OnOk result (KeepsAll S.Store self.old.store self.new.store) }
         ensures stays_in_epoch { OnOk result (StaysInEpoch S.Store self.old self.new) }
         ensures waits { self.new.waiting ≡ self.old.waiting }
         ensures clean { Clean S.Store self.new.store.journal → Clean S.Store self.old.store.journal }
@@ -230,6 +241,7 @@ impl<S: Alter> Session<S> {
     ) -> Result<AnswerLine, JournalError>
         requires { IsDurable S.Store self.old.store }
         ensures does { IfOk result (λ a. DoesCall self.old.life self.old.store.store t x name a self.new.store.store) }
+        ensures keyless { OnOk result (KeepsAll S.Store self.old.store self.new.store) }
         ensures stays_in_epoch { OnOk result (StaysInEpoch S.Store self.old self.new) }
         ensures waits { self.new.waiting ≡ self.old.waiting }
         ensures clean { Clean S.Store self.new.store.journal → Clean S.Store self.old.store.journal }
@@ -246,6 +258,7 @@ impl<S: Alter> Session<S> {
     pub(crate) fn commit(&mut self, t: TransactionName) -> Result<AnswerLine, JournalError>
         requires { IsDurable S.Store self.old.store }
         ensures does { IfOk result (λ a. DoesCommit self.old.life self.old.store.store t a self.new.store.store) }
+        ensures keyless { OnOk result (KeepsAll S.Store self.old.store self.new.store) }
         ensures stays_in_epoch { OnOk result (StaysInEpoch S.Store self.old self.new) }
         ensures waits { self.new.waiting ≡ self.old.waiting }
         ensures clean { Clean S.Store self.new.store.journal → Clean S.Store self.old.store.journal }
@@ -262,6 +275,7 @@ impl<S: Alter> Session<S> {
     pub(crate) fn abort(&mut self, t: TransactionName) -> Result<AnswerLine, JournalError>
         requires { IsDurable S.Store self.old.store }
         ensures does { IfOk result (λ a. DoesAbort self.old.life self.old.store.store t a self.new.store.store) }
+        ensures keyless { OnOk result (KeepsAll S.Store self.old.store self.new.store) }
         ensures stays_in_epoch { OnOk result (StaysInEpoch S.Store self.old self.new) }
         ensures waits { self.new.waiting ≡ self.old.waiting }
         ensures clean { Clean S.Store self.new.store.journal → Clean S.Store self.old.store.journal }
@@ -282,6 +296,7 @@ impl<S: Alter> Session<S> {
     ) -> Result<AnswerLine, JournalError>
         requires { IsDurable S.Store self.old.store }
         ensures does { IfOk result (λ a. DoesRollback self.old.life self.old.store.store t count a self.new.store.store) }
+        ensures keyless { OnOk result (KeepsAll S.Store self.old.store self.new.store) }
         ensures stays_in_epoch { OnOk result (StaysInEpoch S.Store self.old self.new) }
         ensures waits { self.new.waiting ≡ self.old.waiting }
         ensures clean { Clean S.Store self.new.store.journal → Clean S.Store self.old.store.journal }
@@ -366,6 +381,7 @@ impl<S: Alter> Session<S> {
         requires { IsDurable S.Store self.old.store }
         ensures tells { IfOk result (λ a. TellsObjects (Clean S.Store self.new.store.journal) a (written S.Store self.old.store.journal).objects) }
         ensures lets_go { OnOk result (LetsGo self.old.store.store self.new.store.store) }
+        ensures keyless { OnOk result (KeepsAll S.Store self.old.store self.new.store) }
         ensures stays_in_epoch { OnOk result (StaysInEpoch S.Store self.old self.new) }
         ensures waits { self.new.waiting ≡ self.old.waiting }
         ensures clean { Clean S.Store self.new.store.journal → Clean S.Store self.old.store.journal }
@@ -385,6 +401,7 @@ impl<S: Alter> Session<S> {
         requires { IsDurable S.Store self.old.store }
         ensures tells { IfOk result (λ a. TellsTypes (Clean S.Store self.new.store.journal) a (written S.Store self.old.store.journal).types) }
         ensures lets_go { OnOk result (LetsGo self.old.store.store self.new.store.store) }
+        ensures keyless { OnOk result (KeepsAll S.Store self.old.store self.new.store) }
         ensures stays_in_epoch { OnOk result (StaysInEpoch S.Store self.old self.new) }
         ensures waits { self.new.waiting ≡ self.old.waiting }
         ensures clean { Clean S.Store self.new.store.journal → Clean S.Store self.old.store.journal }
@@ -409,6 +426,7 @@ impl<S: Alter> Session<S> {
         requires { IsDurable S.Store self.old.store }
         ensures tells { IfOk result (λ a. TellsEvents (Clean S.Store self.new.store.journal) a (events_from self.old.store.store from count)) }
         ensures lets_go { OnOk result (LetsGo self.old.store.store self.new.store.store) }
+        ensures keyless { OnOk result (KeepsAll S.Store self.old.store self.new.store) }
         ensures stays_in_epoch { OnOk result (StaysInEpoch S.Store self.old self.new) }
         ensures waits { self.new.waiting ≡ self.old.waiting }
         ensures clean { Clean S.Store self.new.store.journal → Clean S.Store self.old.store.journal }
@@ -427,6 +445,7 @@ impl<S: Alter> Session<S> {
     /// The file failed, or memory was refused for it: the session isn't to be asked any more.
     pub(crate) fn settle(&mut self) -> Result<(), JournalError>
         requires { IsDurable S.Store self.old.store }
+        ensures keyless { OnOk result (KeepsAll S.Store self.old.store self.new.store) }
         ensures stays_in_epoch { OnOk result (StaysInEpoch S.Store self.old self.new) }
         ensures waits { self.new.waiting ≡ self.old.waiting }
         ensures lets_go { OnOk result (LetsGo self.old.store.store self.new.store.store) }
@@ -545,12 +564,4 @@ fn reply_at(store: &Store<Object>, x: u32, k: Operation) -> AnswerLine
         Some(op) => AnswerLine::Reply { reply: op.reply },
         None => AnswerLine::Nothing,
     }
-}
-
-/// Operation k of the object at x, where its type has it.
-pub(crate) fn op_at(store: &Store<Object>, x: u32, k: Operation) -> Option<Op>
-    ensures { result ≡ op_of_object store.now x k }
-{
-    let checked = store.checked(x)?;
-    checked.op(k)
 }

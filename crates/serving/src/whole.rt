@@ -6,7 +6,7 @@ ghost use Rattle.durable_store.specs.Durable.{IsDurable};
 ghost use Rattle.attempts.specs.Commands.{asked_calls};
 ghost use Rattle.serving.specs.Follows.{LeavesWritten};
 ghost use Rattle.serving.specs.NextEpoch.{limit_while};
-ghost use Rattle.serving.specs.Server.{StaysInEpoch};
+ghost use Rattle.serving.specs.Server.{KeepsAll, StaysInEpoch};
 ghost use Rattle.serving.specs.Several.{DoesDo, InTurn, IsCallAt, TellsAttempt, TellsReplies, ended_answer, replies_of};
 
 use crate::answer_line::AnswerLine;
@@ -35,6 +35,7 @@ impl<S: Alter> Session<S> {
     ) -> Result<AnswerLine, JournalError>
         requires { IsDurable S.Store self.old.store }
         ensures does { IfOk result (λ a. DoesDo (Clean S.Store self.new.store.journal) (limit_while self.old.waiting self.old.most_events) self.old.life (written S.Store self.old.store.journal).objects self.old.store.store calls.now a self.new.store.store) }
+        ensures keyless { OnOk result (KeepsAll S.Store self.old.store self.new.store) }
         ensures stays_in_epoch { OnOk result (StaysInEpoch S.Store self.old self.new) }
         ensures waits { self.new.waiting ≡ self.old.waiting }
         ensures clean { Clean S.Store self.new.store.journal → Clean S.Store self.old.store.journal }
@@ -55,7 +56,7 @@ impl<S: Alter> Session<S> {
     /// # Errors
     ///
     /// Memory was refused.
-    fn calls_at<'a>(
+    pub(crate) fn calls_at<'a>(
         &self,
         alloc: Global,
         calls: &'a [AskedCall],
@@ -120,7 +121,7 @@ fn replies_answer(
 }
 
 /// What is answered where the call at this place ended it.
-fn ended_answer(life: u32, at: usize, how: Ending) -> AnswerLine
+pub(crate) fn ended_answer(life: u32, at: usize, how: Ending) -> AnswerLine
     ensures { result ≡ ended_answer life at how }
 {
     match how {

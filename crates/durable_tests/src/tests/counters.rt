@@ -1,7 +1,7 @@
 //! A durable store of two counters over trees in memory: one in place, one deferred.
 
 ghost use Rattle.sqlite_trees.specs.View.{IsClean};
-ghost use Rattle.std.specs.Prelude.{IfOk, IsTrue, OnOk};
+ghost use Rattle.std.specs.Prelude.{IfOk, IfSome, IsTrue, OnOk};
 ghost use Rattle.durable_store.specs.Durable.{IsDurable};
 
 use durable_store::{Durable, OpenError, open, restart, settle_and_restart};
@@ -34,7 +34,7 @@ pub fn contents(
         .expect(rt, "no states");
     FileContents {
         header: Header {
-            format: 5,
+            format: 6,
             id: [7; 16],
             life: 0,
         },
@@ -102,6 +102,17 @@ pub fn opened<S: Alter + Drop>(rt: &(impl Abort + AllocGlobal), trees: S) -> Dur
     let trees = created(rt, trees, &two_counters(rt));
     let store = open(rt.alloc(), trees, &[]).ok();
     store.expect(rt, "the file isn't opened")
+}
+
+/// The store in the file in these trees, where one is opened.
+pub fn found<S: Alter + Drop>(rt: &impl AllocGlobal, trees: S) -> Option<Durable<S>>
+    requires { IsClean (S.Store.view trees) → IsTrue (S.Store.view trees).is_numbered }
+    ensures { IfSome result (λ store. IsDurable S.Store store) }
+{
+    match open(rt.alloc(), trees, &[]) {
+        Ok(store) => Some(store),
+        Err(_) => None,
+    }
 }
 
 /// What is done to a store that stays the same.

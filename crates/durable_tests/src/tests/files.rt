@@ -2,6 +2,7 @@
 
 ghost use Rattle.std.specs.Prelude.{IsTrue};
 ghost use Rattle.sqlite_trees.specs.View.{IsClean};
+ghost use Rattle.journal.specs.Journal.{IsJournal};
 
 use super::counters::{NewTrees, TWO, contents, created, has, two_counters};
 use durable_store::{OpenError, create, open};
@@ -39,10 +40,10 @@ type File = (u32, &'static str, bool, u32, Option<OpenError>);
 
 /// A text with a fault; an object that names none, or begins at a state that isn't its type's. A file of a format
 /// before is opened, and one of another format isn't.
-static FILES: [File; 9] = [
-    (5, FAULTY, true, 0, Some(OpenError::Text(0))),
-    (5, COUNTER, false, 0, Some(OpenError::Untyped(1))),
-    (5, COUNTER, true, 3, Some(OpenError::Untyped(0))),
+static FILES: [File; 10] = [
+    (6, FAULTY, true, 0, Some(OpenError::Text(0))),
+    (6, COUNTER, false, 0, Some(OpenError::Untyped(1))),
+    (6, COUNTER, true, 3, Some(OpenError::Untyped(0))),
     (
         0,
         COUNTER,
@@ -54,8 +55,9 @@ static FILES: [File; 9] = [
     (2, COUNTER, true, 0, None),
     (3, COUNTER, true, 0, None),
     (4, COUNTER, true, 0, None),
+    (5, COUNTER, true, 0, None),
     (
-        6,
+        7,
         COUNTER,
         true,
         0,
@@ -87,13 +89,23 @@ fn are_opened<S: NewTrees + Drop, R: Abort + AllocGlobal>(rt: &R) {
     }
 }
 
+/// The file in these trees.
+fn journal_in<S: Alter + Drop>(rt: &(impl Abort + AllocGlobal), trees: S) -> Journal<S>
+    requires { IsClean (S.Store.view trees) → IsTrue (S.Store.view trees).is_numbered }
+    ensures { IsJournal S.Store result }
+{
+    match Journal::open(rt.alloc(), trees) {
+        Ok((journal, _)) => journal,
+        Err(_) => panic!(rt; "the file isn't opened"),
+    }
+}
+
 /// Adds two events to the file in these trees, of which nothing makes the second: its transaction isn't there.
 fn with_a_stray<S: Alter + Drop>(rt: &(impl Abort + AllocGlobal), trees: S) -> S
     requires { IsClean (S.Store.view trees) → IsTrue (S.Store.view trees).is_numbered }
     ensures { IsClean (S.Store.view result) → IsTrue (S.Store.view result).is_numbered }
 {
-    let opened = Journal::open(rt.alloc(), trees).ok();
-    let (mut journal, _) = opened.expect(rt, "the file isn't opened");
+    let mut journal = journal_in(rt, trees);
     let first = journal.append(EventKind::Begin { t: 0 });
     first.expect(rt, "not written");
     let second = journal.append(EventKind::Commit { t: 1 });

@@ -4,9 +4,10 @@ ghost use Rattle.std.specs.Prelude.{IsTrue};
 ghost use Rattle.sqlite_trees.specs.View.{IsClean};
 ghost use Rattle.durable_store.specs.Durable.{IsDurable};
 
+use super::counters::found;
 use super::serving_lines::output;
 use super::stops::{FoundAgain, Stops, Trial, new_journal, tried_after};
-use durable_store::{Durable, open};
+use durable_store::Durable;
 use serving::{Client, EpochLimits, NoAdditions, NoArchive, serve};
 use sqlite_trees::store::Alter;
 use std::process::Abort;
@@ -16,6 +17,9 @@ use std::time::Duration;
 /// Two transactions count up, one after another, and the end is asked for.
 const LINES: &[u8] =
     b"a begin\nb call 1.0 0 inc:1\ndone commit 1.0\na begin\nb call 1.1 0 inc:1\ndone commit 1.1\ne end\n";
+
+/// Two whole transactions count up, each under a key, and the end is asked for.
+const UNDER_KEYS: &[u8] = b"a do =k:1 0 inc:1\nb do =k:2 0 inc:1\ne end\n";
 
 /// How many commits were answered to a client, and in which state the object is found after that.
 #[derive(Clone, Copy)]
@@ -31,11 +35,12 @@ fn commits_in(said: &[u8]) -> usize {
         .count()
 }
 
-/// How many commits this store answers to a client until its disk stops, where each line is a group of its own.
-fn commits_told<S: Alter + Drop>(
+/// What this store answers to a client that says these lines until its disk stops, where each is a group of its own.
+fn told<S: Alter + Drop>(
     rt: &(impl Abort + AllocGlobal + Clock),
     store: Durable<S>,
-) -> (usize, S)
+    lines: &[u8],
+) -> (Vec<u8>, S)
     requires { IsDurable S.Store store }
 {
     let mut client = Client::new(output(rt, 1_000));
@@ -43,7 +48,7 @@ fn commits_told<S: Alter + Drop>(
         most_events: 1_000,
         drain: Duration::from_secs(3_600),
     };
-    let (mut input, mut byte) = (LINES, [0; 1]);
+    let (mut input, mut byte) = (lines, [0; 1]);
     let (store, _) = serve(
         rt,
         rt.alloc(),
@@ -56,15 +61,14 @@ fn commits_told<S: Alter + Drop>(
         &mut client,
     );
     let said = client.into_out().into_inner().into_inner().held;
-    (commits_in(&said), store.into_trees())
+    (said, store.into_trees())
 }
 
 /// The state in which the first object is found.
 fn kept_in<S: Alter + Drop>(rt: &(impl Abort + AllocGlobal), trees: S) -> Option<u32>
     requires { IsClean (S.Store.view trees) → IsTrue (S.Store.view trees).is_numbered }
 {
-    let store = open(rt.alloc(), trees, &[]).ok();
-    let store = store.expect(rt, "no store is found");
+    let store = found(rt, trees).expect(rt, "no store is found");
     let kept = store.store().kept(0);
     let _ = store.into_trees();
     kept
@@ -76,10 +80,32 @@ impl Trial for Found {
         trees: S,
     ) -> Option<Found> {
         let journal = new_journal(rt, trees)?;
-        let store = open(rt.alloc(), journal.into_store(), &[]).ok()?;
-        let (told, trees) = commits_told(rt, store);
+        let store = found(rt, journal.into_store())?;
+        let (said, trees) = told(rt, store, LINES);
         let kept = kept_in(rt, trees.found_again(rt));
+        let told = commits_in(&said);
         Some(Found { told, kept })
+    }
+}
+
+/// In which state the object is found where all was asked twice: before the disk stopped, and of the store that is found.
+#[derive(Clone, Copy)]
+struct Again {
+    kept: Option<u32>,
+}
+
+impl Trial for Again {
+    fn tried<S: FoundAgain + Drop, R: Abort + AllocGlobal + Clock>(
+        rt: &R,
+        trees: S,
+    ) -> Option<Again> {
+        let journal = new_journal(rt, trees)?;
+        let store = found(rt, journal.into_store())?;
+        let (_, trees) = told(rt, store, UNDER_KEYS);
+        let store = found(rt, trees.found_again(rt)).expect(rt, "no store is found");
+        let (_, trees) = told(rt, store, UNDER_KEYS);
+        let kept = kept_in(rt, trees.found_again(rt));
+        Some(Again { kept })
     }
 }
 
@@ -96,5 +122,20 @@ fn a_commit_that_was_told_is_found(rt: HostRuntime) {
             }
         }
         assert!(rt; found.iter().all(|count| *count >= 3));
+    }
+}
+
+/// Wherever the disk stops, what is asked again under its key is done once.
+#[test]
+fn what_has_a_key_is_done_once(rt: HostRuntime) {
+    for stops in [Stops::Log, Stops::Database] {
+        let mut count = 0u32;
+        for calls in 0..100 {
+            if let Some(one) = tried_after::<Again, HostRuntime>(&rt, stops.behind(calls)) {
+                assert!(rt; one.kept == Some(2));
+                count = count.saturating_add(1);
+            }
+        }
+        assert!(rt; count >= 9);
     }
 }

@@ -1,6 +1,7 @@
-use Rattle.std.proofs.Common.{◌∙◌, subst}
+use Rattle.std.proofs.Common.{◌∙◌, ap, subst}
 use Rattle.std.proofs.lemmas.Result.{on_ok_weaker}
 use Rattle.store_laws.specs.Stored.{Stored}
+use Rattle.journal.specs.Contents.{Contents}
 use Rattle.serving.specs.Requests.{LetsGo}
 use Rattle.serving.proofs.ClosedEpochs.{closed-left, closed-written, left-closed, left-written}
 use Rattle.serving.proofs.epoch.close_epoch.Goals as goal
@@ -25,4 +26,4 @@ returns-clause-crash g c =
 pub returns-clause-left : goal.returns-clause-left
 returns-clause-left g c =
     closed-left g.S.Store c.args.store.now c.abort_all.new.self c.archive_epoch.new.store c.in_ok-abort_all.ensures.store c.in_ok-abort_all.ensures.life c.in_ok-abort_all.ensures.sound c.in_ok-abort_all.ensures.clean
-    c.in_ok-abort_all.ensures.crash c.archive_epoch.ensures.left
+    (λ now. ap (λ (x : Contents). x.outcomes) (c.in_ok-abort_all.ensures.written now)) c.in_ok-abort_all.ensures.crash c.archive_epoch.ensures.left

@@ -1,5 +1,6 @@
-use Rattle.std.proofs.Common.{◌∙◌}
+use Rattle.std.proofs.Common.{◌∙◌, ap}
 use Rattle.std.proofs.lemmas.Result.{on_ok_weaker}
+use Rattle.journal.specs.Contents.{Contents}
 use Rattle.serving.proofs.ClosedEpochs.{closed-end, end-left}
 use Rattle.serving.proofs.LaterEpochs.{ends-epoch, left-renewed, shown-durable, writes-epoch}
 use Rattle.serving.proofs.NextEpochs.{late-as}
@@ -29,7 +30,8 @@ returns-in-Ok-clause-crash g c =
 
 pub returns-in-Ok-clause-left : goal.returns-in-Ok-clause-left
 returns-in-Ok-clause-left g c =
-    end-left g.S.Store c.args.waiting c.args.store c.close_epoch.new.store c.begin_next.result.0 c.in-Ok.ensures.store c.in-Ok.ensures.life c.in-Ok.ensures.sound c.in-Ok.ensures.clean c.in-Ok.ensures.left c.begin_next.ensures.crash
+    end-left g.S.Store c.args.waiting c.args.store c.close_epoch.new.store c.begin_next.result.0 c.in-Ok.ensures.store c.in-Ok.ensures.life c.in-Ok.ensures.sound c.in-Ok.ensures.clean
+    (λ now. ap (λ (x : Contents). x.outcomes) (c.in-Ok.ensures.written now)) c.in-Ok.ensures.left c.begin_next.ensures.crash
 
 pub returns-in-Err-clause-left : goal.returns-in-Err-clause-left
 returns-in-Err-clause-left g c = closed-end g.S.Store c.args.waiting c.args.store c.close_epoch.new.store c.in-Err.ensures.left

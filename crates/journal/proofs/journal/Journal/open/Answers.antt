@@ -1,6 +1,7 @@
 use Rattle.std.proofs.Common.{◌≡◌, subst, sym, false, IsTrue, arith, ap, ◌∙◌}
 use Rattle.sqlite_trees.specs.View.{IsClean, View}
-use Rattle.journal.specs.Contents.{IsFile, contents_of}
+use Rattle.journal.specs.Contents.{Contents, IsFile, contents_of}
+use Rattle.journal.specs.Said.{contents_beside}
 use Rattle.journal.proofs.Opens.{starts, is-file, says, unused, was_open, same_commit}
 use Rattle.journal.proofs.journal.Journal.open.Goals as goal
 
@@ -28,7 +29,8 @@ returns-in-Ok-clause-said g c = λ clean.
     let was : IsClean old = c.in-Ok.ensures.clean clean in
     let sound : old.is_broken ≡ false = c.in-Ok-true.ensures.sound c.in-Ok-true.field-0-test was in
     let u = unused first old c.rollback.ensures.undone was (g.met.S.Store.broken_if_shut _) sound in
-    ap (λ (v : View). contents_of v.committed) (c.in-Ok.ensures.same clean) ∙ ap contents_of (sym u.clean) ∙ says old.trees found.said found.starts.items (c.in-Ok.ensures.told clean)
+    let same : contents_of (g.S.Store.view c.read_contents.new.store).committed ≡ contents_of old.trees = ap (λ (v : View). contents_of v.committed) (c.in-Ok.ensures.same clean) ∙ ap contents_of (sym u.clean) in
+    subst (λ (said : Contents). said ≡ contents_beside said.outcomes found.said) (sym same) (says old.trees found.said found.starts.items (c.in-Ok.ensures.told clean))
 
 pub returns-in-Ok-clause-file : goal.returns-in-Ok-clause-file
 returns-in-Ok-clause-file g c = λ clean.

@@ -5,6 +5,7 @@ use Rattle.std.proofs.lemmas.Result.{on_err_weaker, on_ok_weaker}
 use Rattle.outputs.specs.Gathered.{taken_by}
 use Rattle.serving.specs.Acknowledged.{TellsSafely}
 use Rattle.type_table.proofs.Results.{on_err}
+use Rattle.serving.proofs.MoreEvents.{leaves-then}
 use Rattle.serving.proofs.Parts.{known-whole, rest-consumed, tells-past}
 use Rattle.serving.proofs.ServedBytes.{stays-put, stays-then}
 use Rattle.serving.proofs.server.Server.serve_parts.Goals as goal
@@ -32,6 +33,16 @@ returns-in_err-start-clause-stops g c =
     on_err c.from_residual.result (λ began given taken given_now given_new consumed so_far.
     c.in_err-start.ensures.stops began given taken given_now given_new consumed (c.loop-at.invariant.serves began given taken given_now given_new consumed so_far))
 
+pub returns-in_err-start-clause-crash : goal.returns-in_err-start-clause-crash
+returns-in_err-start-clause-crash g c =
+    let stays = c.loop-at.invariant.stays in
+    leaves-then g.S.Store c.args.self.now.session.store c.loop-at.self.session.store c.serve_ended.new.self.session.store stays.clean stays.follows stays.crash c.serve_ended.ensures.crash
+
+pub returns-then-asked_end-clause-crash : goal.returns-then-asked_end-clause-crash
+returns-then-asked_end-clause-crash g c =
+    let stays = c.loop-at.invariant.stays in
+    leaves-then g.S.Store c.args.self.now.session.store c.loop-at.self.session.store c.serve_ended.new.self.session.store stays.clean stays.follows stays.crash c.serve_ended.ensures.crash
+
 pub returns-then-asked_end-clause-serves : goal.returns-then-asked_end-clause-serves
 returns-then-asked_end-clause-serves g c began given taken given_now given_new consumed so_far =
     let within : c.in_ok-start.start ≤ length c.args.bytes.now = omega (arith, c.in_ok-start.ensures.next, c.loop-at-test.true) in
@@ -48,6 +59,11 @@ loop-at-preserved g c = record {
   stays = stays-then c.loop-at.invariant.stays c.in_ok-start.ensures.stays_in_epoch;
   takes = c.in_ok-start.ensures.out_takes;
 }
+
+pub returns-clause-crash : goal.returns-clause-crash
+returns-clause-crash g c =
+    let stays = c.loop-at.invariant.stays in
+    leaves-then g.S.Store c.args.self.now.session.store c.loop-at.self.session.store c.serve_part.new.self.session.store stays.clean stays.follows stays.crash c.serve_part.ensures.crash
 
 pub returns-clause-serves : goal.returns-clause-serves
 returns-clause-serves g c =

@@ -1,0 +1,41 @@
+//! A table is made anew, which empties it.
+
+ghost use Rattle.std.specs.Prelude.{◌≡◌, OnOk};
+ghost use Rattle.sqlite_trees.specs.Tree.{Trees};
+ghost use Rattle.sqlite_trees.specs.View.{IsClean};
+ghost use Rattle.journal.specs.EmptyTable.{Empties, MayEmpty};
+ghost use Rattle.journal.specs.Journal.{IsRemade};
+
+use crate::journal_error::JournalError;
+use sqlite_trees::schema::Object;
+use sqlite_trees::store::{Alter, Shape};
+
+/// Makes a table anew by this statement: it is destroyed, which frees its pages, and made with no row.
+///
+/// # Errors
+///
+/// The file failed, or memory was refused.
+pub fn make_anew<S: Alter>(
+    store: &mut S,
+    tree: u32,
+    name: &str,
+    sql: &str,
+) -> Result<(), JournalError>
+    requires may { IsClean (S.Store.view store.old) → MayEmpty (S.Store.view store.old) }
+    requires remade { IsRemade tree name.now }
+    ensures ok { OnOk result (IsClean (S.Store.view store.new) → Empties (S.Store.view store.old) (S.Store.view store.new) tree) }
+    ensures clean { IsClean (S.Store.view store.new) → IsClean (S.Store.view store.old) }
+    ensures crash { (db : Trees) → S.Store.recovers store.new db → S.Store.recovers store.old db }
+{
+    let object = Object {
+        shape: Shape::Table,
+        kind: "table",
+        name,
+        table: name,
+        reals: 0,
+        sql: Some(sql),
+    };
+    store.destroy(tree)?;
+    store.create(tree, &object)?;
+    Ok(())
+}

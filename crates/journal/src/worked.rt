@@ -1,0 +1,36 @@
+//! Worked examples of the definitions: each function does nothing, and its contract is the example.
+#![tactic(auto, unfolding(event_text::specs::EventText::event_lines))]
+
+ghost use Rattle.std.specs.Prelude.{◌≡◌, [], ◌∷◌, None, Some, codes, pos};
+ghost use Rattle.object_trait.specs.declared.event.EventKind.TheVariants.{Begin, Commit, Op};
+ghost use Rattle.sqlite_value.specs.declared.value.Value.TheVariants.{Int, Null, Text};
+ghost use Rattle.journal.specs.declared.event_row.EventRow.TheVariants.{Lines, Single};
+ghost use Rattle.journal.specs.declared.outcome_row.Outcome.TheVariants.{Aborted, Committed};
+ghost use Rattle.journal.specs.EventRow.{event_row, events_in_rows, row_starts};
+ghost use Rattle.journal.specs.OutcomeRow.{outcome_at, outcome_row};
+ghost use Rattle.journal.specs.RowPlaces.{AreBefore, HaveEvents};
+
+/// A transaction at object 3 that was written at once, then one of which a file of an older format has each event in a row.
+pub fn rows_of_events()
+    ensures row { event_row 0 (Lines (Begin 0 ∷ Op 1 0 3 ∷ Commit 0 ∷ [])) ≡ Int (pos 0) ∷ Null ∷ Text (codes "begin 0 0\nop 0 0 3 1\ncommit 0 0\n") ∷ Int (pos 3) ∷ [] }
+    ensures events { events_in_rows (Lines (Begin 0 ∷ Op 1 0 3 ∷ Commit 0 ∷ []) ∷ Single (Begin 1) ∷ Single (Commit 1) ∷ []) ≡ Begin 0 ∷ Op 1 0 3 ∷ Commit 0 ∷ Begin 1 ∷ Commit 1 ∷ [] }
+    ensures starts { row_starts 0 (Lines (Begin 0 ∷ Op 1 0 3 ∷ Commit 0 ∷ []) ∷ Single (Begin 1) ∷ Single (Commit 1) ∷ []) ≡ 0 ∷ 3 ∷ 4 ∷ [] }
+{}
+
+/// Of these rows the last two have the events from place 3 on; the first one, and another, has that at place 2.
+pub fn rows_that_have_events()
+    ensures last { HaveEvents (0 ∷ 3 ∷ 4 ∷ []) 3 2 (record { first = 1; start = 3; count = 2 }) }
+    ensures one { HaveEvents (0 ∷ 3 ∷ 4 ∷ []) 2 1 (record { first = 0; start = 0; count = 1 }) }
+    ensures more { HaveEvents (0 ∷ 3 ∷ 4 ∷ []) 2 1 (record { first = 0; start = 0; count = 2 }) }
+    ensures fewer { HaveEvents (0 ∷ 3 ∷ 4 ∷ []) 2 2 (record { first = 0; start = 0; count = 1 }) → ⊥ }
+    ensures late { HaveEvents (0 ∷ 3 ∷ 4 ∷ []) 2 1 (record { first = 1; start = 3; count = 1 }) → ⊥ }
+    ensures none { AreBefore (0 ∷ 3 ∷ 4 ∷ []) 2 0 }
+{}
+
+/// An order was committed with two replies, another one aborted, in two rows; a third place has none.
+pub fn rows_of_outcomes()
+    ensures committed { outcome_row 7 (record { key = codes "order:7"; outcome = Committed (codes "taken ok") }) ≡ Int (pos 7) ∷ Null ∷ Text (codes "order:7") ∷ Text (codes "committed") ∷ Text (codes "taken ok") ∷ [] }
+    ensures aborted { outcome_row 9 (record { key = codes "order:9"; outcome = Aborted }) ≡ Int (pos 9) ∷ Null ∷ Text (codes "order:9") ∷ Text (codes "aborted") ∷ Text [] ∷ [] }
+    ensures found { outcome_at (outcome_row 7 (record { key = codes "order:7"; outcome = Committed [] }) ∷ outcome_row 9 (record { key = codes "order:9"; outcome = Aborted }) ∷ []) 9 ≡ Some (record { key = codes "order:9"; outcome = Aborted }) }
+    ensures none { outcome_at (outcome_row 7 (record { key = codes "order:7"; outcome = Committed [] }) ∷ outcome_row 9 (record { key = codes "order:9"; outcome = Aborted }) ∷ []) 8 ≡ None }
+{}

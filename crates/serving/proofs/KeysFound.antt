@@ -1,0 +1,202 @@
+-- What was answered under keys stays so.
+use Rattle.std.proofs.Common.{◌≡◌, ◌∙◌, inl, inr, ℕ, true, false, List, [], ◌∷◌, ◌++◌, Option, Some, None, Result, Ok, Err, refl, sym, ap, subst, append-nil, cond}
+use Rattle.std.proofs.lemmas.Bool.{cases_eq, eq-eqb, ne_eqb}
+use Rattle.std.proofs.lemmas.Slice.Eq.{bytes_eq-Decides}
+use Rattle.std.specs.Prelude.{◌==◌, MatchBool, MatchResult}
+use Rattle.std.specs.Str.{bytes_eq}
+use Rattle.sqlite_trees.specs.declared.store.Store.{Ghosts}
+use Rattle.transaction_key.specs.TransactionKey.{key_place}
+use Rattle.store_laws.specs.Stored.{Stored}
+use Rattle.attempts.specs.declared.outcome.Ending.{Ending}
+use Rattle.attempts.specs.declared.outcome.Ending.TheVariants as ending
+use Rattle.serial_order.specs.declared.refusal.Refusal.{Refusal}
+use Rattle.journal.specs.declared.outcome_row.KeyedOutcome.{KeyedOutcome}
+use Rattle.journal.specs.declared.outcome_row.Outcome.{Outcome}
+use Rattle.journal.specs.declared.outcome_row.Outcome.TheVariants.{Aborted, Committed}
+use Rattle.journal.specs.Contents.{Contents, contents_of}
+use Rattle.durable_store.specs.declared.durable.Durable.{Durable}
+use Rattle.durable_store.specs.Keys.{IsFree, IsInState, KnowsKey, outcome_for, outcome_under}
+use Rattle.durable_store.specs.declared.keyed.Keyed.{Keyed}
+use Rattle.durable_store.specs.declared.keyed.Keyed.TheVariants as keyed
+use Rattle.durable_store.specs.declared.keyed.KeyState.{KeyState}
+use Rattle.durable_store.specs.declared.keyed.KeyState.TheVariants as state
+use Rattle.durable_store.specs.declared.keyed.Unfinished.{Unfinished}
+use Rattle.durable_store.specs.declared.keyed.Unfinished.TheVariants as unfinished
+use Rattle.request_text.specs.declared.fault.RequestFault.{RequestFault}
+use Rattle.request_text.specs.declared.request.Asked.{Asked}
+use Rattle.request_text.specs.declared.request.Request.{Request}
+use Rattle.request_text.specs.declared.request.Request.TheVariants as request
+use Rattle.request_text.specs.declared.request.TransactionName.{TransactionName}
+use Rattle.request_text.specs.Requests.{asked_by, calls_asked}
+use Rattle.serving.specs.declared.answer_line.AnswerLine.{AnswerLine}
+use Rattle.serving.specs.declared.answer_line.AnswerLine.TheVariants as answer
+use Rattle.serving.specs.declared.answer_line.Answered.{Answered}
+use Rattle.serving.specs.declared.extension.Extension.{Extension}
+use Rattle.serving.specs.AnswersFound.{IsIt}
+use Rattle.serving.specs.Does.{is_epoch_full}
+use Rattle.serving.specs.Keys.{commit_under_answer, do_under_answer, draining_under, kept_answered, kept_by, not_open_under, outcomes_after, outcomes_where_free, said_after}
+use Rattle.serving.specs.KeysFound.{KeysAreFound, LinePromises, Promises}
+use Rattle.serving.specs.Left.{Began, IsStoreFile, Survives}
+use Rattle.serving.specs.Lines.{AreLines}
+use Rattle.serving.specs.NextEpoch.{IsNextFile, SaysNext, limit_while}
+use Rattle.serving.specs.Places.{TellsSuch}
+use Rattle.serving.specs.Requests.{DoesRequest}
+use Rattle.serving.specs.Served.{IsAnswered, Serves}
+use Rattle.serving.specs.Several.{ended_answer}
+use Rattle.serving.specs.Told.{is_lasting}
+use Rattle.serving.proofs.AnswersFound.{it-lasts}
+use Rattle.serving.proofs.InTurns.{answered-turn, either, more-turn, serves-count}
+use Rattle.serving.proofs.Moments.{more-lasts, tells-left}
+use Rattle.serving.proofs.NextEpochs.{next-says}
+use Rattle.serving.proofs.Places.{told-epoch, told-first, told-last}
+
+-- ---- what a file knows of a key
+
+-- where it knows something, something is kept at the key's place
+something-kept : (key : List ℕ) (known : Outcome) (there : Option KeyedOutcome) → outcome_for key there ≡ Some known → (kept : KeyedOutcome) × (there ≡ Some kept)
+something-kept key known None is = absurd (cc)
+something-kept key known (Some kept) is = (kept, refl)
+
+-- what is kept stays, whatever is kept after it
+where-free-stays : (outcomes : ℕ → Option KeyedOutcome) (o : KeyedOutcome) (there : Option KeyedOutcome) → outcomes (key_place o.key) ≡ there → (n : ℕ) (kept : KeyedOutcome) → outcomes n ≡ Some kept
+    → outcomes_where_free there o outcomes n ≡ Some kept
+where-free-stays outcomes o None is n kept has = elim (cases_eq n (key_place o.key)) [
+  | inl same ↦ absurd (let it : None ≡ Some kept = sym is ∙ ap outcomes (sym same) ∙ has in cc)
+  | inr differs ↦ rw (ne_eqb n (key_place o.key) differs) has
+]
+where-free-stays outcomes o (Some before) is n kept has = has
+
+after-stays : (o : Option KeyedOutcome) (outcomes : ℕ → Option KeyedOutcome) (n : ℕ) (kept : KeyedOutcome) → outcomes n ≡ Some kept → outcomes_after o outcomes n ≡ Some kept
+after-stays None outcomes n kept has = has
+after-stays (Some o) outcomes n kept has = where-free-stays outcomes o (outcomes (key_place o.key)) refl n kept has
+
+-- so a file that keeps all of it knows as much
+known-stays : (c d : Contents) (key : List ℕ) (known : Outcome) → ((n : ℕ) (kept : KeyedOutcome) → c.outcomes n ≡ Some kept → d.outcomes n ≡ Some kept) → outcome_under c key ≡ Some known → outcome_under d key ≡ Some known
+known-stays c d key known stays is =
+    let (kept, there) = something-kept key known (c.outcomes (key_place key)) is in
+    ap (outcome_for key) (stays (key_place key) kept there) ∙ sym (ap (outcome_for key) there) ∙ is
+
+-- and what is kept where the key was free is known
+known-now : (c : Contents) (key : List ℕ) (known : Outcome) → IsFree c key → outcome_under (record c { outcomes = outcomes_after (Some (record { key = key; outcome = known })) c.outcomes }) key ≡ Some known
+known-now c key known free =
+    ap (λ there. outcome_for key (outcomes_where_free there (record { key = key; outcome = known }) c.outcomes (key_place key))) free
+    ∙ rw (eq-eqb (key_place key) (key_place key) refl, (bytes_eq-Decides key key).1 refl) refl
+
+-- ---- what an answer promises
+
+-- stays true
+promises-stay : (q : Result Request RequestFault) (a : AnswerLine) (c d : Contents) → ((n : ℕ) (kept : KeyedOutcome) → c.outcomes n ≡ Some kept → d.outcomes n ≡ Some kept) → LinePromises q a c → LinePromises q a d
+promises-stay (Ok (request.CommitUnder t key)) answer.Committed c d stays it = (it.0, known-stays c d key (Committed it.0) stays it.1)
+promises-stay (Ok (request.DoUnder key)) (answer.Replied replies) c d stays it = known-stays c d key (Committed replies) stays it
+promises-stay q a c d stays it = it
+
+-- a file after a request that was so answered
+abbrev after : Contents → Request → AnswerLine → Contents
+after c r a = record c { outcomes = outcomes_after (kept_by r a) c.outcomes }
+
+-- is true of a commit
+commit-promises : (c : Contents) (t : TransactionName) (key : List ℕ) (came : Keyed Refusal) → KnowsKey c key came
+    → Promises (request.CommitUnder t key) (commit_under_answer came) (after c (request.CommitUnder t key) (commit_under_answer came))
+commit-promises c t key (keyed.Done kept) knows = ([], known-now c key (Committed []) knows)
+commit-promises c t key (keyed.Undone refusal) knows = tt
+commit-promises c t key (keyed.Known (Committed replies)) knows = (replies, known-stays c (after c (request.CommitUnder t key) answer.Committed) key (Committed replies) (after-stays (kept_by (request.CommitUnder t key) answer.Committed) c.outcomes) knows)
+commit-promises c t key (keyed.Known Aborted) knows = tt
+commit-promises c t key keyed.Taken knows = tt
+
+not-open-promises : (c : Contents) (t : TransactionName) (key : List ℕ) (known : KeyState) → IsInState c key known
+    → Promises (request.CommitUnder t key) (not_open_under known) (after c (request.CommitUnder t key) (not_open_under known))
+not-open-promises c t key state.Free knows = tt
+not-open-promises c t key (state.Known (Committed replies)) knows = (replies, known-stays c (after c (request.CommitUnder t key) answer.Committed) key (Committed replies) (after-stays (kept_by (request.CommitUnder t key) answer.Committed) c.outcomes) knows)
+not-open-promises c t key (state.Known Aborted) knows = tt
+not-open-promises c t key state.Taken knows = tt
+
+-- and of a whole transaction
+replied-promises : (c : Contents) (key replies : List ℕ) → outcome_under c key ≡ Some (Committed replies) → Promises (request.DoUnder key) (answer.Replied replies) (after c (request.DoUnder key) (answer.Replied replies))
+replied-promises c key replies knows = known-stays c (after c (request.DoUnder key) (answer.Replied replies)) key (Committed replies) (after-stays (kept_by (request.DoUnder key) (answer.Replied replies)) c.outcomes) knows
+
+ended-promises : (c d : Contents) (key : List ℕ) (life at : ℕ) (how : Ending) → Promises (request.DoUnder key) (ended_answer life at how) d
+ended-promises c d key life at (ending.Busy u) = tt
+ended-promises c d key life at ending.None = tt
+ended-promises c d key life at (ending.Refused refusal) = tt
+
+do-promises : (c : Contents) (key : List ℕ) (life : ℕ) (came : Keyed Unfinished) → KnowsKey c key came → Promises (request.DoUnder key) (do_under_answer life came) (after c (request.DoUnder key) (do_under_answer life came))
+do-promises c key life (keyed.Done (Committed replies)) knows = known-now c key (Committed replies) knows
+do-promises c key life (keyed.Done Aborted) knows = tt
+do-promises c key life (keyed.Undone (unfinished.Ended at how)) knows = ended-promises c (after c (request.DoUnder key) (ended_answer life at how)) key life at how
+do-promises c key life (keyed.Undone (unfinished.NotBegun refusal)) knows = tt
+do-promises c key life (keyed.Known (Committed replies)) knows = replied-promises c key replies knows
+do-promises c key life (keyed.Known Aborted) knows = tt
+do-promises c key life keyed.Taken knows = tt
+
+draining-promises : (c : Contents) (key : List ℕ) (known : KeyState) → IsInState c key known → Promises (request.DoUnder key) (draining_under known) (after c (request.DoUnder key) (draining_under known))
+draining-promises c key state.Free knows = tt
+draining-promises c key (state.Known (Committed replies)) knows = replied-promises c key replies knows
+draining-promises c key (state.Known Aborted) knows = tt
+draining-promises c key state.Taken knows = tt
+
+-- it is true once it is given
+request-promises : (most life : ℕ) (c : Contents) (line : List ℕ) (old : Stored) (r : Request) (a : AnswerLine) (new : Stored) → DoesRequest (Unit {0}) most life c line old r a new → Promises r a (after c r a)
+request-promises most life c line old (request.CommitUnder t key) a new does =
+    either (t.life == life) does
+    (λ p. subst (λ x. Promises (request.CommitUnder t key) x (after c (request.CommitUnder t key) x)) (sym p.3) (commit-promises c t key p.0 (p.1 tt)))
+    (λ p. subst (λ x. Promises (request.CommitUnder t key) x (after c (request.CommitUnder t key) x)) (sym p.2) (not-open-promises c t key p.0 (p.1 tt)))
+request-promises most life c line old (request.DoUnder key) a new does =
+    either (is_epoch_full most old) does
+    (λ p. subst (λ x. Promises (request.DoUnder key) x (after c (request.DoUnder key) x)) (sym p.2) (draining-promises c key p.0 (p.1 tt)))
+    (λ p. subst (λ x. Promises (request.DoUnder key) x (after c (request.DoUnder key) x)) (sym p.5) (do-promises c key life p.2 (p.3 tt)))
+request-promises most life c line old r a new does = tt
+
+answer-promises : (most life : ℕ) (c : Contents) (line : List ℕ) (old : Stored) (a : Answered) (new : Stored) → IsAnswered (Unit {0}) most life c line old a new → LinePromises (asked_by line).request a.answer (said_after c line a.answer)
+answer-promises most life c line old a new answered =
+    elim (asked_by line).request as (λ (q : Result Request RequestFault). MatchResult q (λ r. DoesRequest (Unit {0}) most life c line old r a.answer new) (λ fault. (a.answer ≡ answer.Fault fault) × (new ≡ old))
+    → LinePromises q a.answer (record c { outcomes = outcomes_after (kept_answered q a.answer) c.outcomes })) [
+      | Ok r ↦ λ does. request-promises most life c line old r a.answer new does
+      | Err fault ↦ λ told. tt
+    ] answered.request
+
+-- ---- lines
+
+next-outcomes : (waits : Option Extension) (c now : Contents) → SaysNext waits c now → now.outcomes ≡ c.outcomes
+next-outcomes None c now says = says.2
+next-outcomes (Some e) c now says = says.outcomes
+
+pub serves-promises : {most : ℕ} {c : Contents} {begins : ℕ} {lines : List (List ℕ)} {old : Stored} {answers : List Answered} {life : ℕ} {said : Contents} {new : Stored} {ended : Option Asked} {waits : Option Extension}
+    → Serves (Unit {0}) most c begins lines old answers life said new ended waits → (line : List ℕ) (a : Answered) → is_lasting a.answer ≡ true → TellsSuch lines answers (IsIt line a)
+    → LinePromises (asked_by line).request a.answer said
+serves-promises (Serves.none s) line a lasting told = absurd told
+serves-promises {most} (Serves.line lines asked old mid new answers it life said waits before other may answered) line a lasting told =
+    let limit = limit_while waits most in
+    elim (told-last lines answers asked it (IsIt line a) ((serves-count before).1 refl) (answered-turn (Unit {0}) limit life said asked mid it new answered) told) [
+      | inl earlier ↦
+          promises-stay (asked_by line).request a.answer said (said_after said asked it.answer) (after-stays (kept_answered (asked_by asked).request it.answer) said.outcomes) (serves-promises before line a lasting earlier)
+      | inr here ↦
+          subst (λ l. LinePromises (asked_by l).request a.answer (said_after said asked it.answer)) here.0
+          (subst (λ (x : Answered). LinePromises (asked_by asked).request x.answer (said_after said asked it.answer)) here.1 (answer-promises limit life said asked mid it new answered))
+    ]
+serves-promises (Serves.more lines asked old new answers it life said waits before may more) line a lasting told =
+    elim (told-last lines answers asked it (IsIt line a) ((serves-count before).1 refl) (more-turn it waits more.told) told) [
+      | inl earlier ↦ serves-promises before line a lasting earlier
+      | inr here ↦ absurd (let no : true ≡ false = sym (it-lasts line a lasting asked it here) ∙ more-lasts it waits more.told in cc)
+    ]
+serves-promises (Serves.end lines asked old new answers life said waits before ends) line a lasting told =
+    serves-promises before line a lasting
+    (told-first lines (asked ∷ []) answers [] (IsIt line a) (it-lasts line a lasting) (serves-count before).0 refl (subst (λ xs. TellsSuch (lines ++ asked ∷ []) xs (IsIt line a)) (sym (append-nil answers)) told))
+serves-promises (Serves.forget lines old mid answers life n said ended waits before) line a lasting told = serves-promises before line a lasting told
+serves-promises (Serves.epoch lines old mid new answers life next said file waits before full renews follows says) line a lasting told =
+    promises-stay (asked_by line).request a.answer said file (λ n kept has. ap (λ outcomes. outcomes n) (next-outcomes waits said file (says tt)) ∙ has)
+    (serves-promises before line a lasting (told-epoch waits mid lines answers (IsIt line a) told))
+
+-- ---- a file
+
+file-knows : {over : Type 0} {waits : Option Extension} {life : ℕ} {said : Contents} {s : Stored} {c : Contents} → IsStoreFile over waits life said s c → (n : ℕ) (kept : KeyedOutcome) → said.outcomes n ≡ Some kept → c.outcomes n ≡ Some kept
+file-knows (IsStoreFile.present c is lives knows) n kept has = ap (λ outcomes. outcomes n) knows ∙ has
+file-knows (IsStoreFile.closed c so is lives knows) n kept has = ap (λ outcomes. outcomes n) knows ∙ has
+file-knows {waits = waits} (IsStoreFile.anew c now next so is lives knows begins) n kept has =
+    ap (λ outcomes. outcomes n) (next-outcomes waits c now (next-says waits _ next c now begins)) ∙ ap (λ outcomes. outcomes n) knows ∙ has
+
+pub keys-found : {S : Type 0} (g : Ghosts S) (b : Began) (last : List (List ℕ) → Type 0) (seen rest half : List ℕ) (lines : List (List ℕ)) (answers : List Answered) (now : Durable S) → AreLines seen lines half
+    → Survives g b last (seen ++ rest) answers now → KeysAreFound g lines answers now
+keys-found g b last seen rest half lines answers now asked survives line a lasting told db left =
+    let (waiting, it) = (survives db left).1 in
+    let tells = tells-left seen rest half lines (IsIt line a) (it-lasts line a lasting) asked it told in
+    promises-stay (asked_by line).request a.answer it.file.said (contents_of db) (file-knows it.file.file) (serves-promises it.file.serves line a lasting tells)

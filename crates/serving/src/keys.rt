@@ -1,0 +1,183 @@
+//! Requests under keys, which are done once.
+
+ghost use Rattle.std.specs.Prelude.{◌≡◌, IfOk, OnOk};
+ghost use Rattle.journal.specs.Journal.{Clean, written};
+ghost use Rattle.durable_store.specs.Durable.{IsDurable};
+ghost use Rattle.request_text.specs.declared.request.Request.TheVariants as request;
+ghost use Rattle.serving.specs.Follows.{LeavesWritten};
+ghost use Rattle.serving.specs.Keys.{DoesCommitUnder, DoesDoUnder, DoesOutcome, commit_under_answer, committed_before, do_under_answer, done_before, draining_under, kept_by, not_open_under, outcomes_after};
+ghost use Rattle.serving.specs.NextEpoch.{limit_while};
+ghost use Rattle.serving.specs.Server.{KeepsAll, StaysInEpoch};
+
+use crate::answer_line::{AnswerLine, KeyRefusal};
+use crate::session::{Session, is_full, not_open};
+use crate::whole::ended_answer;
+use durable_store::{KeyState, Keyed, Unfinished};
+use journal::{JournalError, Outcome};
+use request_text::{AskedCall, TransactionName};
+use serial_order::Refusal;
+use sqlite_trees::store::Alter;
+use std::alloc::Global;
+use transaction_key::TransactionKey;
+
+impl<S: Alter> Session<S> {
+    /// Commits a transaction under a key, or aborts it where its work was done before. It is answered only once it is settled,
+    /// or what is known of the key.
+    ///
+    /// # Errors
+    ///
+    /// As `ask`.
+    pub(crate) fn commit_under(
+        &mut self,
+        alloc: Global,
+        t: TransactionName,
+        key: TransactionKey,
+    ) -> Result<AnswerLine, JournalError>
+        requires { IsDurable S.Store self.old.store }
+        ensures does { IfOk result (λ a. DoesCommitUnder (Clean S.Store self.new.store.journal) self.old.life (written S.Store self.old.store.journal) self.old.store.store t key a self.new.store.store) }
+        ensures keys { IfOk result (λ a. Clean S.Store self.new.store.journal → (written S.Store self.new.store.journal).outcomes ≡ outcomes_after (kept_by (request.CommitUnder t key) a) (written S.Store self.old.store.journal).outcomes) }
+        ensures stays_in_epoch { OnOk result (StaysInEpoch S.Store self.old self.new) }
+        ensures waits { self.new.waiting ≡ self.old.waiting }
+        ensures clean { Clean S.Store self.new.store.journal → Clean S.Store self.old.store.journal }
+        ensures crash { LeavesWritten S.Store self.old.store self.new.store }
+    {
+        if t.life != self.life {
+            let known = self.store.state_of(alloc, &key)?;
+            return Ok(not_open_under(known));
+        }
+        let came = self.store.commit_under(alloc, t.number, key)?;
+        Ok(commit_under_answer(came))
+    }
+
+    /// Does a whole transaction of these calls under a key, but for an epoch that is full. It is answered only once it is
+    /// settled, or what is known of the key.
+    ///
+    /// # Errors
+    ///
+    /// As `ask`.
+    pub(crate) fn attempt_under(
+        &mut self,
+        alloc: Global,
+        calls: &[AskedCall],
+        key: TransactionKey,
+    ) -> Result<AnswerLine, JournalError>
+        requires { IsDurable S.Store self.old.store }
+        ensures does { IfOk result (λ a. DoesDoUnder (Clean S.Store self.new.store.journal) (limit_while self.old.waiting self.old.most_events) self.old.life (written S.Store self.old.store.journal) self.old.store.store calls.now key a self.new.store.store) }
+        ensures keys { IfOk result (λ a. Clean S.Store self.new.store.journal → (written S.Store self.new.store.journal).outcomes ≡ outcomes_after (kept_by (request.DoUnder key) a) (written S.Store self.old.store.journal).outcomes) }
+        ensures stays_in_epoch { OnOk result (StaysInEpoch S.Store self.old self.new) }
+        ensures waits { self.new.waiting ≡ self.old.waiting }
+        ensures clean { Clean S.Store self.new.store.journal → Clean S.Store self.old.store.journal }
+        ensures crash { LeavesWritten S.Store self.old.store self.new.store }
+    {
+        let limit = self.limit();
+        if is_full(self.store.store(), limit) {
+            let known = self.store.state_of(alloc, &key)?;
+            return Ok(draining_under(known));
+        }
+        let made = self.calls_at(alloc, calls)?;
+        let came = self.store.attempt_under(alloc, &made, key)?;
+        Ok(do_under_answer(self.life, came))
+    }
+
+    /// What became of the transaction that has this key. It is answered only once that is settled.
+    ///
+    /// # Errors
+    ///
+    /// As `ask`.
+    pub(crate) fn outcome(
+        &mut self,
+        alloc: Global,
+        key: TransactionKey,
+    ) -> Result<AnswerLine, JournalError>
+        requires { IsDurable S.Store self.old.store }
+        ensures does { IfOk result (λ a. DoesOutcome (Clean S.Store self.new.store.journal) (written S.Store self.old.store.journal) self.old.store.store key a self.new.store.store) }
+        ensures keyless { OnOk result (KeepsAll S.Store self.old.store self.new.store) }
+        ensures stays_in_epoch { OnOk result (StaysInEpoch S.Store self.old self.new) }
+        ensures waits { self.new.waiting ≡ self.old.waiting }
+        ensures clean { Clean S.Store self.new.store.journal → Clean S.Store self.old.store.journal }
+        ensures crash { LeavesWritten S.Store self.old.store self.new.store }
+    {
+        let outcome = self.store.outcome(alloc, &key)?;
+        Ok(AnswerLine::OutcomeIs { outcome })
+    }
+}
+
+/// What a commit is answered under a key whose transaction came to this.
+fn committed_before(known: Outcome) -> AnswerLine
+    ensures { result ≡ committed_before known }
+{
+    match known {
+        Outcome::Committed(_) => AnswerLine::Committed,
+        Outcome::Aborted => AnswerLine::KeyRefused {
+            why: KeyRefusal::Aborted,
+        },
+    }
+}
+
+/// What a commit under a key is answered.
+fn commit_under_answer(came: Keyed<Refusal>) -> AnswerLine
+    ensures { result ≡ commit_under_answer came }
+{
+    match came {
+        Keyed::Done(_) => AnswerLine::Committed,
+        Keyed::Undone(refusal) => AnswerLine::Refused { refusal },
+        Keyed::Known(known) => committed_before(known),
+        Keyed::Taken => taken(),
+    }
+}
+
+/// What one is answered whose transaction is of another life.
+fn not_open_under(known: KeyState) -> AnswerLine
+    ensures { result ≡ not_open_under known }
+{
+    match known {
+        KeyState::Free => not_open(),
+        KeyState::Known(known) => committed_before(known),
+        KeyState::Taken => taken(),
+    }
+}
+
+/// What a whole transaction is answered under a key whose transaction came to this.
+fn done_before(known: Outcome) -> AnswerLine
+    ensures { result ≡ done_before known }
+{
+    match known {
+        Outcome::Committed(replies) => AnswerLine::Replied { replies },
+        Outcome::Aborted => AnswerLine::KeyRefused {
+            why: KeyRefusal::Aborted,
+        },
+    }
+}
+
+/// What a whole transaction under a key is answered.
+fn do_under_answer(life: u32, came: Keyed<Unfinished>) -> AnswerLine
+    ensures { result ≡ do_under_answer life came }
+{
+    match came {
+        Keyed::Done(kept) => done_before(kept),
+        Keyed::Undone(Unfinished::Ended { at, how }) => ended_answer(life, at, how),
+        Keyed::Undone(Unfinished::NotBegun(refusal)) => AnswerLine::Refused { refusal },
+        Keyed::Known(known) => done_before(known),
+        Keyed::Taken => taken(),
+    }
+}
+
+/// What one is answered where no transaction begins.
+fn draining_under(known: KeyState) -> AnswerLine
+    ensures { result ≡ draining_under known }
+{
+    match known {
+        KeyState::Free => AnswerLine::Draining,
+        KeyState::Known(known) => done_before(known),
+        KeyState::Taken => taken(),
+    }
+}
+
+/// That what is kept at a key's place is another one's.
+fn taken() -> AnswerLine
+    ensures { result ≡ AnswerLine.KeyRefused KeyRefusal.Taken }
+{
+    AnswerLine::KeyRefused {
+        why: KeyRefusal::Taken,
+    }
+}
