@@ -95,7 +95,7 @@ impl Asked {
     /// The operations of calls of these numbers that have these replies, as the library has them; nothing where there are
     /// none, or more replies or fewer than calls.
     pub(crate) fn operations(&self, calls: &[OperationId], replies: &str, objects: &Objects) -> Option<Vec<u64>> {
-        let replies: Vec<&str> = replies.split(' ').collect();
+        let replies = words_in(replies);
         let asked = self.objects.iter().zip(calls).zip(&replies);
         let operations = asked.map(|((object, call), reply)| objects.calls_at(*object).ok()?.operation(*call, reply).map(u64::from));
         operations.collect::<Option<Vec<u64>>>().filter(|_| replies.len() == calls.len())
@@ -110,6 +110,18 @@ impl Asked {
         }
         Ok(words)
     }
+
+    /// The replies of operations of the calls, as the library has them, with a space between two.
+    pub(crate) fn replies(&self, operations: &[u64], objects: &Objects) -> Result<String, Error> {
+        let done = self.in_words(operations, objects)?;
+        let replies: Vec<&str> = done.iter().map(|operation| operation.reply.as_str()).collect();
+        Ok(replies.join(" "))
+    }
+}
+
+/// The words of a text that has a space between two. An empty one has none.
+pub(crate) fn words_in(text: &str) -> Vec<&str> {
+    text.split(' ').filter(|_| !text.is_empty()).collect()
 }
 
 #[cfg(test)]
@@ -156,6 +168,25 @@ mod tests {
         let numbers = [OperationId::listed(1), OperationId::with(0, 17), OperationId::with(2, 0)].map(u64::from);
         assert_eq!(*asked.numbers_or_none(&objects).unwrap(), [numbers[0], NO_CALL, numbers[1], NO_CALL, numbers[2], NO_CALL]);
         assert!(OperationId::try_from(NO_CALL).is_err());
+    }
+
+    /// What an attempt is told again is what it was told.
+    #[test]
+    fn replies_are_those_of_such_calls_or_not() {
+        let account = Type::account(2, &[1], Kind::Undo).unwrap();
+        let objects = Objects::of(Objects::none().checked([&account]).unwrap(), 1);
+        let asked = Asked::of([(0, "withdraw:1"), (0, "balance")], number_of).unwrap();
+        let calls = asked.numbers(&objects).unwrap();
+        for replies in ["ok 0", "short 2"] {
+            let operations = asked.operations(&calls, replies, &objects).unwrap();
+            assert_eq!(asked.replies(&operations, &objects).as_deref(), Ok(replies));
+        }
+        for other in ["", "ok", "ok ", " ok", "ok 0 ok", "full 0", "ok 3", "ok  0"] {
+            assert_eq!(asked.operations(&calls, other, &objects), None, "{other:?}");
+        }
+        let none = Asked::default();
+        assert_eq!((none.operations(&[], "", &objects), none.operations(&[], "ok", &objects)), (Some(vec![]), None));
+        assert_eq!(none.replies(&[], &objects).as_deref(), Ok(""));
     }
 
     #[test]

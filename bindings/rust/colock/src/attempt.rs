@@ -110,6 +110,11 @@ impl Unasked {
 }
 
 impl Came {
+    /// That of an attempt of calls of these numbers that has these replies; nothing where they aren't those of such calls.
+    pub(crate) fn of_replies(asked: &Asked, calls: &[OperationId], replies: &str, objects: &Objects) -> Option<Came> {
+        asked.operations(calls, replies, objects).map(|operations| Came::Done(Few::from(&operations[..])))
+    }
+
     /// What came of an attempt of these calls, in words, where they are asked.
     pub(crate) fn of(asked: Result<Asked, Unasked>, objects: &Objects, attempt: impl FnOnce(&Asked) -> Result<Came, Error>) -> Result<Attempt, Error> {
         match asked {

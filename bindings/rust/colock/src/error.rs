@@ -17,6 +17,16 @@ pub enum Error {
     BadName(String),
     /// An object was given this name, which another one has.
     NameTaken(String),
+    /// A transaction was given this key, which isn't 1 to 64 bytes of `a-z`, `A-Z`, `0-9`, `_`, `:`, `-` and `.`. Nothing was asked.
+    BadKey(String),
+    /// The key's transaction was aborted, and nothing is done under the key any more.
+    KeyAborted,
+    /// The place where the file would keep what becomes of the key has another key. Nothing was done. Of keys that differ, two have one
+    /// place by a chance of one in 2^62: another key is to be taken.
+    KeyTaken,
+    /// What committed under the key aren't calls as those of this [attempt](crate::SharedStore::attempt_under): the key is of other
+    /// work. Nothing was done.
+    OtherCalls,
     /// No operation of the object's type has this call.
     NoCall,
     /// As many transactions are open as may be: 1,024, or what its [`Limits`](crate::Limits) say.
@@ -94,9 +104,12 @@ pub enum Error {
     ConnectionLost(String),
     /// The child was lost while a commit was in flight: it may be durable or not. This is the transaction's id,
     /// by which [`SharedStore::committed`](crate::SharedStore::committed) says what became of it, with the file open again.
+    /// Under a key the work is done again then, by the same key: it is done once. Or
+    /// [`SharedStore::outcome`](crate::SharedStore::outcome) says what became of it.
     OutcomeUnknown(TransactionId),
     /// The child was lost while an [attempt](crate::SharedStore::attempt) was in flight: it may be durable or not, and no id of
-    /// it is known.
+    /// it is known. [Under a key](crate::SharedStore::attempt_under) it is asked again then, with the file open again, and done once; or
+    /// [`SharedStore::outcome`](crate::SharedStore::outcome) says what became of it.
     AttemptUnknown,
     /// The store was closed, by [`SharedStore::close`](crate::SharedStore::close).
     Closed,
@@ -323,6 +336,10 @@ impl Error {
             Error::NoObjectNamed(name) => write!(f, "the store has no object {name:?}"),
             Error::BadName(name) => write!(f, "{name:?} is no name of an object"),
             Error::NameTaken(name) => write!(f, "two objects have the name {name}"),
+            Error::BadKey(key) => write!(f, "{key:?} is no key of a transaction"),
+            Error::KeyAborted => f.write_str("the transaction of this key was aborted"),
+            Error::KeyTaken => f.write_str("the file has another key in the place of this one"),
+            Error::OtherCalls => f.write_str("the key is of other calls"),
             Error::Busy { blocker } => write!(f, "transaction {blocker} is in the way"),
             Error::Illegal => f.write_str("no operation of the call is legal"),
             Error::Deadlock { waited_for } => write!(f, "a deadlock: the transaction waited for {waited_for}, and was aborted"),

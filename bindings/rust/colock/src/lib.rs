@@ -188,7 +188,7 @@
 //! [`OpenOptions`] opens a store in a file, with the same calls. The program `colock serve` has the file, as a child
 //! process; a commit that was answered survives a crash. A child that is lost isn't started again: each call fails with
 //! [`Error::ConnectionLost`] then, and a commit that was in flight with [`Error::OutcomeUnknown`]. Open the file again,
-//! and [`SharedStore::committed`] says what became of it.
+//! and [`SharedStore::committed`] says what became of it; or give the work a [key](#once), and do it again.
 //!
 //! ```no_run
 //! use colock::{Error, Kind, OpenOptions, Type};
@@ -206,6 +206,38 @@
 //! # Ok::<(), Error>(())
 //! ```
 //!
+//! # Once
+//!
+//! Who was to do something and lost the answer doesn't know whether to do it again: the request may come twice, or the child be lost
+//! with a commit in flight. So a transaction may have a key, which the caller chooses for the work, as the number of an order. Under a
+//! key it is done once, in whatever life of the child it is asked again: by [`SharedStore::retry_under`],
+//! [`SharedTransaction::commit_under`] or, in one call, [`SharedStore::attempt_under`], which tells the replies of the first time.
+//! [`SharedStore::outcome`] says what became of a key. A file knows its keys for ever; a [`SharedStore`] in memory knows the last
+//! 1,000,000, and a [`Store`] has none.
+//!
+//! ```
+//! use colock::{Attempt, Error, Keyed, KeyOutcome, Kind, Retry, SharedStore, Type};
+//!
+//! let (counter, seat) = (Type::counter(100, &[1], Kind::Undo)?, Type::seats(1, Kind::Undo)?);
+//! let store = SharedStore::new([("sold", &counter), ("A12", &seat)], 1_000_000)?;
+//! let book = || {
+//!     store.retry_under("order:4711", &Retry::default(), |transaction| {
+//!         transaction.expect("A12", "hold:1", "ok")?;
+//!         transaction.expect("A12", "book:1", "ok")?;
+//!         transaction.expect("sold", "inc:1", "ok").map(|_| "A12")
+//!     })
+//! };
+//! assert_eq!(book()?, Keyed::Done("A12"));
+//! assert_eq!(book()?, Keyed::Known { replies: vec![] }); // the seat isn't asked for again
+//!
+//! let pay = || store.attempt_under("payment:17", [("sold", "inc:1"), ("sold", "inc:1")]);
+//! let first = pay()?;
+//! assert_eq!((pay()?, store.kept("sold")?), (first, 3));
+//! assert_eq!(store.outcome("payment:17")?, KeyOutcome::Committed { replies: vec!["ok".into(), "ok".into()] });
+//! assert_eq!(store.outcome("payment:18")?, KeyOutcome::Unknown);
+//! # Ok::<(), Error>(())
+//! ```
+//!
 //! # What is proved
 //!
 //! What each call of the library does is proved, and so is what the program `colock serve` answers. This crate is
@@ -218,6 +250,7 @@ mod event;
 mod failure;
 mod few;
 mod fork;
+mod key;
 mod limits;
 mod locks;
 mod memory;
@@ -238,6 +271,7 @@ pub use attempt::{Attempt, Ending};
 pub use error::{CheckRefusal, Error, FaultKind, NotFollowed};
 pub use event::Event;
 pub use failure::Failure;
+pub use key::KeyOutcome;
 pub use limits::Limits;
 pub use memory::store::Store;
 pub use memory::transaction::{LeftOpen, Transaction};
@@ -251,6 +285,6 @@ pub use shared::SharedStore;
 pub use stats::Stats;
 pub use transaction_id::TransactionId;
 pub use types::{Kind, Type};
-pub use wait::retry::{cause_in, Cause, Retry};
+pub use wait::retry::{cause_in, Cause, Keyed, Retry};
 pub use wire::opening::OpenOptions;
 pub use word::Word;

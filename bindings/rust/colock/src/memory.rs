@@ -2,6 +2,7 @@
 
 mod attempts;
 pub(crate) mod handle;
+pub(crate) mod keys;
 pub(crate) mod reads;
 pub(crate) mod store;
 pub(crate) mod transaction;

@@ -135,10 +135,15 @@ fn numbers(objects: &[Known], from: u32) -> impl Iterator<Item = (Arc<str>, u32)
     (from..).zip(objects).filter_map(|(number, known)| Some((Arc::clone(known.name.as_ref()?), number)))
 }
 
+/// Whether a text has the shape of a name.
+pub(crate) fn is_name(text: &str) -> bool {
+    let may_have = |byte: u8| byte.is_ascii_alphanumeric() || b"_:-./".contains(&byte);
+    (1..=LONGEST_NAME).contains(&text.len()) && text.bytes().all(may_have)
+}
+
 /// A name, where it is one.
 fn name_of(name: Cow<'_, str>) -> Result<Arc<str>, Error> {
-    let may_have = |byte: u8| byte.is_ascii_alphanumeric() || b"_:-./".contains(&byte);
-    if (1..=LONGEST_NAME).contains(&name.len()) && name.bytes().all(may_have) {
+    if is_name(&name) {
         Ok(Arc::from(name))
     } else {
         Err(Error::BadName(name.into_owned()))

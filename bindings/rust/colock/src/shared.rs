@@ -5,6 +5,7 @@ mod dropping;
 mod ends;
 mod in_memory;
 pub(crate) mod in_turn;
+mod keys;
 mod reading;
 mod reads;
 pub(crate) mod state;

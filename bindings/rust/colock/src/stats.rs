@@ -15,7 +15,7 @@ use std::time::Duration;
 #[derive(Clone, Debug, Default, PartialEq, Eq)]
 #[non_exhaustive]
 pub struct Stats {
-    /// Transactions that committed.
+    /// Transactions that committed. Over a child some count that were done before under their keys, where the answer doesn't tell.
     pub commits: u64,
     /// Transactions of this client that were aborted: by a call, a drop, an error, as victims, or by the end of their
     /// epoch.

@@ -2,6 +2,7 @@
 
 pub(crate) mod beginning;
 pub(crate) mod child;
+pub(crate) mod claims;
 mod creating;
 mod doing;
 pub(crate) mod dropped;

@@ -2,11 +2,11 @@
 
 mod common;
 
-use colock::{Error, Event, OpenOptions, OperationId, SharedStore, SharedTransaction};
+use colock::{Error, Event, Keyed, OpenOptions, OperationId, Retry, SharedStore, SharedTransaction};
 use common::{until_asleep, write_program, Folder, Telling, Told, COUNTER_ARMS, LONG};
 use std::fs;
 use std::os::unix::fs::PermissionsExt;
-use std::sync::{Mutex, MutexGuard, PoisonError};
+use std::sync::{Barrier, Mutex, MutexGuard, PoisonError};
 use std::thread;
 use std::time::{Duration, Instant};
 
@@ -457,4 +457,70 @@ fn an_attempt_that_waits_is_told_of_a_loss() {
         let words = lost(|| store.kept(0));
         assert_eq!(waiter.join().unwrap(), Err(Error::ConnectionLost(words)));
     });
+}
+
+/// A program of which each commit under a key is answered as done.
+const KEYED: &str = r#"begin) echo "$tag ok 1.$((n + 0))"; n=$((n + 1)) ;;
+    call) echo "$tag reply ok" ;;
+    outcome) if [ -z "$known" ]; then echo "$tag unknown"; else echo "$tag committed"; fi ;;
+    commit) known=1; echo "$tag ok" ;;
+    end) echo "$tag ok"; exit 0 ;;"#;
+
+/// The answers are the same, and the first of them is that of the work which stays.
+#[test]
+fn of_two_under_a_key_one_is_done() {
+    let fake = Fake::serving(KEYED);
+    let store = fake.open().unwrap();
+    let all = Barrier::new(2);
+    let work = || {
+        store.retry_under("order:1", &Retry::default(), |t| {
+            t.expect(0, "inc:1", "ok")?;
+            all.wait(); // both have found that the key is free
+            Ok::<_, Error>(())
+        })
+    };
+    let mut told = thread::scope(|scope| [scope.spawn(work), scope.spawn(work)].map(|thread| thread.join().unwrap().unwrap()));
+    told.sort_by_key(|told| *told != Keyed::Done(()));
+    assert_eq!(told, [Keyed::Done(()), Keyed::Known { replies: vec![] }]);
+    assert_eq!((store.stats().commits, store.stats().aborts), (1, 1));
+    assert_eq!(work(), Ok(Keyed::Known { replies: vec![] }));
+    assert_eq!(store.close(), Ok(()));
+}
+
+/// Under a key as without one: it is known then under which key to ask again.
+#[test]
+fn what_is_lost_under_a_key_is_told() {
+    let lost_at = |verb: &str| Fake::serving(&format!("{verb}) exit 0 ;; begin) echo \"$tag ok 1.0\" ;; call) echo \"$tag reply ok\" ;;"));
+    let begun = |store: &SharedStore| {
+        let mut t = store.begin().unwrap();
+        t.expect(0, "inc:1", "ok").unwrap();
+        t.commit_under("order:1")
+    };
+    assert_eq!(begun(&lost_at("commit").open().unwrap()), Err(Error::OutcomeUnknown(common::id("1.0"))));
+    assert_eq!(lost_at("do").open().unwrap().attempt_under("order:1", [(0, "inc:1")]), Err(Error::AttemptUnknown));
+    lost(|| lost_at("outcome").open().unwrap().outcome("order:1"));
+    let fake = lost_at("nothing) ;; outcome) echo \"$tag unknown\" ;; commit");
+    let retried = fake.open().unwrap().retry_under("order:1", &Retry::default(), |t| t.expect(0, "inc:1", "ok"));
+    assert_eq!(retried, Err(Error::OutcomeUnknown(common::id("1.0"))));
+}
+
+/// A program that ends its epoch before the third transaction begins, and knows a key.
+const RENEWED_WITH_A_KEY: &str = r#"begin) case "$n" in '') echo "$tag ok 1.0"; n=1 ;; 1) echo "$tag ok 1.1"; n=2 ;; *) echo "$tag ok 2.0" ;; esac ;;
+    call) echo "$tag reply ok" ;;
+    commit) case "$rest" in "1.0 known" | 2.*) echo "$tag ok" ;; *) echo "$tag refused NotOpen" ;; esac ;;
+    end) echo "$tag ok"; exit 0 ;;"#;
+
+#[test]
+fn a_key_is_asked_for_though_the_epoch_has_ended() {
+    let fake = Fake::serving(RENEWED_WITH_A_KEY);
+    let store = fake.open().unwrap();
+    let (mut first, second) = (store.begin().unwrap(), store.begin().unwrap());
+    assert_eq!(first.call(0, "inc:1").told(), Ok(Told::Operation(0.into())));
+    assert_eq!(second.begun(), Ok(common::id("1.1")));
+    let third = store.begin().unwrap();
+    assert_eq!(third.begun(), Ok(common::id("2.0")));
+    assert_eq!((first.commit_under("known"), second.commit_under("free")), (Ok(()), Err(Error::EpochEnded)));
+    assert_eq!((store.stats().commits, store.stats().aborts), (0, 2));
+    assert_eq!((third.commit_under("free"), store.stats().commits), (Ok(()), 1));
+    assert_eq!(store.close(), Ok(()));
 }

@@ -112,7 +112,7 @@ impl SharedStore {
             Err(error) => return self.enter().map(|_| Err(Ending::Refused(error))),
         };
         let asked = Asked::of([(object, name)], |object| self.number_of(object)).map_err(|unasked| unasked.error)?;
-        match self.tried_by_child(remote, &asked)?.came_alone() {
+        match self.tried_by_child(remote, &asked, None)?.came_alone() {
             Came::Done(operations) => {
                 let operation = operations.first().copied().unwrap_or_default();
                 OperationId::try_from(operation).map(Ok).map_err(|_| Error::Unknown(operation))
@@ -126,7 +126,7 @@ impl SharedStore {
     pub(crate) fn tried(&self, asked: &Asked) -> Result<Tried<'_>, Error> {
         match self.remote() {
             None => self.tried_in_memory(asked),
-            Some(remote) => self.tried_by_child(remote, asked),
+            Some(remote) => self.tried_by_child(remote, asked, None),
         }
     }
 
@@ -142,7 +142,7 @@ impl SharedStore {
 impl Tried<'_> {
     /// What came of it, without the lock.
     #[inline]
-    fn came_alone(self) -> Came {
+    pub(crate) fn came_alone(self) -> Came {
         self.came
     }
 }

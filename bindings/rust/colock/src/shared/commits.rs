@@ -20,6 +20,13 @@ pub(crate) enum When {
     OthersFirst,
 }
 
+/// What a child answers to the end of a transaction.
+pub(crate) struct EndTold {
+    pub(crate) text: String,
+    /// Whether it is known that another transaction was done under its key.
+    pub(crate) was_done: bool,
+}
+
 impl SharedStore {
     /// Takes back the last operations of a transaction, and wakes who waits for it or where it executed something.
     pub(crate) fn take_back<'s>(&'s self, mut guard: Guard<'s>, ticket: Ticket, operations: u64, lock: Lock) -> Guarded<'s, ()> {
@@ -44,7 +51,7 @@ impl SharedStore {
     }
 
     /// Whether something was done.
-    fn done(&self, text: &str) -> Result<(), Error> {
+    pub(crate) fn done(&self, text: &str) -> Result<(), Error> {
         match self.remote() {
             Some(remote) => ok(&remote.link, text).map(drop).map_err(of_open),
             None => Ok(()),
@@ -53,20 +60,11 @@ impl SharedStore {
 
     /// Commits a transaction. Over a child that is awaited outside the lock.
     #[inline]
-    pub(crate) fn commit(&self, guard: Guard<'_>, ticket: Ticket, when: When) -> Result<(), Error> {
+    pub(crate) fn commit(&self, mut guard: Guard<'_>, ticket: Ticket, when: When) -> Result<(), Error> {
         match self.remote() {
-            None => self.commit_in_memory(guard, ticket),
+            None => commit_in_memory(&mut guard, ticket),
             Some(remote) => self.end_remote(remote, guard, ticket, Request::Commit(ticket.id), when),
         }
-    }
-
-    #[inline]
-    fn commit_in_memory(&self, mut guard: Guard<'_>, ticket: Ticket) -> Result<(), Error> {
-        guard.is_of_life(ticket)?;
-        ManuallyDrop::into_inner(resumed(guard.memory()?, ticket.worker, ticket.id.number)).commit()?;
-        guard.stats.commits += 1;
-        guard.ended(ticket);
-        Ok(())
     }
 
     /// Aborts a transaction.
@@ -77,26 +75,34 @@ impl SharedStore {
         }
     }
 
-    /// Asks a child for the end of a transaction. As soon as it is asked for it counts as ended: the child takes the
-    /// lines in their order, and who was let go first and is kept out looks again.
-    fn end_remote(&self, remote: &Remote, mut guard: Guard<'_>, ticket: Ticket, request: Request<'_>, when: When) -> Result<(), Error> {
+    /// Has a child end a transaction.
+    fn end_remote(&self, remote: &Remote, guard: Guard<'_>, ticket: Ticket, request: Request<'_>, when: When) -> Result<(), Error> {
         guard.is_of_life(ticket)?;
+        let told = self.end_by_child(remote, guard, ticket, request, when)?;
+        self.done(&told.text)?;
+        remote.commits.fetch_add(u64::from(request.commits() != Commits::Nothing), Ordering::Relaxed);
+        Ok(())
+    }
+
+    /// Asks a child for the end of a transaction. As soon as it is asked for it counts as ended: the child takes the
+    /// lines in their order, and who was let go first and is kept out looks again. One of a life that is over has ended before.
+    pub(crate) fn end_by_child(&self, remote: &Remote, mut guard: Guard<'_>, ticket: Ticket, request: Request<'_>, when: When) -> Result<EndTold, Error> {
         let is_abort = request.commits() == Commits::Nothing;
         // who waits is woken now, and is to find that it has ended
         let goes_last = when == When::OthersFirst && guard.waiters.is_empty();
         let slot = if goes_last { guard.remote_state()?.send_last(request)? } else { guard.send(request)? };
         let underway = if goes_last { ticket.touched } else { Touched::default() };
         remote.underway.starts(underway);
-        counts_as_ended(&mut guard, ticket, is_abort);
+        if guard.is_of_life(ticket).is_ok() {
+            counts_as_ended(&mut guard, ticket, is_abort);
+        }
         drop(guard);
         let told = remote.link.answered(&slot);
         remote.underway.is_answered(underway);
         if told.is_err() {
             self.lock().lost();
         }
-        self.done(&told?)?;
-        remote.commits.fetch_add(u64::from(!is_abort), Ordering::Relaxed);
-        Ok(())
+        Ok(EndTold { text: told?, was_done: slot.was_done() })
     }
 }
 
@@ -124,6 +130,16 @@ pub(crate) fn counts_as_ended(state: &mut State, ticket: Ticket, is_abort: bool)
     }
     state.stats.aborts += u64::from(is_abort);
     state.ended(ticket);
+}
+
+/// Commits a transaction in memory.
+#[inline]
+pub(crate) fn commit_in_memory(state: &mut State, ticket: Ticket) -> Result<(), Error> {
+    state.is_of_life(ticket)?;
+    ManuallyDrop::into_inner(resumed(state.memory()?, ticket.worker, ticket.id.number)).commit()?;
+    state.stats.commits += 1;
+    state.ended(ticket);
+    Ok(())
 }
 
 fn abort_in_memory(state: &mut State, ticket: Ticket) -> Result<(), Error> {

@@ -1,6 +1,7 @@
 //! What is under the one lock of a shared store.
 
 use crate::error::Error;
+use crate::memory::keys::Keys;
 use crate::memory::store::Store;
 use crate::memory::transaction::Transaction;
 use crate::objects::Objects;
@@ -51,11 +52,13 @@ pub(crate) struct State {
     pub(crate) life: u64,
     /// How often a transaction has ended, or all of them.
     pub(crate) ends: u64,
+    /// What became of keys, in memory.
+    pub(crate) keys: Keys,
 }
 
 impl State {
     pub(crate) fn new(held: Held, objects: Arc<Objects>, life: u64) -> State {
-        State { held, stats: Stats::new(objects.len()), waiters: Waiters::new(objects), life, ends: 0 }
+        State { held, stats: Stats::new(objects.len()), waiters: Waiters::new(objects), life, ends: 0, keys: Keys::default() }
     }
 
     /// The store in memory has begun anew.

@@ -1,4 +1,5 @@
 use crate::error::Error;
+use crate::key::{Doer, Key};
 use crate::locks::locked;
 use crate::object::ObjectRef;
 use crate::operation_id::OperationId;
@@ -489,6 +490,43 @@ impl<'s> SharedTransaction<'s> {
     pub fn commit(mut self) -> Result<(), Error> {
         let ticket = self.ended()?;
         self.store.commit(self.store.enter()?, ticket, When::OthersFirst)
+    }
+
+    /// Commits it under a key, once: where a transaction committed before under this key, in whatever life or epoch, that is
+    /// answered, and this one is aborted. So who doesn't know whether the work was committed, as by
+    /// [`Error::OutcomeUnknown`], does it again under the same key, with the file open again.
+    ///
+    /// A key is 1 to 64 bytes of `a-z`, `A-Z`, `0-9`, `_`, `:`, `-` and `.`, which the caller chose for this work. By an error but
+    /// [`Error::OutcomeUnknown`] the transaction is aborted, and a key that was free is free.
+    ///
+    /// ```
+    /// # use colock::{Kind, SharedStore, Type};
+    /// # let store = SharedStore::new([&Type::counter(5, &[1], Kind::Undo)?], 100)?;
+    /// for _ in 0..3 {
+    ///     let mut transaction = store.begin()?;
+    ///     transaction.expect(0, "inc:1", "ok")?;
+    ///     transaction.commit_under("order:4711")?;
+    /// }
+    /// assert_eq!((store.kept(0)?, store.open_count()?), (1, 0));
+    /// # Ok::<(), colock::Error>(())
+    /// ```
+    ///
+    /// # Errors
+    ///
+    /// [`Error::BadKey`], by which nothing else is asked; [`Error::KeyAborted`] or [`Error::KeyTaken`]. Where the key is free, as of
+    /// [`SharedTransaction::commit`].
+    pub fn commit_under(self, key: impl AsRef<str>) -> Result<(), Error> {
+        let key = Key::of(key.as_ref())?;
+        self.committed_under(key).map(drop)
+    }
+
+    /// Commits it under a key. Whose work that is.
+    pub(crate) fn committed_under(mut self, key: Key<'_>) -> Result<Doer, Error> {
+        if let Err(error) = self.is_open() {
+            return self.store.replies_under(key)?.map(|_| Doer::Another).ok_or(error);
+        }
+        let ticket = self.ended()?;
+        self.store.commit_under(self.store.enter()?, ticket, key)
     }
 
     /// Its end is asked for by the caller.

@@ -1,4 +1,5 @@
 use crate::error::Error;
+use crate::key::{Doer, Key};
 use crate::shared::transaction::SharedTransaction;
 use crate::shared::SharedStore;
 use std::collections::hash_map::RandomState;
@@ -32,6 +33,20 @@ impl Default for Retry {
     fn default() -> Retry {
         Retry { tries: 10, backoff: Duration::from_millis(1) }
     }
+}
+
+/// What came of work under a key, by [`SharedStore::retry_under`].
+#[derive(Clone, Debug, PartialEq, Eq)]
+#[must_use = "the work may have been done before"]
+// no answer is to be overlooked by a match, so it isn't `non_exhaustive`
+pub enum Keyed<T> {
+    /// It was done now, and this is what it gave.
+    Done(T),
+    /// Another transaction had committed under the key. Nothing stays of what this one did, if anything.
+    Known {
+        /// The replies of its calls, in their order, where an [attempt](SharedStore::attempt_under) did it; else none.
+        replies: Vec<String>,
+    },
 }
 
 /// An error in which there may be one of a store, so that [`SharedStore::retry`] sees whether to try again.
@@ -160,7 +175,60 @@ impl SharedStore {
     ///
     /// The last error of `f`, of the commit, or of [`SharedStore::begin`]. [`Error::OutcomeUnknown`] is never tried
     /// again.
-    pub fn retry<T, E, F>(&self, how: &Retry, mut f: F) -> Result<T, E>
+    pub fn retry<T, E, F>(&self, how: &Retry, f: F) -> Result<T, E>
+    where
+        E: From<Error> + Cause,
+        F: FnMut(&mut SharedTransaction<'_>) -> Result<T, E>,
+    {
+        self.retried(how, f, |transaction, told| transaction.commit().map(|()| told))
+    }
+
+    /// As [`SharedStore::retry`], and done once: it first asks what became of the key, and where a transaction committed under it
+    /// before, in whatever life or epoch, `f` isn't run. Else each commit is [under the key](SharedTransaction::commit_under).
+    ///
+    /// Where others ask under the key at the same moment, one of them is done. The others are [`Keyed::Known`], also those whose `f` has
+    /// run or has failed, maybe since the work was done: nothing stays of theirs.
+    ///
+    /// ```
+    /// use colock::{Error, Keyed, Kind, Retry, SharedStore, Type};
+    ///
+    /// let store = SharedStore::new([("A12", &Type::seats(1, Kind::Undo)?)], 1_000)?;
+    /// let book = || store.retry_under("order:4711", &Retry::default(), |transaction| transaction.expect("A12", "hold:1", "ok"));
+    /// assert!(matches!(book()?, Keyed::Done(_)));
+    /// assert_eq!(book()?, Keyed::Known { replies: vec![] }); // it doesn't ask for the seat, which isn't free
+    /// # Ok::<(), Error>(())
+    /// ```
+    ///
+    /// # Errors
+    ///
+    /// [`Error::BadKey`], by which nothing is asked; [`Error::KeyAborted`] or [`Error::KeyTaken`]. Else as of [`SharedStore::retry`]: by
+    /// [`Error::OutcomeUnknown`] it is asked again, under the same key, with the file open again.
+    pub fn retry_under<T, E, F>(&self, key: impl AsRef<str>, retry: &Retry, f: F) -> Result<Keyed<T>, E>
+    where
+        E: From<Error> + Cause,
+        F: FnMut(&mut SharedTransaction<'_>) -> Result<T, E>,
+    {
+        let key = Key::of(key.as_ref())?;
+        let _claim = self.claim(key)?; // up to the end
+        if let Some(replies) = self.replies_under(key)? {
+            return Ok(Keyed::Known { replies });
+        }
+        let done = self.retried(retry, f, |transaction, told| {
+            let doer = transaction.committed_under(key)?;
+            Ok((doer == Doer::This).then_some(told))
+        });
+        match done {
+            Ok(Some(told)) => Ok(Keyed::Done(told)),
+            Ok(None) => Ok(Keyed::Known { replies: self.replies_under(key)?.unwrap_or_default() }),
+            Err(error) => match self.replies_under(key) {
+                Ok(Some(replies)) => Ok(Keyed::Known { replies }),
+                _ => Err(error),
+            },
+        }
+    }
+
+    /// Does `f` as a transaction until `commit` does its part, as [`SharedStore::retry`] says.
+    fn retried<T, R, E, F>(&self, how: &Retry, mut f: F, commit: impl Fn(SharedTransaction<'_>, T) -> Result<R, Error>) -> Result<R, E>
     where
         E: From<Error> + Cause,
         F: FnMut(&mut SharedTransaction<'_>) -> Result<T, E>,
@@ -172,8 +240,8 @@ impl SharedStore {
             let done = tried(&mut transaction, &mut f);
             let life = transaction.life();
             let error = match done {
-                Ok(told) => match transaction.commit() {
-                    Ok(()) => return Ok(told),
+                Ok(told) => match commit(transaction, told) {
+                    Ok(told) => return Ok(told),
                     Err(error) => E::from(error),
                 },
                 Err(error) => {

@@ -9,8 +9,8 @@
 //!
 //! What else a thread asks, and what is asked of the whole store, comes after the begins that it put off.
 //!
-//! An attempt, which is a whole transaction in one line, takes a number too, where it isn't refused. So for what is foretold
-//! it counts as a begin, whose name nobody is told.
+//! An attempt, which is a whole transaction in one line, takes a number too, where it isn't refused and wasn't done before under
+//! its key. So for what is foretold it counts as a begin, whose name nobody is told.
 
 use crate::error::Error;
 use crate::reply::Outcome;

@@ -3,8 +3,10 @@
 use crate::error::Error;
 use crate::failure::Failure;
 use crate::fork::{Origin, Unforked};
+use crate::key::Key;
 use crate::locks::locked;
 use crate::shared::state::State;
+use crate::wire::claims::{Claim, Claims};
 use crate::wire::flight::{no_line, Flight};
 use crate::wire::past::Found;
 use crate::wire::pipe::taken_at_once;
@@ -74,7 +76,8 @@ impl Link {
         };
         let (input, output) = (Mutex::new(Some(Unforked::new(input))), Unforked::new(output));
         let greeting = Arc::new(Slot::default());
-        let first = Pending { tag: 0, form: Form::Greeting, commits: Commits::Nothing, wakes: false, is_last: false, slot: Arc::clone(&greeting) };
+        let slot = Arc::clone(&greeting);
+        let first = Pending { tag: 0, form: Form::Greeting, commits: Commits::Nothing, wakes: false, is_last: false, claim: None, slot };
         let (child, flight, origin) = (Mutex::new(child), Mutex::new(Flight::new(first)), Origin::here());
         let link = Arc::new(Link { child, input, flight, said, limit, origin, reason: OnceLock::new(), store: OnceLock::new() });
         let reading = Arc::clone(&link);
@@ -322,11 +325,12 @@ pub(crate) struct Conversation {
     lines: Vec<u8>,
     requests: Vec<Pending>,
     tag: u64,
+    claims: Box<Claims>,
 }
 
 impl Conversation {
     pub(crate) fn new(link: Arc<Link>) -> Conversation {
-        Conversation { link, lines: Vec::new(), requests: Vec::new(), tag: 0 }
+        Conversation { link, lines: Vec::new(), requests: Vec::new(), tag: 0, claims: Box::default() }
     }
 
     /// Puts a request after those that are to be asked. Its answer comes into the slot, after `ask_all`.
@@ -348,6 +352,11 @@ impl Conversation {
         slot
     }
 
+    /// The claim of a key, which requests under it have.
+    pub(crate) fn claim(&mut self, key: Key<'_>) -> Arc<Claim> {
+        self.claims.of(key)
+    }
+
     fn put_so(&mut self, request: Request<'_>, is_last: bool) -> Arc<Slot> {
         self.tag += 1;
         // a write into memory doesn't fail
@@ -360,7 +369,8 @@ impl Conversation {
         };
         let slot = Arc::new(Slot::default());
         let wakes = !matches!(request, Request::Begin | Request::Abort(_) | Request::Extend(_));
-        self.requests.push(Pending { tag: self.tag, form, commits: request.commits(), wakes, is_last, slot: Arc::clone(&slot) });
+        let claim = request.key().map(|key| self.claim(key));
+        self.requests.push(Pending { tag: self.tag, form, commits: request.commits(), wakes, is_last, claim, slot: Arc::clone(&slot) });
         slot
     }
 

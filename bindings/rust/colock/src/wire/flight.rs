@@ -221,7 +221,7 @@ mod tests {
     const ROOM: usize = 65_536;
 
     fn pending(tag: u64, is_last: bool) -> Pending {
-        Pending { tag, form: Form::One, commits: Commits::Nothing, wakes: true, is_last, slot: Arc::new(Slot::default()) }
+        Pending { tag, form: Form::One, commits: Commits::Nothing, wakes: true, is_last, claim: None, slot: Arc::new(Slot::default()) }
     }
 
     /// A flight whose greeting is there.

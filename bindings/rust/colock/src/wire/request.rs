@@ -2,6 +2,7 @@
 
 use crate::error::Error;
 use crate::event::Event;
+use crate::key::{Key, KeyOutcome};
 use crate::moment::Moment;
 use crate::operation_id::OperationId;
 use crate::transaction_id::{decimal, TransactionId};
@@ -14,10 +15,14 @@ pub(crate) enum Request<'a> {
     Call(TransactionId, u32, &'a str),
     Would(TransactionId, u32, &'a str),
     Commit(TransactionId),
+    CommitUnder(TransactionId, Key<'a>),
     Abort(TransactionId),
     Rollback(TransactionId, u32),
     /// Calls of a whole transaction, as `X NAME X NAME..`.
     Do(&'a str),
+    DoUnder(Key<'a>, &'a str),
+    /// A key, of whose transaction it is asked what became of it.
+    Outcome(Key<'a>),
     /// Calls of a read, in the same way.
     Peek(&'a str),
     /// Objects, whose committed states are asked for.
@@ -32,7 +37,7 @@ pub(crate) enum Request<'a> {
     End,
 }
 
-impl Request<'_> {
+impl<'a> Request<'a> {
     /// Whether lines come before the last one of its answer.
     pub(crate) fn is_list(&self) -> bool {
         matches!(self, Request::Objects | Request::Types | Request::Events(..))
@@ -46,9 +51,17 @@ impl Request<'_> {
     /// What it commits.
     pub(crate) fn commits(&self) -> Commits {
         match self {
-            Request::Commit(id) => Commits::Transaction(*id),
-            Request::Do(_) => Commits::Attempt,
+            Request::Commit(id) | Request::CommitUnder(id, _) => Commits::Transaction(*id),
+            Request::Do(_) | Request::DoUnder(..) => Commits::Attempt,
             _ => Commits::Nothing,
+        }
+    }
+
+    /// The key under which it is done, where it has one.
+    pub(crate) fn key(&self) -> Option<Key<'a>> {
+        match self {
+            Request::CommitUnder(_, key) | Request::DoUnder(key, _) => Some(*key),
+            _ => None,
         }
     }
 }
@@ -60,9 +73,12 @@ impl fmt::Display for Request<'_> {
             Request::Call(id, object, name) => write!(f, "call {id} {object} {name}"),
             Request::Would(id, object, name) => write!(f, "would {id} {object} {name}"),
             Request::Commit(id) => write!(f, "commit {id}"),
+            Request::CommitUnder(id, key) => write!(f, "commit {id} {key}"),
             Request::Abort(id) => write!(f, "abort {id}"),
             Request::Rollback(id, count) => write!(f, "rollback {id} {count}"),
             Request::Do(calls) => write!(f, "do {calls}"),
+            Request::DoUnder(key, calls) => write!(f, "do ={key} {calls}"),
+            Request::Outcome(key) => write!(f, "outcome {key}"),
             Request::Peek(calls) => write!(f, "peek {calls}"),
             Request::Committed(objects) => write!(f, "committed {objects}"),
             Request::Kept(object) => write!(f, "kept {object}"),
@@ -95,7 +111,7 @@ pub(crate) enum Answer<'a> {
     /// The epoch is full, or others add objects.
     Drain,
     None,
-    /// The replies of an attempt.
+    /// The replies of an attempt. Under the key of a commit there is none.
     Done(&'a str),
     /// How the call at a place ended an attempt, or kept a read from its answer.
     BusyAt(usize, TransactionId),
@@ -118,7 +134,7 @@ pub(crate) fn answer(line: &str) -> Option<Answer<'_>> {
         ("busy", rest) => busy(rest),
         ("none", "") => Some(Answer::None),
         ("none", at) => place(at).map(Answer::NoneAt),
-        ("done", replies) if !replies.is_empty() => Some(Answer::Done(replies)),
+        ("done", replies) if !replies.is_empty() || line == word => Some(Answer::Done(replies)),
         ("seen", rest) => seen(rest),
         ("no", why) if !why.is_empty() => Some(Answer::No(why)),
         ("refused", rest) => refused(rest),
@@ -163,8 +179,21 @@ fn refusal(kind: &str) -> Option<Error> {
         "NoMemory" => Error::NoMemory,
         "BadRollback" => Error::BadRollback,
         "Changes" => Error::Changes,
+        "Aborted" => Error::KeyAborted,
+        "KeyTaken" => Error::KeyTaken,
         _ => return None,
     })
+}
+
+/// What a line says that became of the transaction of a key; nothing where it says no such thing.
+pub(crate) fn outcome(line: &str) -> Option<KeyOutcome> {
+    match line.split_once(' ') {
+        None if line == "unknown" => Some(KeyOutcome::Unknown),
+        None if line == "aborted" => Some(KeyOutcome::Aborted),
+        None if line == "committed" => Some(KeyOutcome::of_replies("")),
+        Some(("committed", replies)) if replies.split(' ').all(|reply| !reply.is_empty()) => Some(KeyOutcome::of_replies(replies)),
+        _ => None,
+    }
 }
 
 /// The most numbers of a line of a history.
@@ -204,7 +233,8 @@ fn small<N: TryFrom<u64>>(number: u64) -> Option<N> {
 
 #[cfg(test)]
 mod tests {
-    use super::{answer, event, Answer, Request};
+    use super::{answer, event, outcome, Answer, Commits, Request};
+    use crate::key::{Key, KeyOutcome};
     use crate::{Error, Event, Moment, OperationId, TransactionId};
 
     #[test]
@@ -222,7 +252,38 @@ mod tests {
             (Request::Extend("a b.type"), "extend a b.type"),
         ];
         for (request, line) in rows {
-            assert_eq!(request.to_string(), line);
+            assert_eq!((request.to_string(), request.key()), (line.to_string(), None));
+        }
+    }
+
+    #[test]
+    fn requests_under_keys_are_spelled() {
+        let (id, key) = (TransactionId { life: 3, number: 14 }, Key::of("order:4711").unwrap());
+        let rows = [
+            (Request::CommitUnder(id, key), "commit 3.14 order:4711", Some(key), Commits::Transaction(id)),
+            (Request::DoUnder(key, "2 inc:1 3 hold"), "do =order:4711 2 inc:1 3 hold", Some(key), Commits::Attempt),
+            (Request::Outcome(key), "outcome order:4711", None, Commits::Nothing),
+        ];
+        for (request, line, key, commits) in rows {
+            assert_eq!((request.to_string(), request.key(), request.commits(), request.is_list()), (line.to_string(), key, commits, false));
+        }
+    }
+
+    #[test]
+    fn outcomes_are_read() {
+        let committed = |replies: &[&str]| Some(KeyOutcome::Committed { replies: replies.iter().map(ToString::to_string).collect() });
+        let rows = [
+            ("unknown", Some(KeyOutcome::Unknown)),
+            ("aborted", Some(KeyOutcome::Aborted)),
+            ("committed", committed(&[])),
+            ("committed ok", committed(&["ok"])),
+            ("committed ok 7 short", committed(&["ok", "7", "short"])),
+        ];
+        for (line, wanted) in rows {
+            assert_eq!(outcome(line), wanted, "{line}");
+        }
+        for wrong in ["", "committed ", "committed  ok", "committed ok ", "unknown ok", "aborted ", "ok", "done ok", "refused KeyTaken", "seen 1.0 ok"] {
+            assert_eq!(outcome(wrong), None, "{wrong}");
         }
     }
 
@@ -248,7 +309,10 @@ mod tests {
             ("refused 1 NoCall", Some(Answer::RefusedAt(1, Error::NoCall))),
             ("seen 3.14 ok 7", Some(Answer::Seen(Moment::new(3, 14), "ok 7"))),
             ("refused Changes", Some(Answer::Refused(Error::Changes))),
-            ("done", None),
+            ("refused Aborted", Some(Answer::Refused(Error::KeyAborted))),
+            ("refused KeyTaken", Some(Answer::Refused(Error::KeyTaken))),
+            ("done", Some(Answer::Done(""))),
+            ("done ", None),
             ("busy 2 drain", None),
             ("busy x 3.14", None),
             ("none x", None),

@@ -2,7 +2,8 @@
 
 use crate::error::Error;
 use crate::locks::locked;
-use crate::wire::request::Commits;
+use crate::wire::claims::Claim;
+use crate::wire::request::{answer, Answer, Commits};
 use std::mem;
 use std::sync::{Arc, Condvar, Mutex, PoisonError};
 use std::time::Instant;
@@ -20,6 +21,8 @@ struct Told {
     text: String,
     outcome: Option<Result<(), Error>>,
     is_awaited: bool,
+    /// Whether an earlier request under its key was done, of those that were asked at the same time.
+    was_done: bool,
 }
 
 impl Told {
@@ -36,6 +39,16 @@ impl Slot {
         let mut told = locked(&self.told);
         told.text.push_str(line);
         told.text.push('\n');
+    }
+
+    /// An earlier request under its key was done.
+    fn set_done(&self) {
+        locked(&self.told).was_done = true;
+    }
+
+    /// Whether an earlier request under the key of this one, which is answered, was done.
+    pub(crate) fn was_done(&self) -> bool {
+        locked(&self.told).was_done
     }
 
     /// The last line, or why none comes.
@@ -101,6 +114,8 @@ pub(crate) struct Pending {
     pub(crate) wakes: bool,
     /// Whether what others ask may go before it.
     pub(crate) is_last: bool,
+    /// Of the key under which it is done, where it has one.
+    pub(crate) claim: Option<Arc<Claim>>,
     pub(crate) slot: Arc<Slot>,
 }
 
@@ -123,8 +138,12 @@ impl Pending {
         self.slot.add(answer);
     }
 
-    pub(crate) fn close(&self, answer: &str) {
-        self.slot.close(answer, Ok(()));
+    /// The last line of its answer. They come in the order in which the child does what is asked.
+    pub(crate) fn close(&self, line: &str) {
+        if self.claim.as_ref().is_some_and(|claim| is_done(line) && claim.was_done()) {
+            self.slot.set_done();
+        }
+        self.slot.close(line, Ok(()));
     }
 
     /// No answer comes, by this error. Whether a commit is done isn't known then.
@@ -138,9 +157,16 @@ impl Pending {
     }
 }
 
+/// Whether an answer says that what was asked is done.
+fn is_done(line: &str) -> bool {
+    matches!(answer(line), Some(Answer::Ok(_) | Answer::Done(_)))
+}
+
 #[cfg(test)]
 mod tests {
     use super::{Form, Pending, Slot};
+    use crate::key::Key;
+    use crate::wire::claims::Claims;
     use crate::wire::request::Commits;
     use crate::{Error, TransactionId};
     use std::sync::Arc;
@@ -148,7 +174,7 @@ mod tests {
 
     fn pending(form: Form, commits: Commits) -> (Pending, Arc<Slot>) {
         let slot = Arc::new(Slot::default());
-        (Pending { tag: 12, form, commits, wakes: true, is_last: false, slot: Arc::clone(&slot) }, slot)
+        (Pending { tag: 12, form, commits, wakes: true, is_last: false, claim: None, slot: Arc::clone(&slot) }, slot)
     }
 
     #[test]
@@ -167,6 +193,23 @@ mod tests {
         list.add("");
         list.close("ok");
         assert_eq!(slot.answer_until(None), Some(Ok("op ok ok\n\nok".to_string())));
+    }
+
+    /// Of requests under one key the first is known from the others that is answered as done.
+    #[test]
+    fn the_first_under_a_key_is_known() {
+        let (mut claims, key) = (Claims::default(), Key::of("a").unwrap());
+        let under = |claims: &mut Claims, answer: &str| {
+            let (pending, slot) = pending(Form::One, Commits::Attempt);
+            Pending { claim: Some(claims.of(key)), ..pending }.close(answer);
+            assert_eq!(slot.answer_until(None), Some(Ok(answer.to_string())));
+            slot.was_done()
+        };
+        let held = claims.of(key);
+        let told = ["busy 1 3.4", "refused NotOpen", "refused KeyTaken", "done ok", "busy drain", "ok", "done"].map(|answer| under(&mut claims, answer));
+        assert_eq!(told, [false, false, false, false, false, true, true]);
+        drop(held);
+        assert!(!under(&mut claims, "ok") && !under(&mut claims, "ok"));
     }
 
     #[test]
