@@ -2,7 +2,7 @@
 import threading
 import unittest
 from functools import partial
-from typing import Callable, List, Sequence
+from typing import Callable, List, Optional, Sequence
 from unittest import mock
 
 import colock
@@ -191,9 +191,9 @@ class HallTest(unittest.TestCase):
     def test_nothing_is_shown_before_it_is_durable(self) -> None:
         commit, seen = colock.Transaction.commit, []
 
-        def watched(t: colock.Transaction) -> None:
+        def watched(t: colock.Transaction, *, key: Optional[str] = None) -> None:
             seen.append((self.shown("C7", "ann"), self.hall.seen_by("ann").sold))
-            commit(t)
+            commit(t, key=key)
             seen.append((self.shown("C7", "ann"), self.hall.seen_by("ann").sold))
 
         with mock.patch.object(colock.Transaction, "commit", watched):

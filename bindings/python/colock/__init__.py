@@ -99,6 +99,26 @@ read without waiting for anybody, all at one moment:
     >>> pair.snapshot()
     States(at=Moment(epoch=0, commits=2), states=(0, 1))
 
+What has a key is done at most once, however often it is asked. So who wasn't answered asks again, under the same key; and
+`outcome` says what became of it:
+
+    >>> pair.attempt([("one", "inc:1")], key="order:7")
+    Done(replies=(Operation('inc:1', 'ok', place=0),))
+    >>> pair.attempt([("one", "inc:1")], key="order:7")
+    Done(replies=(Operation('inc:1', 'ok', place=0),))
+    >>> pair.kept("one"), pair.outcome("order:7"), pair.outcome("order:8")
+    (1, Committed(replies=('ok',)), Unknown())
+    >>> for _ in range(2):
+    ...     transaction = pair.begin()
+    ...     done = transaction.call("one", "inc:2")
+    ...     transaction.commit(key="order:8")  # the second one is aborted
+    >>> pair.kept("one")
+    3
+    >>> pair.retry(lambda transaction: transaction.call("one", "inc:2").executed(), key="order:8")
+    Committed(replies=())
+
+In a file keys stay, so what was asked before its program was lost is asked again where the file is open anew.
+
 Objects may have names, by which calls then have them; and more may be added while the store lives:
 
     >>> hall = colock.Store({"A1": seat, "A2": seat}, max_events=1_000_000)
@@ -117,6 +137,7 @@ from typing import TYPE_CHECKING as _TYPE_CHECKING
 
 from ._attempts import Attempt, Done, Ended
 from ._errors import (
+    BadKey,
     BadMax,
     BadName,
     BadParameter,
@@ -137,6 +158,8 @@ from ._errors import (
     IllegalError,
     InMemoryOnly,
     InUse,
+    KeyAborted,
+    KeyTaken,
     NameTaken,
     NeedsEscrow,
     NoCall,
@@ -148,6 +171,7 @@ from ._errors import (
     NotFollowedError,
     NotMadeError,
     NotOpenError,
+    OtherCalls,
     OtherObjects,
     OutcomeUnknown,
     Refused,
@@ -161,6 +185,7 @@ from ._errors import (
     UnexpectedError,
 )
 from ._events import Event, EventKind
+from ._keys import Aborted, Committed, Unknown
 from ._limits import Limits
 from ._old_names import renamed as _renamed
 from ._reads import Moment, Seen, States
@@ -173,7 +198,9 @@ from ._types import Kind, Type, TypeOperation
 __version__ = "0.2.0"
 
 __all__ = [
+    "Aborted",
     "Attempt",
+    "BadKey",
     "BadMax",
     "BadName",
     "BadParameter",
@@ -185,6 +212,7 @@ __all__ = [
     "CannotOpen",
     "Changes",
     "ClosedError",
+    "Committed",
     "ConnectionLost",
     "DeadlockError",
     "Done",
@@ -200,6 +228,8 @@ __all__ = [
     "IllegalError",
     "InMemoryOnly",
     "InUse",
+    "KeyAborted",
+    "KeyTaken",
     "Kind",
     "Limits",
     "Moment",
@@ -215,6 +245,7 @@ __all__ = [
     "NotMadeError",
     "NotOpenError",
     "Operation",
+    "OtherCalls",
     "OtherObjects",
     "OutcomeUnknown",
     "Refused",
@@ -234,6 +265,7 @@ __all__ = [
     "Type",
     "TypeOperation",
     "UnexpectedError",
+    "Unknown",
 ]
 
 # type checkers are told of no old name

@@ -22,6 +22,7 @@ from ._errors import (
     TooManyOpenError,
 )
 from ._events import Event, read_event
+from ._keys import UNKNOWN, Aborted, Committed, Outcome
 from ._objects import Given
 from ._outcomes import Archive, outcome_in
 from ._reads import Moment, Seen, States
@@ -44,6 +45,9 @@ STATS = re.compile(rb"ok events ([0-9]+) begun [0-9]+ open ([0-9]+)")
 # What is seen: at which moment, and a word for each that was asked for; or of which of them no operation is legal.
 SEEN = re.compile(r"seen ([0-9]+)\.([0-9]+)((?: [^ ]+)*)")
 NONE = re.compile(rb"none ([0-9]+)")
+# What became of a key: with a word for each reply where it committed.
+OUTCOME = re.compile(r"committed((?: [a-z0-9_:-]{1,32})*)")
+OTHER_OUTCOMES: Dict[bytes, Outcome] = {b"aborted": Aborted(), b"unknown": UNKNOWN}
 # A request has at most this many calls, or objects; and how often several of them are asked that aren't of one moment.
 MOST_ASKED = 64
 MOST_TRIES = 10
@@ -210,6 +214,19 @@ class Asking(Backend):
     def _archived(self, life: int) -> Optional[List[bytes]]:
         """The lines of the events of the epoch whose last life this was, by the archive, if there is one."""
         return None if self._archive is None else self._archive.lines(life)
+
+    def outcome(self, key: str) -> Slot:
+        self._check_connection()
+        return self._request(f"outcome {key}", self._outcome_in)
+
+    def _outcome_in(self, answer: bytes) -> Outcome:
+        committed = OUTCOME.fullmatch(answer.decode("ascii", "replace"))
+        if committed is not None:
+            return Committed(tuple(committed[1].split()))
+        other = OTHER_OUTCOMES.get(answer)
+        if other is None:
+            self._refuse(answer)
+        return other
 
     # ---- what is committed
 

@@ -6,15 +6,16 @@ from types import GeneratorType
 from typing import TYPE_CHECKING, Callable, Deque, Dict, Generator, Iterable, List, NamedTuple, Optional, Sequence, Tuple, TypeVar, Union, cast
 from weakref import ref
 
-from ._attempts import Attempt, Ended
+from ._attempts import Attempt, Done, Ended
 from ._connection import Slot
-from ._errors import Error, InMemoryOnly, NoCall, NoObject
+from ._errors import Error, InMemoryOnly, KeyAborted, NoCall, NoObject, OtherCalls
 from ._events import Event
+from ._keys import Aborted, Committed, Outcome
 from ._let_go import warn_of_transaction
 from ._library import unsigned
 from ._objects import Given, ObjectRef
 from ._reads import Moment, Seen, States
-from ._replies import Reply
+from ._replies import Operation, Reply
 from ._sleepers import Blocker, Sleepers
 from ._stats import Counts
 from ._types import Type
@@ -140,17 +141,25 @@ class Backend(ABC):
     def abort_forsaken(self, number: int) -> None:
         """Aborts a transaction of this life that nobody has, where it is open. It may be done twice."""
 
-    def interrupted(self, error: BaseException) -> None:
-        """A call ends with this exception, which may have come at any place: the lock may be held, or something half done."""
+    def interrupted(self, error: BaseException, under_key: "Optional[Transaction]" = None) -> None:
+        """A call ends with this exception, which may have come at any place: the lock may be held, or something half done.
+
+        `under_key` is the transaction where the call is its commit under a key.
+        """
         if isinstance(error, Error):
             return
         try:
             self._give_back()
             # who comes next does it where another thread keeps the lock
-            if self.is_half_done() and self.lock.acquire(timeout=SECONDS_TO_MEND):
+            if (under_key is not None or self.is_half_done()) and self.lock.acquire(timeout=SECONDS_TO_MEND):
                 self.put_right()
+                if under_key is not None:
+                    self.abort_behind(under_key)
         finally:
             self._give_back()
+
+    def abort_behind(self, t: "Transaction") -> None:
+        """Aborts a transaction behind its commit under a key, whose answer nobody will see, where that is refused."""
 
     def is_half_done(self) -> bool:
         """Whether there is something to put right."""
@@ -292,6 +301,31 @@ class Backend(ABC):
                 return Ended(index, kind(kind.__doc__))
         return None
 
+    def told_before(self, outcome: Outcome, pairs: Pairs, key: str) -> Optional[Done]:
+        """What comes of an attempt of these calls whose key has this outcome; None where the key is free.
+
+        Raises `KeyAborted`, or `OtherCalls` where the replies aren't those of such calls.
+        """
+        if isinstance(outcome, Aborted):
+            raise KeyAborted(key)
+        if not isinstance(outcome, Committed):
+            return None
+        done = self.done_with(pairs, outcome.replies)
+        if done is None:
+            raise OtherCalls(key)
+        return done
+
+    def done_with(self, pairs: Pairs, replies: Sequence[str]) -> Optional[Done]:
+        """The operations of these calls, by their replies; None where these aren't those of such calls."""
+        replied = [self._replied(x, name, reply) for (x, name), reply in zip(pairs, replies)]
+        operations = tuple(operation for operation in replied if operation is not None)
+        return Done(operations) if len(operations) == len(pairs) == len(replies) else None
+
+    def _replied(self, x: int, name: str, reply: str) -> Optional[Operation]:
+        """The operation of a call that has this reply; None where there is none."""
+        call = self.call_of(x, name)
+        return None if call is None else self.types[x]._calls.replied(call, reply)
+
     @abstractmethod
     def begin(self, t: "Transaction") -> Asked[bool]:
         """Begins a transaction, which has a life and a number then. False where none begins now, but soon."""
@@ -333,17 +367,25 @@ class Backend(ABC):
         """Takes back the last operations."""
 
     @abstractmethod
-    def commit(self, t: "Transaction") -> Finish:
-        """Commits it: for all others it has ended after this."""
+    def commit(self, t: "Transaction", key: Optional[str] = None) -> Finish:
+        """Commits it: for all others it has ended after this.
+
+        Under a key one that has ended is no fault where another one committed under it before; and one that is open is aborted
+        then.
+        """
 
     @abstractmethod
     def abort(self, t: "Transaction") -> Finish:
         """Aborts it: for all others it has ended after this."""
 
     @abstractmethod
-    def attempt(self, pairs: Pairs, worker: int) -> Callable[[], Optional[Attempt]]:
-        """Does a whole transaction: for all others it has ended after this. What it gives says, outside the lock, what came of
-        it; None where none begins now, but soon."""
+    def attempt(self, pairs: Pairs, worker: int, key: Optional[str] = None) -> Callable[[], Optional[Attempt]]:
+        """Does a whole transaction, under a key once: for all others it has ended after this. What it gives says, outside the
+        lock, what came of it; None where none begins now, but soon."""
+
+    @abstractmethod
+    def outcome(self, key: str) -> Asked[Outcome]:
+        """What became of a key."""
 
     @abstractmethod
     def moment(self) -> Asked[Moment]:

@@ -1,4 +1,5 @@
 """A durable store, over a child process `colock serve`."""
+import re
 import threading
 import time
 from contextlib import suppress
@@ -7,7 +8,7 @@ from typing import TYPE_CHECKING, Callable, Collection, Dict, List, NoReturn, Op
 
 from ._asking import MOST_ASKED, MOST_EVENTS, REFUSALS, Asking
 from ._attempts import Attempt, Done, Ended
-from ._backend import NOBODY, CallAt, Finish, Pairs
+from ._backend import NOBODY, Finish, Pairs
 from ._connection import Connection, Slot
 from ._errors import (
     BadRollback,
@@ -20,10 +21,12 @@ from ._errors import (
     NoCall,
     NoObject,
     NotOpenError,
+    OtherCalls,
     OutcomeUnknown,
     TimedOut,
 )
 from ._extensions import Extending, Work, check_addition, refuse_objects
+from ._keys import refusal_of
 from ._object_files import room_for_words, write_objects
 from ._objects import Given
 from ._outcomes import Archive
@@ -35,6 +38,8 @@ if TYPE_CHECKING:
 # The most bytes of a request, and how long it is waited before one is made again that was answered `busy drain`.
 LONGEST_REQUEST = 4_096
 SECONDS_OF_DRAIN = 0.01
+# That a whole transaction is done, with the reply of each call.
+DONE = re.compile(r"done((?: [a-z0-9_:-]{1,32})*)")
 
 
 class Child(Asking):
@@ -314,9 +319,28 @@ class Child(Asking):
             self._let_go[x] = slot.number
         self.sleepers.took_back(number, touched)
 
-    def commit(self, t: "Transaction") -> Finish:
+    def commit(self, t: "Transaction", key: Optional[str] = None) -> Finish:
+        if key is not None:
+            return self._commit_under(t, key)
         slot = self._put_end(t, "commit", self.counts.aborts)
         return lambda: self._finish_commit(t, slot)
+
+    def _commit_under(self, t: "Transaction", key: str) -> Finish:
+        """Asks for a commit under a key, also of a transaction that has ended: another one may have committed under it."""
+        self.put_right()
+        self._check_connection()
+        was_open = not t._ended and self.is_open(t._life, t._number)
+        slot = self._connection.made(f"commit {t._life}.{t._number} {key}")
+        if was_open:
+            self._put_with(slot, partial(self._ends, t, slot, self.counts.aborts))
+        else:
+            self._connection.put(slot)
+        return lambda: self._finish_commit(t, slot, key, was_open)
+
+    def abort_behind(self, t: "Transaction") -> None:
+        # one that ended otherwise isn't open there, and nothing is done
+        if t._ended and not self.is_lost():
+            self._connection.send(f"abort {t._life}.{t._number}")
 
     def abort(self, t: "Transaction") -> Finish:
         slot = self._put_end(t, "abort", self.counts.aborts + 1)
@@ -356,27 +380,46 @@ class Child(Asking):
         if answer != b"ok":
             self._refuse_end(t, answer)
 
-    def _finish_commit(self, t: "Transaction", slot: Slot) -> None:
+    def _finish_commit(self, t: "Transaction", slot: Slot, key: Optional[str] = None, was_open: bool = True) -> None:
         """The end of a commit, outside the lock. From when it was written it isn't known what becomes of it."""
         try:
             answer = self._connection.wait(slot)
             if answer != b"ok":
-                self._refuse_end(t, answer)
+                self._refuse_key(t, slot, key, was_open, answer)
+                self._refuse_end(t, answer, was_open)
         except ConnectionLost as lost:
             if not slot.written:
                 raise
             raise OutcomeUnknown(f"{t._life}.{t._number}") from lost
         except EpochEndedError:
             with self.lock:
-                self.counts.aborts += 1
+                self.counts.aborts += was_open
             raise
         with self.lock:
             self.counts.commits += 1
 
-    def _refuse_end(self, t: "Transaction", answer: bytes) -> NoReturn:
+    def _refuse_key(self, t: "Transaction", slot: Slot, key: Optional[str], was_open: bool, answer: bytes) -> None:
+        """Raises where the answer to a commit refuses its key. The transaction is open then, if it was."""
+        refusal = refusal_of(key, answer)
+        if refusal is None:
+            return
+        with self.lock:
+            if was_open and t._life == self.life:
+                self._together(partial(self._opens_again, t, slot))
+        raise refusal
+
+    def _opens_again(self, t: "Transaction", slot: Slot) -> None:
+        """A transaction that counted as ended from this request on is open. It may be done twice."""
+        self._open[t._number] = slot.number
+        self.hold(t)
+        t._ended = False
+
+    def _refuse_end(self, t: "Transaction", answer: bytes, was_open: bool = True) -> NoReturn:
         with self.lock:
             self.put_right()
             if answer == b"refused NotOpen":
+                if t._ended and not was_open:
+                    raise NotOpenError(NotOpenError.__doc__)
                 if t._life == self.life:
                     self._end_life()
                 raise EpochEndedError(EpochEndedError.__doc__)
@@ -384,7 +427,7 @@ class Child(Asking):
 
     # ---- whole transactions
 
-    def attempt(self, pairs: Pairs, worker: int) -> Callable[[], Optional[Attempt]]:
+    def attempt(self, pairs: Pairs, worker: int, key: Optional[str] = None) -> Callable[[], Optional[Attempt]]:
         self._check_connection()
         if worker != 0:
             raise InMemoryOnly("a worker other than 0 attempts a transaction only in memory")
@@ -392,11 +435,15 @@ class Child(Asking):
             raise ValueError(f"an attempt of a store in a file has {MOST_ASKED} calls at most, and not {len(pairs)}")
         missing = self.first_missing(pairs)
         if missing is not None:
-            return lambda: missing
-        calls = self.calls_at(pairs)
-        slot = self._connection.made(" ".join(["do", *(f"{x} {name}" for x, _, name in calls)]))
-        self._put_with(slot, lambda: self._lets_go(slot, {x for x, _, _ in calls}))
-        return lambda: self._finish_attempt(slot, calls)
+            return (lambda: missing) if key is None else self._missing_under(key, pairs, missing)
+        slot = self._connection.made(" ".join(["do", *([] if key is None else [f"={key}"]), *(f"{x} {name}" for x, name in pairs)]))
+        self._put_with(slot, lambda: self._lets_go(slot, {x for x, _ in pairs}))
+        return lambda: self._finish_attempt(slot, pairs, key)
+
+    def _missing_under(self, key: str, pairs: Pairs, missing: Ended) -> Callable[[], Attempt]:
+        """An attempt of which a call isn't there, so that nothing may have been done under its key before."""
+        slot = self._connection.send(f"outcome {key}")
+        return lambda: self.told_before(self._outcome_in(self._connection.wait(slot)), pairs, key) or missing
 
     def _lets_go(self, slot: Slot, touched: Collection[int]) -> None:
         """A whole transaction was asked for, where it was written: who sleeps at one of its objects may be free behind it."""
@@ -407,7 +454,7 @@ class Child(Asking):
         if self.sleepers.calls:
             self.sleepers.took_back(NOBODY, touched)
 
-    def _finish_attempt(self, slot: Slot, calls: List[CallAt]) -> Optional[Attempt]:
+    def _finish_attempt(self, slot: Slot, pairs: Pairs, key: Optional[str]) -> Optional[Attempt]:
         """What came of it, outside the lock. From when it was written it isn't known what becomes of it."""
         try:
             answer = self._connection.wait(slot)
@@ -419,33 +466,37 @@ class Child(Asking):
             self.put_right()
             if answer == b"busy drain":
                 return None
-            told = self._done(calls, answer)
+            told = self._done(pairs, answer, key)
             if told is not None:
                 self.counts.commits += 1
                 return told
-            ended = self._ended_at(calls, answer)
+            ended = self._ended_at(pairs, answer, key)
             self.counts.aborts += 1
             if isinstance(ended.how, Busy):
-                self.counts.busy[calls[ended.index].object] += 1
+                self.counts.busy[pairs[ended.index][0]] += 1
             return ended
 
-    def _done(self, calls: List[CallAt], answer: bytes) -> Optional[Done]:
-        """The operations of its calls, where it was committed."""
-        verb, *words = answer.decode("ascii", "replace").split(" ")
-        if verb != "done":
+    def _done(self, pairs: Pairs, answer: bytes, key: Optional[str]) -> Optional[Done]:
+        """The operations of its calls, where it was committed. Raises `OtherCalls` where the key is of other work."""
+        done = DONE.fullmatch(answer.decode("ascii", "replace"))
+        if done is None:
             return None
-        replies = [self._calls[x].replied(call, reply) for (x, call, _), reply in zip(calls, words)]
-        operations = tuple(operation for operation in replies if operation is not None)
-        if not len(operations) == len(calls) == len(words):
-            self._break(answer)
-        return Done(operations)
+        told = self.done_with(pairs, done[1].split())
+        if told is None:
+            if key is None:
+                self._break(answer)
+            raise OtherCalls(key)
+        return told
 
-    def _ended_at(self, calls: List[CallAt], answer: bytes) -> Ended:
+    def _ended_at(self, pairs: Pairs, answer: bytes, key: Optional[str]) -> Ended:
         """Which of its calls ended it, and how. Raises why it wasn't begun."""
+        refusal = refusal_of(key, answer)
+        if refusal is not None:
+            raise refusal
         verb, *words = answer.split(b" ")
         if len(words) + (verb == b"none") != 2:
             self._refuse(answer)
-        if not (words[0].isdigit() and int(words[0]) < len(calls)):
+        if not (words[0].isdigit() and int(words[0]) < len(pairs)):
             self._break(answer)
         return Ended(int(words[0]), self._how(answer, verb, words[-1]))
 

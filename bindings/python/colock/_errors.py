@@ -56,6 +56,59 @@ class NameTaken(Error, ValueError):
         return f"two objects have the name {self.name}"
 
 
+class BadKey(Error, ValueError):
+    """The key `key` of a transaction isn't 1 to 64 bytes of a-z, A-Z, 0-9, `_`, `:`, `-` and `.`. Nothing was asked."""
+
+    def __init__(self, key: str) -> None:
+        super().__init__(key)
+        self.key = key
+
+    def __str__(self) -> str:
+        return f"{self.key!r} is no key of a transaction"
+
+
+class KeyAborted(Error, ValueError):
+    """The transaction of the key `key` was aborted, and none will commit under it.
+
+    A transaction that was to commit under it is open as before.
+    """
+
+    def __init__(self, key: str) -> None:
+        super().__init__(key)
+        self.key = key
+
+    def __str__(self) -> str:
+        return f"the transaction of the key {self.key} was aborted"
+
+
+class KeyTaken(Error, ValueError):
+    """The file has another key where it would keep the key `key`, which happens by a chance of one in 2^62.
+
+    Nothing was done, and a transaction that was to commit under it is open as before: it may take another key.
+    """
+
+    def __init__(self, key: str) -> None:
+        super().__init__(key)
+        self.key = key
+
+    def __str__(self) -> str:
+        return f"the file has another key in the place of {self.key}"
+
+
+class OtherCalls(Error, ValueError):
+    """The key `key` is of other work than this attempt: what committed under it has replies that its calls can't have.
+
+    `Store.outcome` says which they are. Nothing was done.
+    """
+
+    def __init__(self, key: str) -> None:
+        super().__init__(key)
+        self.key = key
+
+    def __str__(self) -> str:
+        return f"other work than these calls committed under the key {self.key}"
+
+
 class NoCall(Error, LookupError):
     """No operation of the object's type has this call."""
 
@@ -150,7 +203,8 @@ class UnexpectedError(Error):
 class ConnectionLost(Error, ConnectionError):
     """The program that serves the store is gone, or didn't answer as it has to: `words` say what was seen.
 
-    The store isn't to be used any more, but for `close`. What was committed is in its file.
+    The store isn't to be used any more, but for `close`. What was committed is in its file. Where the file is open again,
+    what was asked under a key may be asked once more, and isn't done twice; or `Store.outcome` says what became of it.
     """
 
     def __init__(self, words: str) -> None:
@@ -162,7 +216,8 @@ class OutcomeUnknown(Error, ConnectionError):
     """A commit was in flight when the program was lost: it may be durable or not.
 
     `id` names the transaction: `Store.committed` of a later opening says what became of it. It is empty of an attempt,
-    whose number nobody told.
+    whose number nobody told. Of what was asked under a key `Store.outcome` of a later opening says it; or the same is asked
+    there again under the key, and isn't done twice.
     """
 
     def __init__(self, id: str) -> None:

@@ -10,6 +10,7 @@ from ._backend import NOBODY, Backend, CallAt, Finish, Pairs
 from ._errors import Error, IllegalError, NotFollowedError, NotOpenError, done, error_of
 from ._events import Event, event_of, words_of
 from ._library import functions, quick, unsigned
+from ._keys import Committed, Keys, Outcome
 from ._limits import Limits
 from ._objects import Given, check_names
 from ._outcomes import outcome_among
@@ -25,11 +26,11 @@ _COMMIT, _ABORT, _ROLLBACK = (quick[name] for name in ("commit", "abort", "rollb
 _ATTEMPT_OP, _PEEK, _COMMITTED, _COMMIT_COUNT = (quick[name] for name in ("attempt_op", "peek", "committed", "commit_count"))
 _ILLEGAL = Illegal()
 # What the library may have done of which the client doesn't know yet.
-Half = Tuple[Optional["Transaction"], int, int]
+Half = Tuple[Optional["Transaction"], int, int, Optional[str]]
 # That a transaction was begun.
-_BEGINS: Half = (None, 0, 0)
-# What is no call's number.
-_NO_CALL = (1 << 64) - 1
+_BEGINS: Half = (None, 0, 0, None)
+# What is no call's number, and no kind of an outcome.
+_NO_CALL = _NO_KIND = (1 << 64) - 1
 
 
 class Memory(Backend):
@@ -49,8 +50,9 @@ class Memory(Backend):
         self._answer, self._number, self._commits = _library.Answer(), ctypes.c_uint64(), ctypes.c_uint64()
         # the number that was begun last
         self._begun = ctypes.c_uint64(NOBODY)
-        # a transaction that ends, and how many commits and aborts there are with it; or `_BEGINS`
+        # a transaction that ends, how many commits and aborts there are with it, and the key under which it commits; or `_BEGINS`
         self._half: Optional[Half] = None
+        self._keys = Keys()
         done(functions["store_open_with"](self._handle, events, opens, objects))
 
     # ---- transactions
@@ -168,14 +170,32 @@ class Memory(Backend):
         done(code)
         return None
 
-    def commit(self, t: "Transaction") -> Finish:
+    def commit(self, t: "Transaction", key: Optional[str] = None) -> Finish:
+        if key is not None:
+            return self._commit_under(t, key)
         if self._half is not None or self.gone:
             self.put_right()
         if t._life != self.life:
             raise NotOpenError(NotOpenError.__doc__)
         if not t._ended:
-            self._half = t, self.counts.commits + 1, self.counts.aborts
+            self._half = t, self.counts.commits + 1, self.counts.aborts, None
         return self._ended(_COMMIT(self._handle, t._worker, t._number))
+
+    def _commit_under(self, t: "Transaction", key: str) -> Finish:
+        """A commit under a key. It counts as one also where another one committed under it before."""
+        was_done = isinstance(self.outcome(key), Committed)
+        if was_done and not self.is_open(t._life, t._number):
+            self.counts.commits += 1
+            return None
+        self.check(t)
+        self._half = t, self.counts.commits + 1, self.counts.aborts, None if was_done else key
+        return self._ended((_ABORT if was_done else _COMMIT)(self._handle, t._worker, t._number))
+
+    def outcome(self, key: str) -> Outcome:
+        self.put_right()
+        # where it is closed this raises
+        self.moment()
+        return self._keys.outcome(key)
 
     def abort(self, t: "Transaction") -> Finish:
         if self._half is not None or self.gone:
@@ -183,7 +203,7 @@ class Memory(Backend):
         if t._life != self.life:
             raise NotOpenError(NotOpenError.__doc__)
         if not t._ended:
-            self._half = t, self.counts.commits, self.counts.aborts + 1
+            self._half = t, self.counts.commits, self.counts.aborts + 1, None
         return self._ended(_ABORT(self._handle, t._worker, t._number))
 
     def _ended(self, code: int) -> Finish:
@@ -198,9 +218,12 @@ class Memory(Backend):
 
     def _has_ended(self) -> None:
         """What follows from an end. It may be done twice."""
-        t, commits, aborts = self._half or _BEGINS
+        t, commits, aborts, key = self._half or _BEGINS
         if t is None:
             return
+        # before it counts as ended, and so never of one that had ended otherwise
+        if key is not None and not t._ended:
+            self._keys.keep(key, Committed(()))
         self.counts.commits, self.counts.aborts = commits, aborts
         t._ended = True
         self.ends += 1
@@ -208,17 +231,20 @@ class Memory(Backend):
         if not self.sleepers.is_empty():
             self.sleepers.ended(t._number, t._touched)
 
-    def attempt(self, pairs: Pairs, worker: int) -> Callable[[], Attempt]:
+    def attempt(self, pairs: Pairs, worker: int, key: Optional[str] = None) -> Callable[[], Attempt]:
         self.put_right()
+        before = None if key is None else self.told_before(self.outcome(key), pairs, key)
+        if before is not None:
+            self.counts.commits += 1
+            return partial(_told_after, before, False)
         count = len(pairs)
         numbers = ctypes.c_uint64 * count
         objects, calls = (ctypes.c_uint32 * count)(*(x for x, _ in pairs)), numbers(*(self._call_or_none(x, name) for x, name in pairs))
-        operations, outcome = numbers(), _library.Outcome()
+        operations, outcome = numbers(), _library.Outcome(_NO_KIND)
         self.sleepers.has_woken = False
-        # who sleeps may be free behind it
-        self.doing = self.sleepers.begin_anew
+        self.doing = partial(self._put_attempt_right, pairs, key, operations, outcome)
         code = _ATTEMPT_OP(self._handle, worker, objects, count, calls, count, operations, count, outcome)
-        told = None if code else self._came(pairs, list(operations), outcome)
+        told = None if code else self._came(pairs, key, operations, outcome)
         self.doing = None
         if told is None:
             raise error_of(code)
@@ -229,15 +255,29 @@ class Memory(Backend):
         call = self.call_of(x, name)
         return _NO_CALL if call is None else call
 
-    def _came(self, pairs: Pairs, operations: List[int], outcome: _library.Outcome) -> Attempt:
+    def _put_attempt_right(self, pairs: Pairs, key: Optional[str], operations: Iterable[int], outcome: _library.Outcome) -> None:
+        """An attempt was interrupted: who sleeps may be free behind it, and where it committed its key is kept."""
+        self.sleepers.begin_anew()
+        if not outcome.kind:
+            self._done(pairs, key, operations)
+
+    def _came(self, pairs: Pairs, key: Optional[str], operations: Iterable[int], outcome: _library.Outcome) -> Attempt:
         """What came of an attempt, which is counted. Whoever sleeps at an object that it changed may be free by now."""
         if outcome.kind:
             self.counts.aborts += 1
             return Ended(outcome.at, self._how(pairs[outcome.at][0], outcome))
+        told = self._done(pairs, key, operations)
         self.counts.commits += 1
         if self.sleepers.calls:
             self.sleepers.took_back(NOBODY, {x for x, _ in pairs})
-        return Done(tuple(self._replies[x][number] for (x, _), number in zip(pairs, operations)))
+        return told
+
+    def _done(self, pairs: Pairs, key: Optional[str], operations: Iterable[int]) -> Done:
+        """An attempt committed: its operations, of which the replies are kept under its key. It may be done twice."""
+        told = Done(tuple(self._replies[x][number] for (x, _), number in zip(pairs, operations)))
+        if key is not None:
+            self._keys.keep(key, Committed(tuple(operation.reply for operation in told.replies)))
+        return told
 
     def _how(self, x: int, outcome: _library.Outcome) -> Union[Busy, Illegal, Error]:
         """How a call at an object ended it."""

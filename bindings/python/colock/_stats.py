@@ -6,6 +6,7 @@ class Stats(NamedTuple):
     """What was counted of this client since it opened the store."""
 
     commits: int
+    """Commits and attempts that came through, those under a key that had committed before among them."""
     aborts: int
     """Aborts, those of victims and of epochs that ended among them."""
     busy: Tuple[int, ...]

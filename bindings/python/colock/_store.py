@@ -1,19 +1,19 @@
 """Stores."""
 import itertools
 import os
-import random
 import threading
 import time
 import weakref
 from functools import partial
 from types import TracebackType
-from typing import Callable, Iterable, List, Optional, Tuple, TypeVar, Union
+from typing import Callable, Iterable, List, Optional, Tuple, TypeVar, Union, cast, overload
 from typing import Type as Class
 
-from ._attempts import Attempt, Ended
+from ._attempts import Attempt, Done, Ended
 from ._backend import Asked, Backend, Finish, Pairs
-from ._errors import ConnectionLost, DeadlockError, OutcomeUnknown, Retryable, TimedOut
+from ._errors import ConnectionLost, KeyAborted, OutcomeUnknown, Retryable, TimedOut
 from ._events import Event
+from ._keys import Aborted, Committed, Outcome, Unknown, check_key
 from ._let_go import warn_of_store
 from ._library import unsigned
 from ._limits import Limits
@@ -32,12 +32,8 @@ Path = Union[str, "os.PathLike[str]"]
 # Calls, each of an object by its number or name, and the name of the call.
 CallsOf = Iterable[Tuple[ObjectRef, str]]
 
-# How long a victim waits for the end of whom it waited for, before it is tried again.
-SECONDS_FOR_BLOCKER = 10.0
 # How long a try waits for room, where too many transactions are open.
 SECONDS_FOR_ROOM = 10.0
-# How long a try waits at most for its next one.
-LONGEST_BACKOFF = 1.0
 # How long it waits for the next epoch, each time, and what is said where that doesn't come.
 SECONDS_OF_DRAIN = 0.01
 NO_EPOCH = "the epoch is full, or objects are added, and the next one doesn't begin"
@@ -188,7 +184,17 @@ class Store:
             self._backend.interrupted(error)
             raise
 
-    def retry(self, f: Callable[[Transaction], T], tries: int = 10, backoff: float = 0.001, worker: int = 0) -> T:
+    @overload
+    def retry(self, f: Callable[[Transaction], T], tries: int = 10, backoff: float = 0.001, worker: int = 0, *, key: None = None) -> T: ...
+
+    @overload
+    def retry(
+        self, f: Callable[[Transaction], T], tries: int = 10, backoff: float = 0.001, worker: int = 0, *, key: Optional[str]
+    ) -> Union[T, Committed]: ...
+
+    def retry(
+        self, f: Callable[[Transaction], T], tries: int = 10, backoff: float = 0.001, worker: int = 0, *, key: Optional[str] = None
+    ) -> Union[T, Committed]:
         """Runs a function in a transaction, commits it where the function hasn't ended it, and returns its value.
 
         **The function may run again**: at a `Retryable`, as `BusyError` and `DeadlockError` are, what it did is aborted
@@ -199,46 +205,55 @@ class Store:
         becomes the oldest in the end. Where too many transactions are open, a try waits for the end of one, 10 seconds
         at most. The last error is raised. Any other exception, `OutcomeUnknown` too, aborts what is open and is handed on.
 
+        With a `key` it is asked first what became of that. Where it committed before, the function isn't run, and `Committed` is
+        returned. Else it is committed under the key, as by `Transaction.commit`: of two threads with one key at once both may run
+        their functions and return the values, and one of the two is committed.
+
         Raises what the function and a commit raise, `ValueError` where `tries` is below 1, `backoff` negative or
-        it is used inside of `transact`, and what `begin` raises.
+        it is used inside of `transact`, what `begin` raises, and with a key `BadKey` or `KeyAborted`.
         """
         if tries < 1 or not backoff >= 0:
             raise ValueError(f"{tries} tries with a backoff of {backoff} seconds")
+        if key is not None:
+            check_key(key)
         who, age = unsigned("the worker", worker, 8), next(self._ages)
         self._check_no_turn()
-        t = Transaction(self, who, age)
+        before = None if key is None else self._committed_under(key)
+        return self._retried(Transaction(self, who, age), f, tries, backoff, key) if before is None else before
+
+    def _committed_under(self, key: str) -> Optional[Committed]:
+        """How a transaction committed under this key, if one did. Raises `KeyAborted`."""
+        told = self.outcome(key)
+        if isinstance(told, Aborted):
+            raise KeyAborted(key)
+        return told if isinstance(told, Committed) else None
+
+    def _retried(self, t: Transaction, f: Callable[[Transaction], T], tries: int, backoff: float, key: Optional[str]) -> T:
+        """The value of the function, in this transaction or in a later one of its age."""
         try:
             for behind in range(1, tries):
                 self._begin_in_room(t)
                 try:
-                    return self._run(t, f)
+                    return self._run(t, f, key)
                 except Retryable as error:
                     reason = error
-                self._pause(t, reason, behind, backoff)
-                t = Transaction(self, who, age)
+                self._waiting.before_next(t, reason, behind, backoff)
+                t = Transaction(self, t._worker, t._age)
             self._begin_in_room(t)
-            return self._run(t, f)
+            return self._run(t, f, key)
         except BaseException as error:
             self._give_up(t, error)
             raise
 
-    def _run(self, t: Transaction, f: Callable[[Transaction], T]) -> T:
+    def _run(self, t: Transaction, f: Callable[[Transaction], T], key: Optional[str]) -> T:
         """A try: the transaction has ended after it."""
         try:
             value = f(t)
-            t._commit_at_end()
+            t._commit_at_end(key)
             return value
         except BaseException:
             t._abort_quietly()
             raise
-
-    def _pause(self, t: Transaction, reason: Exception, behind: int, backoff: float) -> None:
-        """What comes between two tries, when this many are over."""
-        if isinstance(reason, DeadlockError):
-            # a victim that began at once would take again what it gave up, before the other one wakes
-            self._waiting.await_end(t._life, reason.blocker, SECONDS_FOR_BLOCKER)
-        else:
-            time.sleep(random.uniform(0, min(backoff * 2.0 ** min(behind - 1, 60), LONGEST_BACKOFF)))
 
     def _check_no_turn(self) -> None:
         """Raises `ValueError` inside of `transact`, where only its transaction may be used."""
@@ -287,7 +302,7 @@ class Store:
             t._abort_quietly()
             raise
 
-    def attempt(self, calls: CallsOf, wait: Optional[float] = None, worker: int = 0) -> Attempt:
+    def attempt(self, calls: CallsOf, wait: Optional[float] = None, worker: int = 0, *, key: Optional[str] = None) -> Attempt:
         """A whole transaction: it begins, makes these calls in their order, and commits.
 
         `Done` has their operations. At the first call that isn't executed it aborts, and is `Ended`, with the place of that call
@@ -297,20 +312,27 @@ class Store:
         With `wait`, 0 or more seconds, it isn't ended by `Busy`: it is tried again when the transaction that was in the way has
         ended, and each second. It holds nothing while it sleeps, and has no turn among those that wait.
 
-        `calls` are 1 or more pairs of an object and the name of a call, in a file at most 64. A call that isn't there ends it by
+        With a `key`, as of `Transaction.commit`, it is done once: where it committed before, of a file in whichever life, `Done`
+        has the operations of these calls by the replies of the first time. An attempt that is `Ended` leaves the key free.
+
+        `calls` are 1 or more pairs of an object and the name of a call, in a file at most 64; under a key there may be none, and
+        then a transaction that does nothing is committed. A call that isn't there ends it by
         `NoObject` or `NoCall`. Raises `NoObject` of a name that no object has, `TooManyOpenError`, `HistoryFullError`, `NoMemory`,
         `ClosedError`, and `ValueError` of no calls, a negative `wait` or inside of `transact`; with `wait` `TimedOut`. Nothing has
         changed then. Of a store in a file also `ConnectionLost`, `OutcomeUnknown`
         where the program was lost before it answered, `TimedOut` where the next epoch doesn't come, and `InMemoryOnly` of a
-        worker other than 0. Where a signal handler raises in it, it may have committed.
+        worker other than 0. With a key also `BadKey`, `KeyAborted`, `KeyTaken`, and `OtherCalls` where the key is of other work.
+        Where a signal handler raises in it, it may have committed: under a key it may be asked again.
         """
         who, deadline = unsigned("the worker", worker, 8), None if wait is None else deadline_of(wait)
+        if key is not None:
+            check_key(key)
         pairs = self._pairs(calls)
-        if not pairs:
-            raise ValueError("an attempt has 1 call or more")
         self._check_no_turn()
+        if not pairs:
+            return self._nothing_done(who, key)
         while True:
-            told = self._attempted(pairs, who)
+            told = self._attempted(pairs, who, key)
             if deadline is None or not (isinstance(told, Ended) and isinstance(told.how, Busy)):
                 return told
             try:
@@ -319,12 +341,24 @@ class Store:
                 self._backend.interrupted(error)
                 raise
 
-    def _attempted(self, pairs: Pairs, worker: int) -> Attempt:
+    def _nothing_done(self, worker: int, key: Optional[str]) -> Attempt:
+        """What comes of an attempt of no calls: a transaction that does nothing is committed under its key."""
+        if key is None:
+            raise ValueError("an attempt has 1 call or more, or a key")
+        before = self.retry(lambda t: None, worker=worker, key=key)
+        try:
+            # another thread may have done other work under the key meanwhile
+            told = self.outcome(key) if before is None else before
+        except ConnectionLost as lost:
+            raise OutcomeUnknown("") from lost
+        return self._backend.told_before(told, [], key) or Done(())
+
+    def _attempted(self, pairs: Pairs, worker: int, key: Optional[str]) -> Attempt:
         """What comes of an attempt, where an epoch is full of one in the next."""
         deadline = time.monotonic() + self._limit
         while True:
             try:
-                told: Optional[Attempt] = self._backend.run(lambda: self._backend.attempt(pairs, worker))()
+                told: Optional[Attempt] = self._backend.run(lambda: self._backend.attempt(pairs, worker, key))()
             except BaseException as error:
                 self._backend.interrupted(error)
                 raise
@@ -349,6 +383,17 @@ class Store:
         life, number = read_id(id)
         self._check_no_turn()
         return self._told(lambda: self._backend.committed(life, number))
+
+    def outcome(self, key: str) -> Union[Committed, Aborted, Unknown]:
+        """What became of a key: `Committed` with the replies of its attempt, `Aborted`, or `Unknown` where it is free.
+
+        It is durable, and once it is one of the first two it stays so; but a store in memory keeps the last 1,000,000 of them.
+        While a commit under the key is in flight in another thread it may still be `Unknown`. Raises `BadKey`, `ClosedError` or
+        `ConnectionLost`.
+        """
+        check_key(key)
+        self._check_no_turn()
+        return cast(Outcome, self._told(lambda: self._backend.outcome(key)))
 
     # ---- what is committed
 

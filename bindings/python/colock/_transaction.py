@@ -5,6 +5,7 @@ from typing import Type as Class
 
 from ._backend import Asked, Finish
 from ._errors import DeadlockError, Error
+from ._keys import check_key
 from ._library import unsigned
 from ._objects import ObjectRef
 from ._replies import Busy, Operation, Reply
@@ -15,7 +16,7 @@ if TYPE_CHECKING:
 
 
 class Transaction:
-    """A transaction. A `with` commits it, or aborts it where an exception leaves it.
+    """A transaction. A `with` commits it, without a key, or aborts it where an exception leaves it.
 
     Where it ended in the `with` already, nothing more is done; but where a deadlock ended it and nothing was said of
     that, `DeadlockError` is raised after the `with`, so that nobody takes it for committed. `Store.begin` makes it.
@@ -155,21 +156,29 @@ class Transaction:
         count = unsigned("the number of operations", operations, 64)
         self._do(lambda: self._store._backend.rollback(self, count))
 
-    def commit(self) -> None:
+    def commit(self, *, key: Optional[str] = None) -> None:
         """Commits it. Of a store in a file it is durable after this.
 
-        Where a signal handler raises in it, `Store.committed` says what became of it, unless it is still open. Raises
+        A `key`, of 1 to 64 bytes of a-z, A-Z, 0-9, `_`, `:`, `-` and `.`, is of one transaction of the store at most. Where one has
+        committed under it before, of a file in whichever life, this returns too, also where this transaction has ended; where
+        it is open it is aborted. So whoever wasn't answered does the work again under the same key. Where two threads commit
+        under one key at once, one of the two is committed, and neither learns which.
+
+        Where a signal handler raises in it, `Store.committed` says what became of it, unless it is still open, and
+        `Store.outcome` what became of the key. Raises `BadKey`, and `KeyAborted` or `KeyTaken`, after which it is open as before;
         `NotOpenError` or `ClosedError`; of a store in a file `EpochEndedError`, `ConnectionLost` where it can't be committed, or
         `OutcomeUnknown` where the program was lost before it answered.
         """
+        if key is not None:
+            check_key(key)
         backend = self._store._backend
         try:
             with backend.lock:
-                finish = backend.commit(self)
+                finish = backend.commit(self, key)
             if finish is not None:
                 finish()
         except BaseException as error:
-            backend.interrupted(error)
+            backend.interrupted(error, None if key is None else self)
             raise
 
     def abort(self) -> None:
@@ -196,12 +205,12 @@ class Transaction:
         except Error:
             pass  # it has ended, or nobody is there who could abort it
 
-    def _commit_at_end(self) -> None:
+    def _commit_at_end(self, key: Optional[str] = None) -> None:
         """Commits it where it is open. Raises the `DeadlockError` that ended it, if one did."""
         if self._deadlock is not None:
             raise self._deadlock
         if not self._ended:
-            self.commit()
+            self.commit(key=key)
 
     def __enter__(self) -> "Transaction":
         return self

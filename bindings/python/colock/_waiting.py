@@ -1,4 +1,5 @@
 """Calls that wait, at a store of either backend."""
+import random
 import time
 from typing import TYPE_CHECKING, Callable, NamedTuple, NoReturn, Optional, Union, cast
 
@@ -14,6 +15,10 @@ if TYPE_CHECKING:
 
 # How long a sleeper looks at nothing. Nobody is rung where a transaction is let go.
 SECONDS_OF_NAP = 1.0
+# How long a victim waits for the end of whom it waited for, before it is tried again.
+SECONDS_FOR_BLOCKER = 10.0
+# How long a try waits at most for its next one.
+LONGEST_BACKOFF = 1.0
 
 
 class Ahead(NamedTuple):
@@ -180,6 +185,14 @@ class Waiting:
     def await_end(self, life: int, number: int, seconds: float) -> None:
         """Waits until a transaction has ended, this many seconds at most. The lock isn't held."""
         self._watch(number, seconds, lambda: self._backend.is_open(life, number))
+
+    def before_next(self, t: "Transaction", reason: Exception, behind: int, backoff: float) -> None:
+        """What comes between two tries, when this many are over. The lock isn't held."""
+        if isinstance(reason, DeadlockError):
+            # a victim that began at once would take again what it gave up, before the other one wakes
+            self.await_end(t._life, reason.blocker, SECONDS_FOR_BLOCKER)
+        else:
+            time.sleep(random.uniform(0, min(backoff * 2.0 ** min(behind - 1, 60), LONGEST_BACKOFF)))
 
     def out_of_the_way(self, blocker: int, deadline: float) -> None:
         """Sleeps until the transaction that was in the way of an attempt has ended, or for a nap. The lock isn't held.

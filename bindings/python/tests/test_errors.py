@@ -13,24 +13,24 @@ from colock import _errors, _old_names
 
 # What each error is, beside an `Error`.
 KINDS = {
-    "BadMax": ValueError, "BadName": ValueError, "BadParameter": ValueError, "BadRollback": ValueError, "BadText": ValueError,
+    "BadKey": ValueError, "BadMax": ValueError, "BadName": ValueError, "BadParameter": ValueError, "BadRollback": ValueError, "BadText": ValueError,
     "BusyError": colock.Retryable, "CannotExtend": OSError, "CannotOpen": OSError, "Changes": ValueError,
     "ClosedError": None, "ConnectionLost": ConnectionError,
     "DeadlockError": colock.Retryable, "EpochEndedError": colock.Retryable, "Error": None, "Forgotten": LookupError,
     "HistoryFullError": None, "IllegalError": None, "InMemoryOnly": NotImplementedError, "InUse": OSError,
-    "NameTaken": ValueError, "NeedsEscrow": ValueError, "NoCall": LookupError, "NoMemory": MemoryError, "NoObject": LookupError,
+    "KeyAborted": ValueError, "KeyTaken": ValueError, "NameTaken": ValueError, "NeedsEscrow": ValueError, "NoCall": LookupError, "NoMemory": MemoryError, "NoObject": LookupError,
     "NoObjects": ValueError, "NoOperation": LookupError, "NoState": LookupError, "NotFollowedError": None,
-    "NotMadeError": None, "NotOpenError": None, "OtherObjects": ValueError, "OutcomeUnknown": ConnectionError,
+    "NotMadeError": None, "NotOpenError": None, "OtherCalls": ValueError, "OtherObjects": ValueError, "OutcomeUnknown": ConnectionError,
     "Refused": ValueError, "Retryable": None, "StillOpenError": None, "TimedOut": TimeoutError, "TooLarge": ValueError,
     "TooManyObjects": ValueError, "TooManyOpenError": None, "TooManyStates": ValueError, "UnexpectedError": None,
 }
 # One of each error that says more than words.
 OF_PARTS = [
-    colock.BadName("A 1"), colock.BadText(3, colock.FaultKind.BadNumber), colock.BusyError(5), colock.CannotExtend("a.type: cannot read"), colock.CannotOpen("a.db: no such file"),
+    colock.BadKey("a/b"), colock.BadName("A 1"), colock.BadText(3, colock.FaultKind.BadNumber), colock.BusyError(5), colock.CannotExtend("a.type: cannot read"), colock.CannotOpen("a.db: no such file"),
     colock.ConnectionLost("it is gone"), colock.DeadlockError(5), colock.IllegalError.at(2), colock.InUse("a.db: in use"),
-    colock.NameTaken("A1"),
+    colock.KeyAborted("a"), colock.KeyTaken("a"), colock.NameTaken("A1"),
     colock.NoObject.named("A1"), colock.NotFollowedError(7),
-    colock.OutcomeUnknown("5.1"), colock.Refused("NotClosed", (0, 1)), colock.TooManyStates("inc", "ok"),
+    colock.OtherCalls("a"), colock.OutcomeUnknown("5.1"), colock.Refused("NotClosed", (0, 1)), colock.TooManyStates("inc", "ok"),
     colock.UnexpectedError("take:1", "short"),
 ]
 
