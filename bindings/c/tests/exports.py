@@ -1,13 +1,13 @@
 #!/usr/bin/env python3
 """exports.py [--plant]: whether the header, and the tables of Rust and of Python, are those of the library.
 
-What the library exports is read in crates/colock_c/src: each `extern "C"` function and each `repr(C)` struct, whose
-sizes and offsets follow from it. Compared with the header are the names and parameters of each call, the fields of each
-struct with their sizes and offsets as cc has them, the codes and their words, the kinds of faults and of recovery, the
-checker's refusals, the version, and the names that libcolock.so and libcolock.a give. (bindings/declare makes the
-declarations of Rust and Python of the header.) Compared with Rust and Python are the kinds, the refusals, and what a
-code raises. A line for each difference, and status 1 where there is one. With --plant faults are planted in what is
-read, each of which has to be found.
+What the library exports is read in crates/colock_c/src and crates/library_calls/src: each `extern "C"` function and
+each `repr(C)` struct, whose sizes and offsets follow from it. Compared with the header are the names and parameters of
+each call, the fields of each struct with their sizes and offsets as cc has them, the codes and their words, the kinds of
+faults and of recovery, the checker's refusals, the version, and the names that libcolock.so and libcolock.a give.
+(bindings/declare makes the declarations of Rust and Python of the header.) Compared with Rust and Python are the kinds,
+the refusals, and what a code raises. A line for each difference, and status 1 where there is one. With --plant faults
+are planted in what is read, each of which has to be found.
 """
 import functools
 import glob
@@ -19,6 +19,7 @@ import tempfile
 
 BINDINGS = os.path.join(os.path.dirname(os.path.abspath(__file__)), "..", "..")
 CRATE = os.environ.get("COLOCK_CRATE", os.path.join(BINDINGS, "..", "crates", "colock_c"))
+CALLS = os.path.join(CRATE, "..", "library_calls")
 FAULTS = os.path.join(BINDINGS, "..", "crates", "line_text", "src", "fault.rt")
 BUILD = os.path.join(BINDINGS, "c", "build")
 PATHS = {
@@ -49,9 +50,9 @@ def pieces(text):
 # ---- the library
 
 def source():
-    """The text of the crate, without comments."""
+    """The text of the crate, and of the one of what its exports do, without comments."""
     texts = []
-    for path in sorted(glob.glob(os.path.join(CRATE, "src", "*.rt"))):
+    for path in sorted(path for crate in (CRATE, CALLS) for path in glob.glob(os.path.join(crate, "src", "*.rt"))):
         with open(path, encoding="utf-8") as file:
             texts.append(file.read())
     return without_comments("\n".join(texts))

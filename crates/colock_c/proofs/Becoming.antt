@@ -1,13 +1,13 @@
 -- What becomes of the store that a handle holds.
-use Rattle.std.proofs.Common.{◌≡◌, ℕ, Option, Some, None, refl, sym, ap, subst, ◌∙◌}
+use Rattle.std.proofs.Common.{◌≡◌, ℕ, Option, Some, None, sym, subst}
 use Rattle.std.proofs.lemmas.Option.{none-some, same_Some}
 use Rattle.store_laws.specs.Stored.{Stored}
+use Rattle.library_calls.specs.Codes.{number}
+use Rattle.library_calls.specs.Holding.{store_at}
+use Rattle.library_calls.specs.declared.code.Code.TheVariants.{NotHeld}
+use Rattle.library_calls.specs.declared.held.Held.{Held}
+use Rattle.library_calls.specs.declared.held.Held.TheVariants.{OfType, OfObjects, OfStore}
 use Rattle.colock_c.specs.Calls.{Becomes}
-use Rattle.colock_c.specs.Codes.{number}
-use Rattle.colock_c.specs.Holding.{store_at}
-use Rattle.colock_c.specs.declared.code.Code.TheVariants.{NotHeld}
-use Rattle.colock_c.specs.declared.held.Held.{Held}
-use Rattle.colock_c.specs.declared.held.Held.TheVariants.{OfType, OfObjects, OfStore}
 
 -- it becomes such a store
 pub becomes : (IsSuch : Stored → Stored → Type 0) (held new : Option Held) (n : ℕ) (s later : Stored)

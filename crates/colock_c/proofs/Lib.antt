@@ -1,14 +1,3 @@
 pub mod Values
-pub mod ReadAgain
-pub mod Numbered
-pub mod Told
-pub mod Limits
-pub mod Rooms
-pub mod Followed
 pub mod Typings
-pub mod Narrowed
 pub mod Becoming
-pub mod AttemptRooms
-pub mod NumberedAttempts
-pub mod Attempted
-pub mod Snapshots

@@ -8,12 +8,12 @@ use Rattle.declared_types.specs.declared.type_file.TypeFile.{TypeFile}
 use Rattle.number_types.specs.Number.{Number}
 use Rattle.declared_types.specs.Declarations.{number_file}
 use Rattle.declared_types.specs.declared.declared_type.Declaration.TheVariants.{Table, Number as Numbers}
-use Rattle.colock_c.specs.Codes.{number}
+use Rattle.library_calls.specs.Codes.{number}
+use Rattle.library_calls.specs.declared.code.Code.{Code}
+use Rattle.library_calls.specs.declared.code.Code.TheVariants.{NoMemory}
+use Rattle.library_calls.specs.declared.held.Held.{Held}
+use Rattle.library_calls.specs.declared.words.ColockFault.{ColockFault}
 use Rattle.colock_c.specs.Types.{IsFileFor, MakesType, IsNotFor, accepted, not_accepted, no_file, memory_refused}
-use Rattle.colock_c.specs.declared.code.Code.{Code}
-use Rattle.colock_c.specs.declared.code.Code.TheVariants.{NoMemory}
-use Rattle.colock_c.specs.declared.held.Held.{Held}
-use Rattle.colock_c.specs.declared.words.ColockFault.{ColockFault}
 
 -- ---- files
 

@@ -3,15 +3,14 @@
 ghost use Rattle.std.specs.Prelude.{◌≡◌, [], List, IsSome, None, Some};
 ghost use Rattle.object_trait.specs.Meaning.{Meaning};
 ghost use Rattle.store_laws.specs.Stored.{Stored};
-ghost use Rattle.colock_c.specs.Codes.{number};
-ghost use Rattle.colock_c.specs.Epochs.{IsExtension, IsRenewal};
-ghost use Rattle.colock_c.specs.Holding.{objects_at, store_at};
+ghost use Rattle.library_calls.specs.Codes.{number};
+ghost use Rattle.library_calls.specs.Epochs.{IsExtension, IsRenewal};
+ghost use Rattle.library_calls.specs.Holding.{objects_at, store_at};
 
-use crate::code::Code;
-use crate::held::Held;
 use crate::slot::Slot;
+use library_calls::Code;
+use library_calls::renewals::{extend, renew};
 use std::alloc::Global;
-use std::mem;
 
 /// Begins an epoch: a store of the same types at the states that were kept, with no event yet and the same
 /// limit. The events of the one before are let go. `NotHeld`, `StillOpen` or `NoMemory`, and the store is as
@@ -27,16 +26,6 @@ pub extern "C" fn colock_renew(alloc: Global, slot: &mut Slot) -> u32
     let code = renew(alloc, &mut held);
     slot.put(held);
     code.number()
-}
-
-/// A store that begins anew, in the place of the one that there was.
-fn renew(alloc: Global, held: &mut Held) -> Code
-    ensures renews { (s : Stored) → store_at (Some held.old) ≡ Some s → IsRenewal s (number result) (Some held.new) }
-    ensures no_store { store_at (Some held.old) ≡ None → (number result ≡ number Code.NotHeld) × (held.new ≡ held.old) }
-{
-    let (now, code) = mem::replace(held, Held::OfObjects(Vec::new(alloc))).renewed(alloc);
-    *held = now;
-    code
 }
 
 /// Begins an epoch with more objects, which come after those that there are: those of a store that was begun and
@@ -60,23 +49,6 @@ pub extern "C" fn colock_store_extend(alloc: Global, slot: &mut Slot, added: &mu
     added.put(objects);
     slot.put(held);
     code.number()
-}
-
-/// A store that begins anew with more objects, in the place of the one that there was.
-fn extend(alloc: Global, held: &mut Held, added: &mut Held) -> Code
-    ensures extends { (s : Stored) (ms : List Meaning) → store_at (Some held.old) ≡ Some s → objects_at (Some added.old) ≡ Some ms → IsExtension s ms (number result) (Some held.new) × (objects_at (Some added.new) ≡ Some []) }
-    ensures no_store { store_at (Some held.old) ≡ None → (number result ≡ number Code.NotHeld) × (held.new ≡ held.old) × (added.new ≡ added.old) }
-    ensures no_objects { objects_at (Some added.old) ≡ None → (number result ≡ number Code.NotHeld) × (held.new ≡ held.old) × (added.new ≡ added.old) }
-{
-    if !held.is_store() {
-        return Code::NotHeld;
-    }
-    let Some(objects) = added.take_objects(alloc) else {
-        return Code::NotHeld;
-    };
-    let (now, code) = mem::replace(held, Held::OfObjects(Vec::new(alloc))).extended(alloc, objects);
-    *held = now;
-    code
 }
 
 /// Ends what the handle holds: a store aborts what is open. It may be used again. `NotHeld` where it

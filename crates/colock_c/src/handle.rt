@@ -2,11 +2,11 @@
 
 ghost use Rattle.std.specs.Prelude.{◌≡◌, Option, Some, None};
 ghost use Rattle.std.specs.Coded.{coded_option};
-ghost use Rattle.colock_c.specs.declared.held.Held.{Held};
+ghost use Rattle.library_calls.specs.declared.held.Held.{Held};
 ghost use Rattle.colock_c.specs.Owned.{handle_owns, held_code};
 
-use crate::held::Held;
 use crate::loose_box::Loose;
+use library_calls::Held;
 use std::alloc::Global;
 use std::marker::Model;
 

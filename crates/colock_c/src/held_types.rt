@@ -1,22 +1,20 @@
 //! What is put behind a handle that holds nothing: a type as it was declared, a number in escrow alone.
 
-ghost use Rattle.std.specs.Prelude.{◌≡◌, ◌⊎◌, Some, None, IfErr, IfOk};
+ghost use Rattle.std.specs.Prelude.{◌≡◌, ◌⊎◌, Some, None};
 ghost use Rattle.declared_types.specs.Declarations.{number_file};
 ghost use Rattle.declared_types.specs.declared.declared_type.Declaration.{Declaration as AnyDeclaration};
-ghost use Rattle.colock_c.specs.Codes.{number};
-ghost use Rattle.colock_c.specs.Types.{IsFileFor, MakesType, IsNotFor, IsFileRefused, IsCheckedType};
-ghost use Rattle.colock_c.specs.Words.{refusal_words};
-ghost use Rattle.colock_c.specs.declared.words.ColockFault.{ColockFault as FaultWords};
+ghost use Rattle.library_calls.specs.Codes.{number};
+ghost use Rattle.library_calls.specs.declared.words.ColockFault.{ColockFault as FaultWords};
+ghost use Rattle.colock_c.specs.Types.{IsFileFor, MakesType, IsNotFor};
 
-use crate::code::Code;
-use crate::held::Held;
 use crate::slot::Slot;
-use crate::words::{ColockFault, refusal_words};
 use declared_types::{Declaration, DeclaredType, TypeFile};
+use library_calls::checked_types::checked_type;
+use library_calls::{Code, ColockFault, Held};
 use number_types::NumberFile;
 use std::alloc::Global;
 use std::sync::Arc;
-use table_checker::{CheckedType, Kind, check, check_number};
+use table_checker::{Kind, check_number};
 
 /// Puts something behind a handle that holds nothing.
 pub(crate) fn hold(alloc: Global, slot: &mut Slot, held: Held) -> Code
@@ -60,32 +58,6 @@ pub(crate) fn hold_number(alloc: Global, slot: &mut Slot, file: NumberFile) -> C
     match Arc::new(alloc, checked) {
         Ok(checked) => hold(alloc, slot, Held::OfType(checked)),
         Err(_) => Code::NoMemory,
-    }
-}
-
-/// The type of a file, where the checker accepts it for a kind.
-///
-/// # Errors
-///
-/// `Refused` and the first reason, or `NoMemory`.
-fn checked_type(
-    alloc: Global,
-    kind: Kind,
-    file: TypeFile,
-    fault: &mut ColockFault,
-) -> Result<Arc<CheckedType>, Code>
-    ensures accepted { IfOk result (λ a. IsCheckedType kind file a.value × (fault.new ≡ fault.old)) }
-    ensures refused { IfErr result (λ code. ((code ≡ Code.NoMemory) × (fault.new ≡ fault.old)) ⊎ IsFileRefused kind file (number code) fault.new) }
-{
-    match check(file, kind) {
-        Ok(checked) => match Arc::new(alloc, checked) {
-            Ok(shared) => Ok(shared),
-            Err(_) => Err(Code::NoMemory),
-        },
-        Err((_file, why)) => {
-            *fault = refusal_words(why);
-            Err(Code::Refused)
-        }
     }
 }
 

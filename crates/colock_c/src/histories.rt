@@ -3,15 +3,13 @@
 //! Each answers `NotHeld` where the handle holds no store.
 
 ghost use Rattle.std.specs.Prelude.{◌≡◌, ◌≢◌, Some, None};
-ghost use Rattle.colock_c.specs.Codes.{number};
+ghost use Rattle.library_calls.specs.Codes.{number};
+ghost use Rattle.library_calls.specs.Holding.{store_at};
 ghost use Rattle.colock_c.specs.Histories.{Copies, CountsEvents, FollowsWords, Forgets};
-ghost use Rattle.colock_c.specs.Holding.{store_at};
 
-use crate::code::Code;
-use crate::event_rooms;
-use crate::event_words::ColockEvent;
-use crate::made_events::follow_words;
 use crate::slot::Slot;
+use library_calls::made_events::follow_words;
+use library_calls::{Code, ColockEvent, event_rooms};
 use std::alloc::Global;
 
 /// Copies the events from place `from` on into the room, as many as there are and as it has places for;

@@ -2,18 +2,18 @@
 
 ghost use Rattle.std.specs.Prelude.{◌≡◌, IsSome, None, Some, MatchResult};
 ghost use Rattle.type_table.specs.declared.kind.Kind.{Kind as AnyKind};
-ghost use Rattle.colock_c.specs.Codes.{number};
-ghost use Rattle.colock_c.specs.Families.{HasNoNumber, IsOfNumber};
-ghost use Rattle.colock_c.specs.Types.{HasNoFile, IsDeclaredFile, MakesType, IsNoTypeFile, IsTabledOf};
-ghost use Rattle.colock_c.specs.Words.{kind_by_number};
+ghost use Rattle.library_calls.specs.Codes.{number};
+ghost use Rattle.library_calls.specs.Types.{IsNoTypeFile, IsTabledOf};
+ghost use Rattle.library_calls.specs.Words.{kind_by_number};
+ghost use Rattle.colock_c.specs.NumberTypes.{HasNoNumber, IsOfNumber};
+ghost use Rattle.colock_c.specs.Types.{HasNoFile, IsDeclaredFile, MakesType};
 
-use crate::code::Code;
-use crate::families::number_of;
 use crate::held_types::{hold_declared, hold_type};
 use crate::slot::Slot;
-use crate::texts::{declared_of, tabled};
-use crate::words::{ColockFault, kind_at};
 use declared_types::TypeFile;
+use library_calls::families::number_of;
+use library_calls::texts::{declared_of, tabled};
+use library_calls::{Code, ColockFault, kind_at};
 use std::alloc::Global;
 use table_checker::Kind;
 

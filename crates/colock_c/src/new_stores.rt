@@ -3,16 +3,14 @@
 ghost use Rattle.std.specs.Prelude.{◌≡◌, ◌⊎◌, [], List, IsSome, None, Some};
 ghost use Rattle.table_checker.specs.Checked.{Checked};
 ghost use Rattle.object_trait.specs.Meaning.{Meaning};
-ghost use Rattle.colock_c.specs.Codes.{number};
-ghost use Rattle.colock_c.specs.Holding.{objects_at, type_at};
+ghost use Rattle.library_calls.specs.Codes.{number};
+ghost use Rattle.library_calls.specs.Holding.{objects_at, type_at};
 ghost use Rattle.store_limits.specs.Standard.{standard_with};
-ghost use Rattle.colock_c.specs.Making.{AddsObject, MakesStore, limits_of};
+ghost use Rattle.library_calls.specs.Making.{AddsObject, MakesStore, limits_of};
 
-use crate::code::Code;
-use crate::held::Held;
 use crate::held_types::hold;
 use crate::slot::Slot;
-use crate::store_objects;
+use library_calls::{Code, Held, store_objects};
 use std::alloc::Global;
 use store_limits::Limits;
 

@@ -4,14 +4,12 @@
 //! the store was made or began anew. All but `Done` leave what the pointers point at.
 
 ghost use Rattle.std.specs.Prelude.{◌≡◌, ◌≢◌, None};
-ghost use Rattle.colock_c.specs.Codes.{number};
-ghost use Rattle.colock_c.specs.Holding.{store_at};
+ghost use Rattle.library_calls.specs.Codes.{number};
+ghost use Rattle.library_calls.specs.Holding.{store_at};
 ghost use Rattle.colock_c.specs.Reads.{CountsCommits, Peeks, TakesSnapshot, TellsCommitted};
 
-use crate::code::Code;
 use crate::slot::Slot;
-use crate::store_reads;
-use crate::words::ColockAnswer;
+use library_calls::{Code, ColockAnswer, store_reads};
 use std::alloc::Global;
 
 /// What the call with this name at object x is answered to a transaction that only reads committed states: its first

@@ -3,14 +3,13 @@
 //! Each answers `NotHeld` where the handle holds no type, and writes only where it answers `Done`.
 
 ghost use Rattle.std.specs.Prelude.{◌≡◌, ◌≢◌, Some, None};
-ghost use Rattle.colock_c.specs.Codes.{number};
-ghost use Rattle.colock_c.specs.Holding.{type_at};
+ghost use Rattle.library_calls.specs.Codes.{number};
+ghost use Rattle.library_calls.specs.Holding.{type_at};
 ghost use Rattle.colock_c.specs.Named.{IsShaped, TellsStep, NamesCall, NamesReply, NamesType, TellsConflict};
 
-use crate::code::Code;
 use crate::slot::Slot;
-use crate::type_parts::{conflict, declared_by, put_call, put_name, put_reply, step};
-use crate::words::{ColockShape, shape_of};
+use library_calls::type_parts::{conflict, declared_by, put_call, put_name, put_reply, step};
+use library_calls::{Code, ColockShape, shape_of};
 use std::alloc::Global;
 
 /// The type at once: its number of states, the initial one, its number of operations, and its kind.

@@ -1,11 +1,11 @@
 //! Where C keeps a handle, and whether it holds anything.
 
 ghost use Rattle.std.specs.Prelude.{◌≡◌, ◌↔◌, IsTrue, IsSome, Some, None, MatchOption};
-ghost use Rattle.colock_c.specs.Holding.{store_at, type_at};
+ghost use Rattle.library_calls.specs.Holding.{store_at, type_at};
 
 use crate::handle::Handle;
-use crate::held::Held;
 use crate::loose_box::Loose;
+use library_calls::Held;
 use std::alloc::Global;
 use std::mem;
 

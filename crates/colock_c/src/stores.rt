@@ -6,19 +6,14 @@
 
 ghost use Rattle.std.specs.Prelude.{◌≡◌, ◌≢◌, Some, None};
 ghost use Rattle.serial_order.specs.declared.command.Command.TheVariants as command;
-ghost use Rattle.colock_c.specs.Calls.{AbortsAll, CountsOpen, DoesCommand, DoesNumbered, Ends, IsNumbered, TellsAnswer, IsToldOf, KeepsState, Numbers};
-ghost use Rattle.colock_c.specs.Attempts.{AttemptsCalls};
-ghost use Rattle.colock_c.specs.Codes.{number};
-ghost use Rattle.colock_c.specs.Foreseen.{Foresees, ForeseesAt};
-ghost use Rattle.colock_c.specs.Holding.{store_at};
-ghost use Rattle.colock_c.specs.NumberedAttempts.{AttemptsNumbers};
+ghost use Rattle.library_calls.specs.Codes.{number};
+ghost use Rattle.library_calls.specs.Holding.{store_at};
+ghost use Rattle.colock_c.specs.Calls.{AbortsAll, AttemptsCalls, AttemptsNumbers, CountsOpen, DoesCommand, DoesNumbered, Ends, Foresees, ForeseesAt, IsNumbered, IsToldOf, KeepsState, Numbers, TellsAnswer};
 
-use crate::attempt_calls::attempt_calls;
-use crate::attempt_numbers::attempt_numbers;
-use crate::code::Code;
 use crate::slot::Slot;
-use crate::words::{ColockAnswer, ColockOutcome};
-use crate::{call_numbers, store_calls};
+use library_calls::attempt_calls::attempt_calls;
+use library_calls::attempt_numbers::attempt_numbers;
+use library_calls::{Code, ColockAnswer, ColockOutcome, call_numbers, store_calls};
 use std::alloc::Global;
 
 /// Begins a transaction, as a worker, and gives its number: `TooManyOpen`, `HistoryFull` or `NoMemory`.

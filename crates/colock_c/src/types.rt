@@ -16,18 +16,19 @@ ghost use Rattle.table_families.specs.Queue.{queue, QueueFits};
 ghost use Rattle.table_families.specs.Seats.{seats, AreSeats, SeatsFit};
 ghost use Rattle.table_families.specs.Stock.{stock, StockFits};
 ghost use Rattle.type_table.specs.declared.kind.Kind.{Kind};
-ghost use Rattle.colock_c.specs.Codes.{number};
-ghost use Rattle.colock_c.specs.Families.{AreSemiqueueWords, AreSetWords, HasNoNumber, HasNone, IsOfFamily, IsOfNumber};
-ghost use Rattle.colock_c.specs.Types.{HasNoFile, IsDeclaredFile, MakesType, IsNoTypeFile, IsTabledOf};
-ghost use Rattle.colock_c.specs.Words.{kind_by_number};
+ghost use Rattle.library_calls.specs.Codes.{number};
+ghost use Rattle.library_calls.specs.Families.{AreSemiqueueWords, AreSetWords, HasNone, IsOfFamily};
+ghost use Rattle.library_calls.specs.Types.{IsNoTypeFile, IsTabledOf};
+ghost use Rattle.library_calls.specs.Words.{kind_by_number};
+ghost use Rattle.colock_c.specs.NumberTypes.{HasNoNumber, IsOfNumber};
+ghost use Rattle.colock_c.specs.Types.{HasNoFile, IsDeclaredFile, MakesType};
 
-use crate::code::Code;
-use crate::families::{
-    account_file, counter_file, queue_file, seats_file, semiqueue_file, set_file, stock_file,
-};
 use crate::made_types::{hold_amounts, hold_made, hold_tabled, hold_text};
 use crate::slot::Slot;
-use crate::words::{ColockFault, kind_at};
+use library_calls::families::{
+    account_file, counter_file, queue_file, seats_file, semiqueue_file, set_file, stock_file,
+};
+use library_calls::{Code, ColockFault, kind_at};
 use std::alloc::Global;
 
 /// The type that a text declares (docs/formats.md), of which a number is for escrow alone: `BadText` or

@@ -1,8 +1,8 @@
 use Rattle.std.proofs.Common.{◌≡◌, ◌∙◌, ℕ, Option, Some, sym, ap, subst}
-use Rattle.colock_c.specs.Codes.{number}
-use Rattle.colock_c.specs.Epochs.{IsExtension}
-use Rattle.colock_c.specs.Holding.{objects_at, store_at}
-use Rattle.colock_c.specs.declared.held.Held.{Held}
+use Rattle.library_calls.specs.Codes.{number}
+use Rattle.library_calls.specs.Epochs.{IsExtension}
+use Rattle.library_calls.specs.Holding.{objects_at, store_at}
+use Rattle.library_calls.specs.declared.held.Held.{Held}
 use Rattle.colock_c.proofs.epochs.colock_store_extend.Goals as goal
 
 pub returns-clause-extends : goal.returns-clause-extends

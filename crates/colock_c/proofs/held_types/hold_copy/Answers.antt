@@ -2,9 +2,9 @@ use Rattle.std.proofs.Common.{◌≡◌, subst}
 use Rattle.number_types.specs.Number.{Number}
 use Rattle.declared_types.specs.Declarations.{number_file}
 use Rattle.type_table.specs.declared.kind.Kind.TheVariants.{Escrow}
-use Rattle.colock_c.specs.Codes.{number}
+use Rattle.library_calls.specs.Codes.{number}
+use Rattle.library_calls.specs.declared.words.ColockFault.{ColockFault}
 use Rattle.colock_c.specs.Types.{MakesType}
-use Rattle.colock_c.specs.declared.words.ColockFault.{ColockFault}
 use Rattle.colock_c.proofs.held_types.hold_copy.Goals as goal
 
 pub returns-in-Ok : goal.returns-in-Ok

@@ -1,6 +1,6 @@
 use Rattle.std.proofs.Common.{subst, sym, ◌∙◌}
 use Rattle.declared_types.specs.declared.declared_type.Declaration.{Declaration}
-use Rattle.colock_c.specs.Codes.{number}
+use Rattle.library_calls.specs.Codes.{number}
 use Rattle.colock_c.specs.Types.{IsFileFor, MakesType, IsNotFor}
 use Rattle.colock_c.proofs.Typings.{of_table}
 use Rattle.colock_c.proofs.held_types.hold_declared.Goals as goal

@@ -1,4 +1,4 @@
-use Rattle.colock_c.specs.Codes.{number}
+use Rattle.library_calls.specs.Codes.{number}
 use Rattle.colock_c.proofs.Typings.{of_number}
 use Rattle.colock_c.proofs.held_types.hold_in_escrow.Goals as goal
 

@@ -1,8 +1,8 @@
 use Rattle.std.proofs.Common.{refl, ap, subst, ◌∙◌, inl, inr}
 use Rattle.table_checker.specs.Checked.{IsChecked}
 use Rattle.declared_types.specs.Declarations.{number_file}
-use Rattle.colock_c.specs.Codes.{number}
-use Rattle.colock_c.specs.Holding.{type_at}
+use Rattle.library_calls.specs.Codes.{number}
+use Rattle.library_calls.specs.Holding.{type_at}
 use Rattle.colock_c.specs.Types.{accepted, memory_refused}
 use Rattle.colock_c.proofs.held_types.hold_number.Goals as goal
 

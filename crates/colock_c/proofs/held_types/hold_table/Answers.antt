@@ -1,5 +1,5 @@
 use Rattle.std.proofs.Common.{◌≡◌, refl}
-use Rattle.colock_c.specs.Codes.{number}
+use Rattle.library_calls.specs.Codes.{number}
 use Rattle.colock_c.proofs.Typings.{of_file}
 use Rattle.colock_c.proofs.held_types.hold_table.Goals as goal
 

@@ -1,6 +1,6 @@
 use Rattle.std.proofs.Common.{refl, ap, inl, inr}
-use Rattle.colock_c.specs.Codes.{number}
-use Rattle.colock_c.specs.Holding.{type_at}
+use Rattle.library_calls.specs.Codes.{number}
+use Rattle.library_calls.specs.Holding.{type_at}
 use Rattle.colock_c.specs.Types.{accepted, not_accepted, memory_refused}
 use Rattle.colock_c.proofs.held_types.hold_type.Goals as goal
 

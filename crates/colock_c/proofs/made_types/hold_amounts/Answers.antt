@@ -1,6 +1,6 @@
 use Rattle.std.proofs.Common.{refl, inl, inr}
-use Rattle.colock_c.specs.Codes.{number}
-use Rattle.colock_c.specs.Families.{none, not_for, HasNoNumber, IsOfNumber}
+use Rattle.library_calls.specs.Codes.{number}
+use Rattle.colock_c.specs.NumberTypes.{none, not_for, HasNoNumber, IsOfNumber}
 use Rattle.colock_c.specs.Types.{IsFileFor, IsNotFor}
 use Rattle.colock_c.proofs.Typings.{of_none, of_such}
 use Rattle.colock_c.proofs.made_types.hold_amounts.Goals as goal

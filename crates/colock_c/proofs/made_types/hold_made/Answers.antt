@@ -1,5 +1,5 @@
-use Rattle.colock_c.specs.Codes.{number}
-use Rattle.colock_c.specs.Words.{kind_by_number}
+use Rattle.library_calls.specs.Codes.{number}
+use Rattle.library_calls.specs.Words.{kind_by_number}
 use Rattle.colock_c.proofs.Typings.{of_made}
 use Rattle.colock_c.proofs.made_types.hold_made.Goals as goal
 

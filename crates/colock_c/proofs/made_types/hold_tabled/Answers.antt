@@ -1,5 +1,5 @@
-use Rattle.colock_c.specs.Types.{IsNoTypeFile, IsTabledOf}
-use Rattle.colock_c.specs.Codes.{number}
+use Rattle.library_calls.specs.Types.{IsNoTypeFile, IsTabledOf}
+use Rattle.library_calls.specs.Codes.{number}
 use Rattle.colock_c.proofs.Typings.{of_file, of_none}
 use Rattle.colock_c.proofs.made_types.hold_tabled.Goals as goal
 

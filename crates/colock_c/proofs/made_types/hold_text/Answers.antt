@@ -1,6 +1,6 @@
 use Rattle.std.proofs.Common.{◌∙◌, inl, inr}
+use Rattle.library_calls.specs.Codes.{number}
 use Rattle.colock_c.specs.Types.{faulty, not_for, HasNoFile, IsFileFor, IsDeclaredFile, IsNotFor}
-use Rattle.colock_c.specs.Codes.{number}
 use Rattle.colock_c.proofs.Typings.{of_none, of_such}
 use Rattle.colock_c.proofs.made_types.hold_text.Goals as goal
 

@@ -1,8 +1,8 @@
 use Rattle.std.proofs.Common.{◌≡◌, ◌∙◌, ℕ, Option, Some, sym, ap, subst}
-use Rattle.colock_c.specs.Codes.{number}
-use Rattle.colock_c.specs.Holding.{objects_at, type_at}
-use Rattle.colock_c.specs.Making.{AddsObject}
-use Rattle.colock_c.specs.declared.held.Held.{Held}
+use Rattle.library_calls.specs.Codes.{number}
+use Rattle.library_calls.specs.Holding.{objects_at, type_at}
+use Rattle.library_calls.specs.Making.{AddsObject}
+use Rattle.library_calls.specs.declared.held.Held.{Held}
 use Rattle.colock_c.proofs.new_stores.colock_store_add.Goals as goal
 
 pub returns-clause-adds : goal.returns-clause-adds

@@ -1,6 +1,6 @@
 use Rattle.std.proofs.Common.{subst}
 use Rattle.store_limits.specs.declared.limits.Limits.{Limits}
-use Rattle.colock_c.specs.Making.{MakesStore, limits_of}
+use Rattle.library_calls.specs.Making.{MakesStore, limits_of}
 use Rattle.colock_c.proofs.new_stores.colock_store_open.Goals as goal
 
 pub returns-clause-makes : goal.returns-clause-makes

@@ -1,8 +1,8 @@
 use Rattle.std.proofs.Common.{◌≡◌, ◌∙◌, ℕ, Option, Some, sym, ap, subst}
-use Rattle.colock_c.specs.Codes.{number}
-use Rattle.colock_c.specs.Holding.{objects_at}
-use Rattle.colock_c.specs.Making.{MakesStore, limits_of}
-use Rattle.colock_c.specs.declared.held.Held.{Held}
+use Rattle.library_calls.specs.Codes.{number}
+use Rattle.library_calls.specs.Holding.{objects_at}
+use Rattle.library_calls.specs.Making.{MakesStore, limits_of}
+use Rattle.library_calls.specs.declared.held.Held.{Held}
 use Rattle.colock_c.proofs.new_stores.colock_store_open_with.Goals as goal
 
 pub returns-clause-makes : goal.returns-clause-makes

@@ -1,9 +1,9 @@
 use Rattle.std.proofs.Common.{◌≡◌, ℕ, Some, sym, ap, subst, ◌∙◌}
 use Rattle.std.proofs.lemmas.Option.{same_Some}
 use Rattle.store_laws.specs.Stored.{Stored}
-use Rattle.colock_c.specs.Codes.{number}
-use Rattle.colock_c.specs.Holding.{store_at}
-use Rattle.colock_c.specs.Reads.{IsPeekOf}
+use Rattle.library_calls.specs.Codes.{number}
+use Rattle.library_calls.specs.Holding.{store_at}
+use Rattle.library_calls.specs.Reads.{IsPeekOf}
 use Rattle.colock_c.proofs.reads.colock_peek.Goals as goal
 
 pub returns-clause-peeked : goal.returns-clause-peeked

@@ -1,8 +1,9 @@
 use Rattle.std.proofs.Common.{◌≡◌, ℕ, Some, sym, ap, subst, ◌∙◌}
 use Rattle.store_laws.specs.Stored.{Stored}
-use Rattle.colock_c.specs.Codes.{number}
-use Rattle.colock_c.specs.Holding.{store_at}
-use Rattle.colock_c.specs.Attempts.{AttemptsCalls, IsAttempted}
+use Rattle.library_calls.specs.Codes.{number}
+use Rattle.library_calls.specs.Holding.{store_at}
+use Rattle.library_calls.specs.Attempts.{IsAttempted}
+use Rattle.colock_c.specs.Calls.{AttemptsCalls}
 use Rattle.colock_c.proofs.Becoming.{becomes}
 use Rattle.colock_c.proofs.stores.colock_attempt.Goals as goal
 

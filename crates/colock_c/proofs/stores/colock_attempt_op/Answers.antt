@@ -1,8 +1,9 @@
 use Rattle.std.proofs.Common.{◌≡◌, ℕ, Some, sym, ap, subst, ◌∙◌}
 use Rattle.store_laws.specs.Stored.{Stored}
-use Rattle.colock_c.specs.Codes.{number}
-use Rattle.colock_c.specs.Holding.{store_at}
-use Rattle.colock_c.specs.NumberedAttempts.{AttemptsNumbers, IsAttemptedByNumbers}
+use Rattle.library_calls.specs.Codes.{number}
+use Rattle.library_calls.specs.Holding.{store_at}
+use Rattle.library_calls.specs.NumberedAttempts.{IsAttemptedByNumbers}
+use Rattle.colock_c.specs.Calls.{AttemptsNumbers}
 use Rattle.colock_c.proofs.Becoming.{becomes}
 use Rattle.colock_c.proofs.stores.colock_attempt_op.Goals as goal
 

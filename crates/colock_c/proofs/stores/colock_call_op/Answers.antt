@@ -1,10 +1,11 @@
 use Rattle.std.proofs.Common.{◌≡◌, ℕ, List, Some, slice_get, sym, ap, subst, ◌∙◌}
 use Rattle.serial_order.specs.Replay.{call_at}
 use Rattle.serial_order.specs.declared.command.Command.TheVariants.{Call}
-use Rattle.store_laws.specs.Stored.{Stored, objects}
-use Rattle.colock_c.specs.Calls.{DoesNumbered, IsCommandDone, IsUnnumbered}
-use Rattle.colock_c.specs.Codes.{number}
-use Rattle.colock_c.specs.Holding.{store_at}
+use Rattle.store_laws.specs.Stored.{objects}
+use Rattle.library_calls.specs.Calls.{IsCommandDone, IsUnnumbered}
+use Rattle.library_calls.specs.Codes.{number}
+use Rattle.library_calls.specs.Holding.{store_at}
+use Rattle.colock_c.specs.Calls.{DoesNumbered}
 use Rattle.colock_c.proofs.Becoming.{becomes}
 use Rattle.colock_c.proofs.stores.colock_call_op.Goals as goal
 

@@ -1,9 +1,9 @@
 use Rattle.std.proofs.Common.{◌≡◌, ℕ, Some, sym, ap, subst, ◌∙◌}
 use Rattle.std.proofs.lemmas.Option.{same_Some}
 use Rattle.store_laws.specs.Stored.{Stored}
-use Rattle.colock_c.specs.Codes.{number}
-use Rattle.colock_c.specs.Foreseen.{IsForeseen}
-use Rattle.colock_c.specs.Holding.{store_at}
+use Rattle.library_calls.specs.Codes.{number}
+use Rattle.library_calls.specs.Foreseen.{IsForeseen}
+use Rattle.library_calls.specs.Holding.{store_at}
 use Rattle.colock_c.proofs.stores.colock_would.Goals as goal
 
 pub returns-clause-foreseen : goal.returns-clause-foreseen

@@ -1,5 +1,5 @@
 use Rattle.std.proofs.Common.{ℕ}
-use Rattle.colock_c.specs.Families.{HasNone, IsOfFamily}
+use Rattle.library_calls.specs.Families.{HasNone, IsOfFamily}
 use Rattle.table_families.specs.Account.{AccountFits, account}
 use Rattle.table_families.specs.Amounts.{AreAmounts}
 use Rattle.colock_c.proofs.Typings.{of_family}

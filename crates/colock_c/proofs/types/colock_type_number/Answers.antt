@@ -1,6 +1,6 @@
 use Rattle.std.proofs.Common.{ℕ}
 use Rattle.type_table.specs.declared.kind.Kind.{Kind}
-use Rattle.colock_c.specs.Families.{HasNoNumber, IsOfNumber}
+use Rattle.colock_c.specs.NumberTypes.{HasNoNumber, IsOfNumber}
 use Rattle.colock_c.specs.Types.{MakesType}
 use Rattle.colock_c.proofs.Typings.{for_kind}
 use Rattle.colock_c.proofs.types.colock_type_number.Goals as goal

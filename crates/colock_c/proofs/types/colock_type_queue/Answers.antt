@@ -1,5 +1,5 @@
 use Rattle.std.proofs.Common.{ℕ}
-use Rattle.colock_c.specs.Families.{AreSemiqueueWords, HasNone, IsOfFamily}
+use Rattle.library_calls.specs.Families.{AreSemiqueueWords, HasNone, IsOfFamily}
 use Rattle.line_text.specs.Text.{words_of}
 use Rattle.table_families.specs.Queue.{QueueFits, queue}
 use Rattle.colock_c.proofs.Typings.{of_family}

@@ -1,6 +1,7 @@
 use Rattle.std.proofs.Common.{ℕ}
 use Rattle.type_table.specs.declared.kind.Kind.{Kind}
-use Rattle.colock_c.specs.Types.{MakesType, IsNoTypeFile, IsTabledOf}
+use Rattle.library_calls.specs.Types.{IsNoTypeFile, IsTabledOf}
+use Rattle.colock_c.specs.Types.{MakesType}
 use Rattle.colock_c.proofs.Typings.{for_kind}
 use Rattle.colock_c.proofs.types.colock_type_tables.Goals as goal
 

@@ -1,7 +1,0 @@
--- The events of the first words were made.
-use Rattle.std.proofs.Common.{take}
-use Rattle.colock_c.specs.Histories.{AreMadeOfWords}
-use Rattle.colock_c.proofs.made_events.follow_words.Given as goal
-
-abbrev pub invariant-loop-at : goal.invariant-loop-at
-invariant-loop-at l = AreMadeOfWords l.fn.store (take l.at l.events) l.store

@@ -1,6 +1,0 @@
-use Rattle.std.proofs.Common.{ap, ◌∙◌, set}
-use Rattle.colock_c.proofs.Attempted.{put-first}
-use Rattle.colock_c.proofs.one_call.tell_done.Goals as goal
-
-pub returns-clause-operation : goal.returns-clause-operation
-returns-clause-operation c = ap (set c.args.room.now 0) c.number_of.ensures ∙ put-first c.args.room.now c.args.k c.requires

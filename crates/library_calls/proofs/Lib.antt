@@ -1,0 +1,11 @@
+pub mod ReadAgain
+pub mod Numbered
+pub mod Told
+pub mod Limits
+pub mod Rooms
+pub mod Followed
+pub mod Narrowed
+pub mod AttemptRooms
+pub mod NumberedAttempts
+pub mod Attempted
+pub mod Snapshots

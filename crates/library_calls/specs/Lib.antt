@@ -1,0 +1,17 @@
+pub mod Codes
+pub mod Holding
+pub mod Lending
+pub mod Words
+pub mod Operations
+pub mod EventWords
+pub mod Types
+pub mod Families
+pub mod Named
+pub mod Making
+pub mod Calls
+pub mod Foreseen
+pub mod Attempts
+pub mod NumberedAttempts
+pub mod Reads
+pub mod Histories
+pub mod Epochs
