@@ -40,7 +40,7 @@ def store_in_rattle(folder):
     if named:
         return os.path.abspath(named)
     room = os.path.join(folder, "room")
-    shutil.copytree(os.path.join(ROOT, "crates"), os.path.join(room, "crates"))
+    shutil.copytree(os.path.join(ROOT, "crates"), os.path.join(room, "crates"), ignore=shutil.ignore_patterns("incremental", "must-fail"))
     shutil.copy(os.path.join(ROOT, "HANDLES"), room)
     with open(os.path.join(ROOT, "crates.txt"), encoding="utf-8") as listed:
         written(room, "crates.txt", listed.read() + STORE_USES)
