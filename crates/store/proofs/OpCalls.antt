@@ -42,3 +42,9 @@ module _ {A : Type 0} (meaning : A → Meaning) (items now : List A) (rows : Lis
       let many : length now ≡ length (objects_of (map meaning items)) =
       ap length read ∙ sym (length-map items meaning) ∙ sym (length-map (map meaning items) (λ (m : Meaning). m.checked)) ∙ sym (length-map (types_of (map meaning items)) object_of) in
       subst (λ (z : Stored). slice_get (objects z) x ≡ None) same (slice_get_past (objects_of (map meaning items)) x (subst (λ n. n ≤ x) many past))
+
+  -- there are as many as callers see
+  pub as-many-seen : length now ≡ length (objects s)
+  as-many-seen =
+      ap length read ∙ sym (length-map items meaning) ∙ sym (length-map (map meaning items) (λ (m : Meaning). m.checked)) ∙ sym (length-map (types_of (map meaning items)) object_of)
+      ∙ ap (λ (z : Stored). length (objects z)) same

@@ -29,6 +29,10 @@ pub record AreFirstRenewed (ms now : List Meaning) (capacity i : ℕ) : Type 0 w
   pub room : length ms ≤ capacity
   pub each : (x : ℕ) (m new : Meaning) → slice_get ms x ≡ Some m → slice_get now x ≡ Some new → IsRenewed m new
 
+-- of none
+pub renewed-none : (ms : List Meaning) (capacity : ℕ) → length ms ≤ capacity → AreFirstRenewed ms [] capacity 0
+renewed-none ms capacity room = record { as_many = refl; room = room; each = λ x m new there none. absurd (none-some new none) }
+
 -- and one more
 pub renewed-more : (ms now more : List Meaning) (new : Meaning) (capacity i : ℕ) (m : Meaning) → AreFirstRenewed ms now capacity i → slice_get ms i ≡ Some m
     → IsRenewed m new → more ≡ now ++ new ∷ [] → AreFirstRenewed ms more capacity (i + 1)

@@ -1,8 +1,31 @@
-use Rattle.std.proofs.Common.{◌≡◌, ◌+◌, [], ◌∷◌, map, length, vec_capacity, sym, ap, subst, ◌∙◌, arith}
+use Rattle.std.proofs.Common.{◌≡◌, ◌+◌, ◌≤◌, [], ◌∷◌, map, length, vec_capacity, sym, ap, subst, ◌∙◌, arith}
 use Rattle.std.proofs.lemmas.List.{length-map, map-append}
 use Rattle.store.proofs.Beginnings.{image-in}
-use Rattle.store.proofs.Renewals.{AreFirstRenewed, renewed-more, renewed-all}
+use Rattle.store.proofs.Renewals.{AreFirstRenewed, renewed-none, renewed-more, renewed-all}
 use Rattle.store.proofs.renewed_objects.renewed_objects.Goals as goal
+
+pub loop-object-init : goal.loop-object-init
+loop-object-init g c =
+    let items = c.args.objects.now.items in
+    let meaning = g.R.Recovery.meaning in
+    let room : length (map meaning items) ≤ vec_capacity c.in_ok-renewed.renewed = omega (arith, length-map items meaning, c.in_ok-renewed.ensures.capacity, c.len.ensures, c.args.objects.now.ok.0) in
+    subst (λ xs. AreFirstRenewed (map meaning items) (map meaning xs) (vec_capacity c.in_ok-renewed.renewed) 0) (sym c.in_ok-renewed.ensures.items)
+    (renewed-none (map meaning items) (vec_capacity c.in_ok-renewed.renewed) room)
+
+pub push_reserved-requires : goal.push_reserved-requires
+push_reserved-requires g c =
+    let items = c.args.objects.now.items in
+    let meaning = g.R.Recovery.meaning in
+    omega (
+      arith,
+      c.loop-object.invariant.as_many,
+      c.loop-object.invariant.room,
+      length-map c.loop-object.renewed.items meaning,
+      length-map items meaning,
+      c.loop-object-test.true,
+      ap length c.deref-object-items.ensures.value,
+      c.loop-object.renewed.ok.0,
+    )
 
 pub renewed_object-requires-after_bounds : goal.renewed_object-requires-after_bounds
 renewed_object-requires-after_bounds g c κs within = λ s is.

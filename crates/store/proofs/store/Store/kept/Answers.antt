@@ -1,8 +1,21 @@
-use Rattle.std.proofs.Common.{◌<◌, ◌++◌, map, length, arith}
+use Rattle.std.proofs.Common.{◌<◌, ◌++◌, map, length, nat_lt, is_some, ap, ◌∙◌, arith}
 use Rattle.std.proofs.lemmas.Bool.Decides.{nat_tests}
 use Rattle.store.proofs.Beginnings.{image-in}
 use Rattle.store.proofs.KeptStates.{kept-shown}
+use Rattle.store.proofs.OpCalls.{as-many-seen}
 use Rattle.store.proofs.store.Store.kept.Goals as goal
+
+pub returns-in_err-object-clause-there : goal.returns-in_err-object-clause-there
+returns-in_err-object-clause-there g c =
+    let inside = c.self.inside in
+    ap is_some c.from_residual.ensures ∙ c.in_err-object.ensures.lookup.0
+    ∙ ap (nat_lt c.args.x) (as-many-seen g.R.Recovery.meaning inside.objects.items c.deref.result.now inside.transactions.rows (inside.past.items ++ inside.history.items) inside.limits inside.forgotten c.args.self.now c.args.x c.self.view_is c.deref.ensures.value)
+
+pub returns-clause-there : goal.returns-clause-there
+returns-clause-there g c =
+    let inside = c.self.inside in
+    c.in_ok-object.ensures.lookup.0
+    ∙ ap (nat_lt c.args.x) (as-many-seen g.R.Recovery.meaning inside.objects.items c.deref.result.now inside.transactions.rows (inside.past.items ++ inside.history.items) inside.limits inside.forgotten c.args.self.now c.args.x c.self.view_is c.deref.ensures.value)
 
 pub returns-clause-kept : goal.returns-clause-kept
 returns-clause-kept g c =
