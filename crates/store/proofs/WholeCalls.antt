@@ -186,6 +186,22 @@ pub unchanged-shown : (ms now : List Meaning) (rows left : List (Option Row)) (H
 unchanged-shown ms now rows left H after limits forgotten s same unchanged stays =
     ap (λ ns. stored (types_of ns) after limits forgotten) unchanged ∙ ap (λ K. stored (types_of ms) K limits forgotten) stays ∙ same
 
+-- a store as it was, with no less room
+pub whole-roomier : {ms now : List Meaning} {rows left : List (Option Row)} {H K : List Event} → now ≡ ms → left ≡ rows → K ≡ H
+    → (calls : List (List NamedCall)) (room more : ℕ) (limits : Limits) (many committed : ℕ) → room ≤ more → IsWholeStore ms calls rows H room limits many → committed ≡ length (commits H)
+    → IsWholeStore now calls left K more limits many × (committed ≡ length (commits K))
+whole-roomier {ms} {now} {rows} {left} {H} {K} objects row events calls room more limits many committed wider whole counted = (
+  subst (λ z. IsWholeStore z calls left K more limits many) (sym objects)
+      (subst (λ r. IsWholeStore ms calls r K more limits many) (sym row)
+      (subst (λ J. IsWholeStore ms calls rows J more limits many) (sym events)
+      (record {
+        store = record { kept = whole.store.kept; reserved = omega (arith, whole.store.reserved, wider); limited = whole.store.limited };
+        within = whole.within;
+        known = whole.known;
+      }))),
+  subst (λ J. committed ≡ length (commits J)) (sym events) counted,
+)
+
 -- what is known of a store that may begin one
 pub record MayTransact (ms : List Meaning) (rows : List (Option Row)) (H : List Event) (calls : List (List NamedCall)) (room more : ℕ) (limits : Limits) (many w opened : ℕ) : Type 0 where
   pub whole : IsWholeStore ms calls rows H room limits many

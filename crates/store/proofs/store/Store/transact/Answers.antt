@@ -1,4 +1,4 @@
-use Rattle.std.proofs.Common.{◌≡◌, ◌+◌, ◌<◌, ◌≤◌, true, false, [], ◌∷◌, ◌++◌, length, map, vec_len, vec_capacity, None, Some, slice_get, refl, sym, ap, subst, ◌∙◌, arith}
+use Rattle.std.proofs.Common.{◌≡◌, ◌+◌, ◌<◌, ◌≤◌, true, [], ◌∷◌, ◌++◌, length, map, vec_len, vec_capacity, None, Some, slice_get, refl, sym, ap, subst, ◌∙◌, arith}
 use Rattle.std.proofs.lemmas.List.{length-map}
 use Rattle.object_calls.specs.Answers.{answer_of}
 use Rattle.object_calls.specs.declared.answer.Answer.TheVariants as answered
@@ -9,10 +9,10 @@ use Rattle.store_laws.specs.Kept.{keeping}
 use Rattle.store.proofs.Rooms.{succeeded, rows-fit, room-is}
 use Rattle.store.proofs.Pasts.{past-length, past-test}
 use Rattle.store.proofs.Commits.{commits-within}
-use Rattle.store.proofs.Executed.{seen-at}
+use Rattle.store.proofs.Executed.{failed, seen-at}
 use Rattle.object_trait.specs.Steps.{MayApply}
 use Rattle.store.proofs.Answered.{called-inside, one-at, reply-may}
-use Rattle.store.proofs.WholeCalls.{MayTransact, call-there, begun-given, begun-free, transacted-whole, transacted-is, whole-last, whole-counted}
+use Rattle.store.proofs.WholeCalls.{MayTransact, unchanged-shown, whole-roomier, call-there, begun-given, begun-free, transacted-whole, transacted-is, whole-last, whole-counted}
 use Rattle.store.proofs.store.Store.transact.Goals as goal
 
 pub choose-requires-after_bounds : goal.choose-requires-after_bounds
@@ -69,6 +69,62 @@ commit_at-requires-clause-may g c κs outlives = λ other found.
     (subst (λ t. MayApply m t c.in-Reply.k) (sym c.begun-t.ensures)
     (reply-may given c.answers_are_known.ensures.least c.answers_are_known.ensures.follows c.answers_are_known.ensures.applies c.answers_are_known.ensures.counted
     c.in-Reply.k inside.limits refl (begun-free c.whole_is_known.ensures.says c.whole_is_known.ensures.counted c.whole_is_known.ensures.begins c.whole_is_known.ensures.stays c.whole_is_known.ensures.room c.whole_is_known.ensures.types may) (omega arith)))
+
+pub returns-then-opened-self : goal.returns-then-opened-self
+returns-then-opened-self g c = refl
+
+pub returns-in_default : goal.returns-in_default
+returns-in_default g c = refl
+
+pub invariant_of-self : goal.invariant_of-self
+invariant_of-self g c =
+    let inside = c.self.inside in
+    let its =
+    whole-roomier refl refl (ap (λ K. inside.past.items ++ K) c.reserve.ensures.items) inside.calls.items (inside.forgotten + vec_capacity inside.history) (inside.forgotten + vec_capacity c.reserve.new.self)
+    inside.limits inside.counts inside.committed (omega (arith, c.reserve.ensures.capacity)) c.self.invariant.1 c.self.invariant.2 in
+    (c.self.invariant.0, its.0, its.1)
+
+pub returns-then-is_err : goal.returns-then-is_err
+returns-then-is_err g c =
+    let inside = c.self.inside in
+    unchanged-shown (map g.R.Recovery.meaning inside.objects.items) (map g.R.Recovery.meaning inside.objects.items) inside.transactions.rows inside.transactions.rows (inside.past.items ++ inside.history.items)
+    (inside.past.items ++ c.reserve.new.self.items) inside.limits inside.forgotten c.args.self.now c.self.view_is refl (ap (λ K. inside.past.items ++ K) c.reserve.ensures.items)
+
+pub invariant_of-self-then-is_err-2 : goal.invariant_of-self-then-is_err-2
+invariant_of-self-then-is_err-2 g c =
+    let inside = c.self.inside in
+    let its =
+    whole-roomier refl c.reserve_begin.ensures.rows (ap (λ K. inside.past.items ++ K) c.reserve.ensures.items) inside.calls.items (inside.forgotten + vec_capacity inside.history) (inside.forgotten + vec_capacity c.reserve.new.self)
+    inside.limits inside.counts inside.committed (omega (arith, c.reserve.ensures.capacity)) c.self.invariant.1 c.self.invariant.2 in
+    (c.self.invariant.0, its.0, its.1)
+
+pub returns-then-is_err-2 : goal.returns-then-is_err-2
+returns-then-is_err-2 g c =
+    let inside = c.self.inside in
+    unchanged-shown (map g.R.Recovery.meaning inside.objects.items) (map g.R.Recovery.meaning inside.objects.items) inside.transactions.rows c.reserve_begin.new.self.rows (inside.past.items ++ inside.history.items)
+    (inside.past.items ++ c.reserve.new.self.items) inside.limits inside.forgotten c.args.self.now c.self.view_is refl (ap (λ K. inside.past.items ++ K) c.reserve.ensures.items)
+
+pub invariant_of-self-then-is_err-3 : goal.invariant_of-self-then-is_err-3
+invariant_of-self-then-is_err-3 g c =
+    let inside = c.self.inside in
+    let its =
+    whole-roomier (failed c.commit_at.result (sym c.is_err-3.ensures.value ∙ c.if-is_err-3.true) c.commit_at.ensures.objects) c.reserve_begin.ensures.rows (ap (λ K. inside.past.items ++ K) c.reserve.ensures.items) inside.calls.items (inside.forgotten + vec_capacity inside.history) (inside.forgotten + vec_capacity c.reserve.new.self)
+    inside.limits inside.counts inside.committed (omega (arith, c.reserve.ensures.capacity)) c.self.invariant.1 c.self.invariant.2 in
+    (c.self.invariant.0, its.0, its.1)
+
+pub returns-then-is_err-3 : goal.returns-then-is_err-3
+returns-then-is_err-3 g c =
+    let inside = c.self.inside in
+    unchanged-shown (map g.R.Recovery.meaning inside.objects.items) (map g.R.Recovery.meaning c.commit_at.new.objects.items) inside.transactions.rows c.reserve_begin.new.self.rows (inside.past.items ++ inside.history.items)
+    (inside.past.items ++ c.reserve.new.self.items) inside.limits inside.forgotten c.args.self.now c.self.view_is (failed c.commit_at.result (sym c.is_err-3.ensures.value ∙ c.if-is_err-3.true) c.commit_at.ensures.objects) (ap (λ K. inside.past.items ++ K) c.reserve.ensures.items)
+
+pub pass-requires-clause-room : goal.pass-requires-clause-room
+pass-requires-clause-room g c = succeeded c.reserve_begin.result (sym c.is_err-2.ensures.value ∙ c.if-is_err-2.false) c.reserve_begin.ensures.room
+
+pub push_whole-requires : goal.push_whole-requires
+push_whole-requires g c =
+    let made : vec_len c.reserve.new.self + (c.open_count-opened.result + 3) ≤ vec_capacity c.reserve.new.self = succeeded c.reserve.result (sym c.is_err.ensures.value ∙ c.if-is_err.false) c.reserve.ensures.ok in
+    omega (arith, made)
 
 pub pass-requires-clause-fits : goal.pass-requires-clause-fits
 pass-requires-clause-fits g c =
