@@ -283,6 +283,10 @@ impl Recovery for EscrowManager {
         self.marks.len() as u32
     }
 
+    fn entry(&self, i: usize) -> Option<LogEntry> {
+        self.log.get(i).copied()
+    }
+
     fn is_fresh(&self) -> bool {
         self.log.is_empty() && self.base == initial(&self.checked)
     }

@@ -245,6 +245,10 @@ impl Recovery for IntentionsManager {
         self.views.len() as u32
     }
 
+    fn entry(&self, i: usize) -> Option<LogEntry> {
+        self.log.get(i).copied()
+    }
+
     fn is_fresh(&self) -> bool {
         self.log.is_empty() && u32::from(self.base) == self.checked.initial()
     }

@@ -2,6 +2,7 @@
 
 ghost use Rattle.std.specs.Prelude.{◌≡◌};
 
+use crate::log_entry::LogEntry;
 use crate::recovery::Recovery;
 use declared_types::DeclaredType;
 use std::alloc::AllocError;
@@ -84,6 +85,10 @@ impl Recovery for AnyObject {
 
     fn open_count(&self) -> u32 {
         self.object.open_count()
+    }
+
+    fn entry(&self, i: usize) -> Option<LogEntry> {
+        self.object.entry(i)
     }
 
     fn is_fresh(&self) -> bool {

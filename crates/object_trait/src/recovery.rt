@@ -1,12 +1,13 @@
 //! What an object owes, whatever its kind of recovery and whatever it keeps.
 
-ghost use Rattle.std.specs.Prelude.{◌≡◌, ◌↔◌, ◌<◌, ◌≤◌, ◌%◌, true, Some, length, OnOk, OnErr};
+ghost use Rattle.std.specs.Prelude.{◌≡◌, ◌↔◌, ◌<◌, ◌≤◌, ◌%◌, true, Some, length, slice_get, OnOk, OnErr};
 ghost use Rattle.table_checker.specs.Checked.{IsChecked};
 ghost use Rattle.declared_types.specs.Declarations.{file_of, IsDeclaredFor};
 ghost use Rattle.object_trait.specs.Meaning.{Meaning, state_of, view_of, open_of};
 ghost use Rattle.object_trait.specs.Committed.{committed_of};
 ghost use Rattle.object_trait.specs.Steps.{IsLegalFor, TellsKept, open_transactions, IsFresh, stopper, MayApply, applied, IsCommit, IsStrike, IsAbort};
 
+use crate::log_entry::LogEntry;
 use declared_types::DeclaredType;
 use std::alloc::AllocError;
 use type_table::Operation;
@@ -110,6 +111,10 @@ pub trait Recovery: Send + Drop {
     /// The number of transactions that are open at the object.
     fn open_count(&self) -> u32
         ensures { result ≡ length (open_transactions (meaning self.now).log) };
+
+    /// The entry at place i of the log, oldest first; None where it has no more.
+    fn entry(&self, i: usize) -> Option<LogEntry>
+        ensures { result ≡ slice_get (meaning self.now).log i };
 
     /// Whether the state is the type's initial one and the log is empty.
     fn is_fresh(&self) -> bool

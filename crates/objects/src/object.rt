@@ -3,7 +3,7 @@ ghost use Rattle.std.specs.Prelude.{◌≡◌};
 use declared_types::DeclaredType;
 use escrow_manager::EscrowManager;
 use intentions_manager::IntentionsManager;
-use object_trait::{Recovery, Renew};
+use object_trait::{LogEntry, Recovery, Renew};
 use std::alloc::{AllocError, Global};
 use std::sync::Arc;
 use table_checker::CheckedType;
@@ -150,6 +150,14 @@ impl Recovery for Object {
             Object::Undo(manager) => manager.open_count(),
             Object::Intentions(manager) => manager.open_count(),
             Object::Escrow(manager) => manager.open_count(),
+        }
+    }
+
+    fn entry(&self, i: usize) -> Option<LogEntry> {
+        match self {
+            Object::Undo(manager) => manager.entry(i),
+            Object::Intentions(manager) => manager.entry(i),
+            Object::Escrow(manager) => manager.entry(i),
         }
     }
 

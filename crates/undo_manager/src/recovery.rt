@@ -150,6 +150,11 @@ impl Recovery for UndoManager {
         self.opened.len() as u32
     }
 
+    fn entry(&self, i: usize) -> Option<LogEntry> {
+        let undo = self.log.get(i)?;
+        Some(undo.entry)
+    }
+
     fn is_fresh(&self) -> bool {
         u32::from(self.base) == self.checked.initial() && self.log.is_empty()
     }

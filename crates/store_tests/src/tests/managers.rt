@@ -104,6 +104,8 @@ fn an_amount_is_kept(rt: HostRuntime) {
     assert!(rt; purse.is_fresh());
     let mut log = Vec::new(rt.alloc());
     apply_next(&rt, &mut purse, &mut log, 0, Operation::with(4, 9));
+    let gift = purse.entry(0).expect(&rt, "no entry");
+    assert!(rt; (gift.by == 0) & (gift.op == Operation::with(4, 9)) & !gift.done);
     assert!(rt; (purse.view(0) == 29) & (purse.view(1) == 20) & (purse.state() == 20));
     for (place, u, least, greatest) in &AMOUNTS {
         assert!(rt; place % 2 == 0);
@@ -114,4 +116,25 @@ fn an_amount_is_kept(rt: HostRuntime) {
     }
     let value = call_unreplied(&purse, 1, 8, Some(0));
     assert!(rt; value == Some(Operation::with(8, 0)));
+}
+
+/// That the log has one entry, which is open, of this operation by transaction 3.
+fn has_one_entry<R: Recovery>(rt: &impl Abort, object: &R, k: Operation) {
+    let entry = object.entry(0).expect(rt, "no entry");
+    assert!(rt; (entry.by == 3) & (entry.op == k) & !entry.done & object.entry(1).is_none());
+}
+
+/// An object by each kind of recovery tells what its log has.
+#[test]
+fn an_entry_is_told(rt: HostRuntime) {
+    let up = Operation::listed(0);
+    let mut log = Vec::new(rt.alloc());
+    let mut object = in_place(&rt, COUNTER);
+    assert!(rt; object.entry(0).is_none());
+    apply_next(&rt, &mut object, &mut log, 3, up);
+    has_one_entry(&rt, &object, up);
+    let mut log = Vec::new(rt.alloc());
+    let mut object = deferred(&rt, COUNTER);
+    apply_next(&rt, &mut object, &mut log, 3, up);
+    has_one_entry(&rt, &object, up);
 }

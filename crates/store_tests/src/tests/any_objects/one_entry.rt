@@ -186,6 +186,13 @@ impl Recovery for OneEntry {
         }
     }
 
+    fn entry(&self, i: usize) -> Option<LogEntry> {
+        if i > 0 {
+            return None;
+        }
+        self.entry
+    }
+
     fn is_fresh(&self) -> bool {
         self.entry.is_none()
     }
