@@ -213,7 +213,7 @@ memory, or an output that failed.
   colock: BadParameter   There is no such family, or SIZE or an ITEM isn't as
                          above.
   colock: TooLarge       The type has more than 64 operations or more than 1,024
-                         states.
+                         states, or a number more than 16 amounts.
 ";
 
 pub(crate) const TABLES: &str = "\
@@ -507,7 +507,8 @@ What the faults on standard error mean.
   colock: FILE: object X: name taken
       Of extend: an object of the store has this name.
   colock: FILE: not the objects of HISTORY
-      A history after --then has other objects than the first.
+      The objects of a history after --then don't begin with those of the one
+      before it.
   colock: HISTORY: order: T not committed, T twice, T missing
       After --order come all committed transactions, each once.
   colock: HISTORY: order: T precedes U
@@ -553,13 +554,12 @@ KIND, by the first test that refuses the line:
   OutOfOrder     It comes after lines that it should come before. The sections
                  of a type file: type, states, initial, op, step, reach, equi,
                  conflict undo, conflict intentions, end. Those of a number
-                 file: number, max, initial, take, give, atleast, end.
+                 file: number, max, initial, take, take any, give, give any,
+                 atleast, value, end.
   Missing        A line that has to come before it is missing; without an end,
                  it is the line after the last.
   OutOfRange     A number is too large or too small, or there are too many such
-                 lines: colock help make and docs/formats.md have the limits. In
-                 a number file also take any, give any and value: objects know
-                 only listed amounts.
+                 lines: colock help make and docs/formats.md have the limits.
   OutOfOrder     The numbers of step, reach, equi or conflict, or the amounts of
                  take, give or atleast, don't ascend.
   TwiceOp        An operation with this call and reply came before.
