@@ -124,17 +124,22 @@ fn has_one_entry<R: Recovery>(rt: &impl Abort, object: &R, k: Operation) {
     assert!(rt; (entry.by == 3) & (entry.op == k) & !entry.done & object.entry(1).is_none());
 }
 
-/// An object by each kind of recovery tells what its log has.
 #[test]
-fn an_entry_is_told(rt: HostRuntime) {
+fn an_entry_in_place_is_told(rt: HostRuntime) {
     let up = Operation::listed(0);
-    let mut log = Vec::new(rt.alloc());
     let mut object = in_place(&rt, COUNTER);
-    assert!(rt; object.entry(0).is_none());
+    assert!(rt; object.is_fresh());
+    let mut log = Vec::new(rt.alloc());
     apply_next(&rt, &mut object, &mut log, 3, up);
     has_one_entry(&rt, &object, up);
-    let mut log = Vec::new(rt.alloc());
+}
+
+#[test]
+fn a_deferred_entry_is_told(rt: HostRuntime) {
+    let up = Operation::listed(0);
     let mut object = deferred(&rt, COUNTER);
+    assert!(rt; object.is_fresh());
+    let mut log = Vec::new(rt.alloc());
     apply_next(&rt, &mut object, &mut log, 3, up);
     has_one_entry(&rt, &object, up);
 }
