@@ -4,5 +4,5 @@ mod files;
 mod scenes;
 mod serving_lines;
 mod stops;
-mod stops_grown;
-mod stops_served;
+mod stops_found;
+mod trials;

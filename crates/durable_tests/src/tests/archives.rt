@@ -1,12 +1,11 @@
 //! Archives that are given the histories of epochs that end.
 
-ghost use Rattle.std.specs.Prelude.{◌≡◌, ◌∷◌, [], IsTrue, None, Some, map};
+ghost use Rattle.std.specs.Prelude.{◌∷◌, [], None, Some, map};
 ghost use Rattle.serving.specs.Archives.{KeptHistory};
 ghost use Rattle.durable_tests.specs.declared.tests.archives.Kept.{Kept};
 
-use super::counters::{NewTrees, has, new_store};
+use super::counters::{NewTrees, found, has, new_store};
 use super::serving_lines::{HOUR, Service, told};
-use durable_store::open;
 use journal::Header;
 use serving::{Archive, ArchiveFault, ServeFault};
 use sqlite_trees::memory::MemStore;
@@ -88,19 +87,6 @@ fn has_one(shelf: &Shelf, text: &[u8]) -> bool {
     }
 }
 
-/// Trees in memory, which are always listed by their numbers.
-trait Numbered: NewTrees {
-    /// The same.
-    fn numbered(self) -> Self
-        ensures { IsTrue (Self.Store.view result).is_numbered };
-}
-
-impl Numbered for MemStore {
-    fn numbered(self) -> MemStore {
-        self
-    }
-}
-
 /// How serving ended, and the life and the events of the store then.
 type Ended = (Result<(), ServeFault>, u32, u32);
 
@@ -153,10 +139,10 @@ fn are_kept<S: NewTrees + Drop, R: Abort + AllocGlobal + Clock>(rt: &R) {
 }
 
 /// That nothing begins anew where the archive fails: what is found in the trees has the whole epoch.
-fn is_held<S: Numbered + Drop, R: Abort + AllocGlobal + Clock>(rt: &R) {
+fn is_held<S: NewTrees + Drop, R: Abort + AllocGlobal + Clock>(rt: &R) {
     let mut shelf = empty_shelf(rt, 0);
     let (told, trees) = served::<S, R, Shelf>(rt, &mut shelf, COMMITTED, HOUR);
-    let found = open(rt.alloc(), trees.numbered(), &[]).ok();
+    let found = found(rt, trees.numbered(), &[]);
     has(rt, found.expect(rt, "no store is found"), 6, 1);
     let fault = ServeFault::Archive(ArchiveFault::Device);
     assert!(rt; (told == (Err(fault), 1, 6)) & shelf.all.is_empty());

@@ -1,10 +1,11 @@
-//! A durable store of two counters over trees in memory: one in place, one deferred.
+//! A durable store of counters over trees in memory: one in place, one deferred, and more in place.
 
 ghost use Rattle.sqlite_trees.specs.View.{IsClean};
-ghost use Rattle.std.specs.Prelude.{IfOk, IfSome, IsTrue, OnOk};
+ghost use Rattle.std.specs.Prelude.{IfSome, IsTrue, OnOk};
 ghost use Rattle.durable_store.specs.Durable.{IsDurable};
+ghost use Rattle.journal.specs.Journal.{ShowsCommit};
 
-use durable_store::{Durable, OpenError, open, restart, settle_and_restart};
+use durable_store::{Durable, open, restart, settle_and_restart};
 use journal::{FileContents, FirstState, Header, Journal, JournalError, TypeText};
 use object_calls::Answer;
 use serial_order::Refusal;
@@ -16,6 +17,25 @@ use store_text::ObjectLine;
 use test_support::type_texts::COUNTER;
 use type_table::{Kind, Operation};
 
+/// The texts of types.
+pub fn texts_of(rt: &(impl Abort + AllocGlobal), texts: &[&str]) -> Vec<TypeText> {
+    let alloc = rt.alloc();
+    let mut types = Vec::new(alloc);
+    for text in texts {
+        let text = Vec::from_slice(alloc, text.as_bytes()).expect(rt, "no text");
+        types.push(TypeText::new(text)).expect(rt, "no types");
+    }
+    types
+}
+
+/// The first states of so many objects.
+fn states_at(rt: &(impl Abort + AllocGlobal), count: usize, state: u32) -> Vec<FirstState> {
+    let mut states = Vec::new(rt.alloc());
+    let grown = states.resize(count, FirstState { state });
+    grown.expect(rt, "no states");
+    states
+}
+
 /// A new file of objects of one type that begin at this state.
 pub fn contents(
     rt: &(impl Abort + AllocGlobal),
@@ -24,34 +44,29 @@ pub fn contents(
     state: u32,
 ) -> FileContents {
     let alloc = rt.alloc();
-    let mut types = Vec::new(alloc);
-    let text = Vec::from_slice(alloc, text.as_bytes()).expect(rt, "no text");
-    types.push(TypeText::new(text)).expect(rt, "no types");
-    let objects = Vec::from_slice(alloc, lines).expect(rt, "no objects");
-    let mut states = Vec::new(alloc);
-    states
-        .resize(lines.len(), FirstState { state })
-        .expect(rt, "no states");
     FileContents {
         header: Header {
             format: 6,
             id: [7; 16],
             life: 0,
         },
-        types,
-        objects,
-        states,
+        types: texts_of(rt, &[text]),
+        objects: Vec::from_slice(alloc, lines).expect(rt, "no objects"),
+        states: states_at(rt, lines.len(), state),
         events: Vec::new(alloc),
     }
 }
 
-/// The lines of the two counters.
+/// The line of a counter in place.
+pub const IN_PLACE: ObjectLine = ObjectLine {
+    kind: Kind::Undo,
+    file: 0,
+    name: None,
+};
+
+/// The lines of two counters, of which the second is deferred.
 pub const TWO: [ObjectLine; 2] = [
-    ObjectLine {
-        kind: Kind::Undo,
-        file: 0,
-        name: None,
-    },
+    IN_PLACE,
     ObjectLine {
         kind: Kind::Intentions,
         file: 0,
@@ -70,11 +85,30 @@ pub trait NewTrees: Alter + Reopen {
     /// None yet.
     fn no_trees<R: Abort + AllocGlobal>(rt: &R) -> Self
         ensures { IsClean (Self.Store.view result) → IsTrue (Self.Store.view result).is_numbered };
+
+    /// The same trees, which are always listed by their numbers.
+    fn numbered(self) -> Self
+        ensures { IsTrue (Self.Store.view result).is_numbered };
 }
 
 impl NewTrees for MemStore {
     fn no_trees<R: Abort + AllocGlobal>(rt: &R) -> MemStore {
         MemStore::new(rt.alloc(), &[]).expect(rt, "no trees")
+    }
+
+    fn numbered(self) -> MemStore {
+        self
+    }
+}
+
+/// The trees of a new file, or none where it isn't made.
+pub fn made<S: Alter + Drop>(rt: &impl AllocGlobal, trees: S, said: &FileContents) -> Option<S>
+    requires { IsClean (S.Store.view trees) → IsTrue (S.Store.view trees).is_numbered }
+    ensures { IfSome result (λ it. IsClean (S.Store.view it) → IsTrue (S.Store.view it).is_numbered) }
+{
+    match Journal::create(rt.alloc(), trees, said) {
+        Ok(journal) => Some(journal.into_store()),
+        Err(_) => None,
     }
 }
 
@@ -83,36 +117,41 @@ pub fn created<S: Alter + Drop>(rt: &(impl Abort + AllocGlobal), trees: S, said:
     requires { IsClean (S.Store.view trees) → IsTrue (S.Store.view trees).is_numbered }
     ensures { IsClean (S.Store.view result) → IsTrue (S.Store.view result).is_numbered }
 {
-    let journal = Journal::create(rt.alloc(), trees, said).ok();
-    journal.expect(rt, "no file").into_store()
+    made(rt, trees, said).expect(rt, "no file")
 }
 
-/// A new store of the two counters, over new trees.
-pub fn new_store<S: NewTrees + Drop, R: Abort + AllocGlobal>(rt: &R) -> Durable<S>
-    ensures { IsDurable S.Store result }
-{
-    opened(rt, S::no_trees(rt))
-}
-
-/// A new store of the two counters.
-pub fn opened<S: Alter + Drop>(rt: &(impl Abort + AllocGlobal), trees: S) -> Durable<S>
+/// The store in the file in these trees, where one is opened; those are prepared.
+pub fn found<S: Alter + Drop>(
+    rt: &impl AllocGlobal,
+    trees: S,
+    prepared: &[u32],
+) -> Option<Durable<S>>
     requires { IsClean (S.Store.view trees) → IsTrue (S.Store.view trees).is_numbered }
-    ensures { IsDurable S.Store result }
+    ensures sound { IfSome result (λ store. IsDurable S.Store store) }
+    ensures shows { IfSome result (λ store. ShowsCommit S.Store store.journal) }
 {
-    let trees = created(rt, trees, &two_counters(rt));
-    let store = open(rt.alloc(), trees, &[]).ok();
-    store.expect(rt, "the file isn't opened")
-}
-
-/// The store in the file in these trees, where one is opened.
-pub fn found<S: Alter + Drop>(rt: &impl AllocGlobal, trees: S) -> Option<Durable<S>>
-    requires { IsClean (S.Store.view trees) → IsTrue (S.Store.view trees).is_numbered }
-    ensures { IfSome result (λ store. IsDurable S.Store store) }
-{
-    match open(rt.alloc(), trees, &[]) {
+    match open(rt.alloc(), trees, prepared) {
         Ok(store) => Some(store),
         Err(_) => None,
     }
+}
+
+/// A new store over new trees, whose file says this.
+pub fn new_store_of<S: NewTrees + Drop, R: Abort + AllocGlobal>(
+    rt: &R,
+    said: &FileContents,
+) -> Durable<S>
+    ensures { IsDurable S.Store result }
+{
+    let trees = created(rt, S::no_trees(rt), said);
+    found(rt, trees, &[]).expect(rt, "the file isn't opened")
+}
+
+/// A new store of the two counters.
+pub fn new_store<S: NewTrees + Drop, R: Abort + AllocGlobal>(rt: &R) -> Durable<S>
+    ensures { IsDurable S.Store result }
+{
+    new_store_of(rt, &two_counters(rt))
 }
 
 /// What is done to a store that stays the same.
@@ -125,6 +164,8 @@ pub enum Act {
     Commit(u32),
     /// This transaction takes its last operation back and aborts; to abort it once more is refused.
     Abort(u32),
+    /// This transaction, which is the next one, counts up at each object and commits.
+    Commits(u32),
     /// What was written is settled.
     Settle,
     /// The store has this many events, in this life.
@@ -138,11 +179,10 @@ pub fn does<S: Alter>(store: &mut Durable<S>, act: Act) -> Result<bool, JournalE
 {
     match act {
         Act::Begin(t) => Ok(store.begin()? == Ok(t)),
-        Act::Count(t, x) => {
-            Ok(store.call(t, x, b"inc:1")? == Ok(Answer::Reply(Operation::listed(0))))
-        }
+        Act::Count(t, x) => counts(store, t, x),
         Act::Commit(t) => Ok(store.commit(t)?.is_ok()),
         Act::Abort(t) => aborts(store, t),
+        Act::Commits(t) => commits(store, t),
         Act::Settle => {
             store.settle()?;
             Ok(true)
@@ -151,6 +191,14 @@ pub fn does<S: Alter>(store: &mut Durable<S>, act: Act) -> Result<bool, JournalE
             Ok((store.store().event_count() == events) & (store.life() == life))
         }
     }
+}
+
+/// The same of a count.
+fn counts<S: Alter>(store: &mut Durable<S>, t: u32, x: u32) -> Result<bool, JournalError>
+    requires { IsDurable S.Store store.old }
+    ensures { OnOk result (IsDurable S.Store store.new) }
+{
+    Ok(store.call(t, x, b"inc:1")? == Ok(Answer::Reply(Operation::listed(0))))
 }
 
 /// The same of an abort.
@@ -169,10 +217,9 @@ pub fn commits<S: Alter>(store: &mut Durable<S>, t: u32) -> Result<bool, Journal
     requires { IsDurable S.Store store.old }
     ensures { OnOk result (IsDurable S.Store store.new) }
 {
-    let begun = does(store, Act::Begin(t))?;
-    let one = does(store, Act::Count(t, 0))?;
-    let other = does(store, Act::Count(t, 1))?;
-    Ok(does(store, Act::Commit(t))? & begun & one & other)
+    let begun = store.begin()? == Ok(t);
+    let counted = counts(store, t, 0)? & counts(store, t, 1)?;
+    Ok(store.commit(t)?.is_ok() & begun & counted)
 }
 
 /// The machine stops, and the file is opened again.
@@ -186,35 +233,13 @@ pub fn restarted<S: Alter + Reopen + Drop>(
     restart(rt.alloc(), store).expect(rt, "nothing is found")
 }
 
-/// The file is opened again, where those are prepared.
-pub fn opened_but<S: Alter + Drop>(
-    rt: &(impl Abort + AllocGlobal),
-    store: Durable<S>,
-    prepared: &[u32],
-) -> Durable<S>
-    requires { IsDurable S.Store store }
-    ensures { IsDurable S.Store result }
-{
-    opened_of(rt, open(rt.alloc(), store.into_trees(), prepared))
-}
-
-/// The store that was opened.
-pub fn opened_of<S: Alter + Drop>(
-    rt: &impl Abort,
-    came: Result<Durable<S>, (OpenError, S)>,
-) -> Durable<S>
-    requires { IfOk came (IsDurable S.Store) }
-    ensures { IsDurable S.Store result }
-{
-    came.ok().expect(rt, "the file isn't opened")
-}
-
 /// That this many events came, and that both objects have this state; the store is let go.
 pub fn has<S: Alter + Drop>(rt: &impl Abort, store: Durable<S>, events: u32, state: u32) {
     let seen = store.store();
-    let told = (seen.event_count(), seen.kept(0), seen.kept(1));
+    let are_so = (seen.kept(0) == Some(state)) & (seen.kept(1) == Some(state));
+    let is_so = (seen.event_count() == events) & are_so;
     let _ = store.into_trees();
-    assert!(rt; told == (events, Some(state), Some(state)));
+    assert!(rt; is_so);
 }
 
 /// That so many events are found, and both objects in this state, where the machine stops at the moment of a settling
@@ -244,20 +269,4 @@ pub fn renewed<S: Alter + Drop>(
     let (store, told) = store.renew(rt.alloc());
     assert!(rt; told.expect(rt, "the file failed") == wanted);
     store
-}
-
-/// That the file of a store has no event, that both objects begin at this state, and which life it is.
-pub fn has_no_event<S: Alter + Drop>(
-    rt: &(impl Abort + AllocGlobal),
-    store: Durable<S>,
-    state: u32,
-    life: u32,
-)
-    requires { IsDurable S.Store store }
-{
-    let opened = Journal::open(rt.alloc(), store.into_trees()).ok();
-    let (_, said) = opened.expect(rt, "the file isn't opened");
-    let states = [FirstState { state }, FirstState { state }];
-    let is_at = said.states.as_slice() == states.as_slice();
-    assert!(rt; is_at & said.events.is_empty() & (said.header.life == life));
 }

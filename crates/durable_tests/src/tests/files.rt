@@ -4,9 +4,11 @@ ghost use Rattle.std.specs.Prelude.{IsTrue};
 ghost use Rattle.sqlite_trees.specs.View.{IsClean};
 ghost use Rattle.journal.specs.Journal.{IsJournal};
 
-use super::counters::{NewTrees, TWO, contents, created, has, two_counters};
+use super::counters::{
+    IN_PLACE, NewTrees, TWO, contents, created, found, has, texts_of, two_counters,
+};
 use durable_store::{OpenError, create, open};
-use journal::{Journal, JournalError, TypeText};
+use journal::{Journal, JournalError};
 use object_trait::EventKind;
 use sqlite_trees::memory::MemStore;
 use sqlite_trees::store::Alter;
@@ -22,11 +24,7 @@ const FAULTY: &str = "type counter\nend\n";
 
 /// Lines of which the second names a text that isn't there.
 const UNPLACED: [ObjectLine; 2] = [
-    ObjectLine {
-        kind: Kind::Undo,
-        file: 0,
-        name: None,
-    },
+    IN_PLACE,
     ObjectLine {
         kind: Kind::Undo,
         file: 1,
@@ -123,21 +121,6 @@ fn strays_are_told<S: NewTrees + Drop, R: Abort + AllocGlobal>(rt: &R) {
     assert!(rt; stray == Some(OpenError::NotMade(1)));
 }
 
-#[test]
-fn faults_are_told(rt: HostRuntime) {
-    are_opened::<MemStore, HostRuntime>(&rt);
-    strays_are_told::<MemStore, HostRuntime>(&rt);
-}
-
-/// One text.
-fn one_text(rt: &(impl Abort + AllocGlobal), text: &str) -> Vec<TypeText> {
-    let alloc = rt.alloc();
-    let mut texts = Vec::new(alloc);
-    let text = Vec::from_slice(alloc, text.as_bytes()).expect(rt, "no text");
-    texts.push(TypeText::new(text)).expect(rt, "no texts");
-    texts
-}
-
 /// Why no new file is made of one text and these lines. A file that is made is opened: its objects are at the initial
 /// states of their types, and nothing has happened.
 fn error_of_new<S: NewTrees + Drop, R: Abort + AllocGlobal>(
@@ -147,9 +130,15 @@ fn error_of_new<S: NewTrees + Drop, R: Abort + AllocGlobal>(
 ) -> Option<OpenError> {
     let alloc = rt.alloc();
     let lines = Vec::from_slice(alloc, lines).expect(rt, "no lines");
-    match create(alloc, S::no_trees(rt), [7; 16], one_text(rt, text), lines) {
+    match create(
+        alloc,
+        S::no_trees(rt),
+        [7; 16],
+        texts_of(rt, &[text]),
+        lines,
+    ) {
         Ok(trees) => {
-            let store = open(alloc, trees, &[]).ok();
+            let store = found(rt, trees, &[]);
             has(rt, store.expect(rt, "it isn't opened"), 0, 0);
             None
         }
@@ -157,21 +146,29 @@ fn error_of_new<S: NewTrees + Drop, R: Abort + AllocGlobal>(
     }
 }
 
-/// That a file is made of two counters, and none of a text with a fault, nor of an object that names none.
+/// A text, whether the objects name texts that are there, and why no new file is made of them, if none is.
+type NewFile = (&'static str, bool, Option<OpenError>);
+
+/// A file is made of two counters, and none of a text with a fault, nor of an object that names none.
+static NEW_FILES: [NewFile; 3] = [
+    (COUNTER, true, None),
+    (FAULTY, true, Some(OpenError::Text(0))),
+    (COUNTER, false, Some(OpenError::Untyped(1))),
+];
+
+/// That each new file is made, or why it isn't.
 fn are_made<S: NewTrees + Drop, R: Abort + AllocGlobal>(rt: &R) {
-    let rows = [
-        (COUNTER, TWO, None),
-        (FAULTY, TWO, Some(OpenError::Text(0))),
-        (COUNTER, UNPLACED, Some(OpenError::Untyped(1))),
-    ];
-    for (text, lines, error) in &rows {
-        assert!(rt; error_of_new::<S, R>(rt, text, lines) == *error);
+    for (text, are_placed, error) in &NEW_FILES {
+        let lines = if *are_placed { TWO } else { UNPLACED };
+        assert!(rt; error_of_new::<S, R>(rt, text, &lines) == *error);
     }
 }
 
 #[test]
-fn new_files_are_made(rt: HostRuntime) {
+fn faults_are_told(rt: HostRuntime) {
     are_made::<MemStore, HostRuntime>(&rt);
+    are_opened::<MemStore, HostRuntime>(&rt);
+    strays_are_told::<MemStore, HostRuntime>(&rt);
 }
 
 /// What each error says.
