@@ -5,11 +5,13 @@ mod calls;
 mod fault;
 mod line;
 mod number;
+mod one_call;
 mod reading;
 mod request;
 mod shapes;
 
 pub use fault::RequestFault;
+pub use one_call::call_asked;
 pub use reading::{LONGEST_LINE, calls_asked, file_words, objects_asked, read_line};
 pub use request::{Asked, AskedCall, ObjectWord, Request, TransactionName};
 

@@ -17,24 +17,30 @@ pub fn request_of(words: &[&[u8]]) -> Result<Request, RequestFault>
     ensures { result ≡ request_of (map (λ w. w.now) words.now) }
 {
     if is_verb(words, "begin") {
-        alone(words, Request::Begin)
-    } else if is_verb(words, "call") {
-        call_of(words)
-    } else if is_verb(words, "would") {
-        would_of(words)
-    } else if is_verb(words, "commit") {
-        commit_of(words)
-    } else if is_verb(words, "abort") {
-        abort_of(words)
-    } else if is_verb(words, "rollback") {
-        rollback_of(words)
-    } else if is_verb(words, "extend") {
-        extend_of(words)
-    } else if is_verb(words, "do") {
-        do_of(words)
-    } else {
-        question_of(words)
+        return alone(words, Request::Begin);
     }
+    if is_verb(words, "call") {
+        return call_of(words);
+    }
+    if is_verb(words, "would") {
+        return would_of(words);
+    }
+    if is_verb(words, "commit") {
+        return commit_of(words);
+    }
+    if is_verb(words, "abort") {
+        return abort_of(words);
+    }
+    if is_verb(words, "rollback") {
+        return rollback_of(words);
+    }
+    if is_verb(words, "extend") {
+        return extend_of(words);
+    }
+    if is_verb(words, "do") {
+        return do_of(words);
+    }
+    question_of(words)
 }
 
 /// The request of these words, where it changes nothing.

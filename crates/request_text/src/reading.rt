@@ -1,6 +1,6 @@
 //! A line is read.
 
-ghost use Rattle.std.specs.Prelude.{◌≡◌, map, IfOk, OnOk};
+ghost use Rattle.std.specs.Prelude.{◌≡◌, drop, map, IfOk};
 ghost use Rattle.std.specs.List.{list_all};
 ghost use Rattle.request_text.specs.Requests.{asked_by, behind_key, calls_asked, objects_asked, file_words, is_ascii, tagged_of, untagged, words_between};
 
@@ -42,10 +42,7 @@ pub fn file_words(alloc: Global, line: &[u8]) -> Result<Vec<&[u8]>, AllocError>
     ensures { IfOk result (λ words. map (λ w. w.now) words.items ≡ file_words line.now) }
 {
     let words = words_between(alloc, line)?;
-    match words.as_slice() {
-        [_tag, _verb, files @ ..] => Vec::from_slice(alloc, files),
-        _ => Ok(Vec::new(alloc)),
-    }
+    Vec::from_slice(alloc, behind_request(&words))
 }
 
 /// The calls behind the tag and the verb of a line, of `peek` and of `do`, where a key may stand before them.
@@ -56,8 +53,18 @@ pub fn file_words(alloc: Global, line: &[u8]) -> Result<Vec<&[u8]>, AllocError>
 pub fn calls_asked(alloc: Global, line: &[u8]) -> Result<Vec<AskedCall>, AllocError>
     ensures { IfOk result (λ calls. calls.items ≡ calls_asked line.now) }
 {
-    let words = file_words(alloc, line)?;
-    calls_said(alloc, behind_key(&words))
+    let words = words_between(alloc, line)?;
+    calls_said(alloc, behind_key(behind_request(&words)))
+}
+
+/// What comes behind the tag and the verb.
+fn behind_request<'a, 'b>(words: &'a [&'b [u8]]) -> &'a [&'b [u8]]
+    ensures { map (λ w. w.now) result.now ≡ drop 2 (map (λ w. w.now) words.now) }
+{
+    match words {
+        [_tag, _verb, words @ ..] => words,
+        _ => &[],
+    }
 }
 
 /// What comes behind a key, where one stands in front.
@@ -78,8 +85,8 @@ fn behind_key<'a, 'b>(words: &'a [&'b [u8]]) -> &'a [&'b [u8]]
 pub fn objects_asked(alloc: Global, line: &[u8]) -> Result<Vec<ObjectWord>, AllocError>
     ensures { IfOk result (λ objects. objects.items ≡ objects_asked line.now) }
 {
-    let words = file_words(alloc, line)?;
-    objects_said(alloc, &words)
+    let words = words_between(alloc, line)?;
+    objects_said(alloc, behind_request(&words))
 }
 
 /// What the words of a line ask.
