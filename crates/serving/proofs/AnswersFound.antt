@@ -21,7 +21,7 @@ use Rattle.request_text.specs.declared.fault.RequestFault.{RequestFault}
 use Rattle.request_text.specs.declared.request.Request.{Request}
 use Rattle.request_text.specs.declared.request.Request.TheVariants as request
 use Rattle.serving.specs.declared.answer_line.AnswerLine.{AnswerLine}
-use Rattle.serving.specs.declared.answer_line.AnswerLine.TheVariants.{Completed, Fault}
+use Rattle.serving.specs.declared.answer_line.AnswerLine.TheVariants.{Completed, CompletedOne, Fault}
 use Rattle.serving.specs.declared.answer_line.Answered.{Answered}
 use Rattle.serving.specs.AnswersFound.{AnswersAreFound, AnswersDone, IsIt, TransactionsAreFound, is_completed}
 use Rattle.serving.specs.Does.{is_epoch_full}
@@ -67,6 +67,7 @@ answers-found g b last seen rest half lines answers now asked survives line a la
 
 completed-lasts : (answer : AnswerLine) → is_completed answer ≡ true → is_lasting answer ≡ true
 completed-lasts (Completed replies) it = refl
+completed-lasts (CompletedOne reply) it = refl
 completed-lasts answer it = absurd cc
 
 ended-isnt : (life at : ℕ) (how : Ending) → is_completed (ended_answer life at how) ≡ false

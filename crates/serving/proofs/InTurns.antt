@@ -28,7 +28,7 @@ use Rattle.request_text.specs.declared.request.ObjectWord.{ObjectWord}
 use Rattle.request_text.specs.declared.request.Request.{Request}
 use Rattle.request_text.specs.declared.request.Request.TheVariants as request
 use Rattle.serving.specs.declared.answer_line.AnswerLine.{AnswerLine}
-use Rattle.serving.specs.declared.answer_line.AnswerLine.TheVariants.{Committed, Completed, Done, Events, Fault, NotAdded, Nothing, NothingSeen, Objects, Refused, Seen, SeenStates, State, Types, Unseen}
+use Rattle.serving.specs.declared.answer_line.AnswerLine.TheVariants.{Committed, Completed, CompletedOne, Done, Events, Fault, NotAdded, Nothing, NothingSeen, Objects, Refused, Seen, SeenStates, State, Types, Unseen}
 use Rattle.serving.specs.declared.answer_line.Answered.{Answered}
 use Rattle.serving.specs.declared.extension.Extension.{Extension}
 use Rattle.durable_store.specs.Keys.{op_of_object}
@@ -106,6 +106,7 @@ turn-states clean answer life lines old xs new does = absurd does
 
 turn-replies : (replies : List (Option (List ℕ))) (answer : AnswerLine) → TellsReplies replies answer → comes_late answer ≡ false
 turn-replies replies (Completed told) tells = refl
+turn-replies replies (CompletedOne told) tells = refl
 turn-replies replies Nothing tells = refl
 turn-replies replies answer tells = absurd tells
 

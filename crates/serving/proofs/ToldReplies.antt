@@ -28,3 +28,12 @@ pub told-step : (replies : List (Option (List ℕ))) (told : List (List ℕ)) (i
     → map Some (told ++ reply ∷ []) ≡ take (i + 1) replies
 told-step replies told i reply low so_far one =
     map-append Some told (reply ∷ []) ∙ ap₂ (λ xs x. xs ++ x ∷ []) so_far (sym one) ∙ sym (take_more replies i None low)
+
+-- of one call that has one operation
+pub one-reply : (s : Stored) (calls : List AttemptCall) (ks : List ℕ) (c : AttemptCall) (k : ℕ) → length calls ≡ 1 → length ks ≡ 1 → k ≡ get_or ks 0 k
+    → found_reply s (get_or calls 0 c).at (Some k) ∷ [] ≡ replies_of s (asked_calls calls) ks
+one-reply s [] ks c k one alone read = absurd (omega (arith, one))
+one-reply s (call ∷ calls) [] c k one alone read = absurd (omega (arith, alone))
+one-reply s (call ∷ []) (first ∷ []) c k one alone read = ap (λ n. found_reply s call.at (Some n) ∷ []) read
+one-reply s (call ∷ []) (first ∷ second ∷ ks) c k one alone read = absurd (omega (arith, alone))
+one-reply s (call ∷ next ∷ calls) (first ∷ ks) c k one alone read = absurd (omega (arith, one))

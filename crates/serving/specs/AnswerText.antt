@@ -19,7 +19,7 @@ use Rattle.serving.specs.declared.answer_line.AnswerLine.{AnswerLine}
 use Rattle.serving.specs.declared.answer_line.KeyRefusal.{KeyRefusal}
 use Rattle.serving.specs.declared.answer_line.KeyRefusal.TheVariants as key
 use Rattle.serving.specs.declared.answer_line.Moment.{Moment}
-use Rattle.serving.specs.declared.answer_line.AnswerLine.TheVariants.{Done, Committed, Begun, State, Reply, Busy, Draining, Nothing, Counts, Objects, Types, Events, Extended, Found, Seen, SeenStates, NothingSeen, Unseen, Completed, BusyAt, NothingAt, RefusedAt, Replied, KeyRefused, OutcomeIs, NotAdded, Waiting, Refused, Fault}
+use Rattle.serving.specs.declared.answer_line.AnswerLine.TheVariants.{Done, Committed, Begun, State, Reply, Busy, Draining, Nothing, Counts, Objects, Types, Events, Extended, Found, Seen, SeenStates, NothingSeen, Unseen, Completed, CompletedOne, BusyAt, NothingAt, RefusedAt, Replied, KeyRefused, OutcomeIs, NotAdded, Waiting, Refused, Fault}
 
 -- the tag, or `-` where a line has none
 abbrev pub tag_text : Option (List ℕ) → List ℕ
@@ -153,6 +153,7 @@ answer_text tag (SeenStates moment states) = seen_text (tag_text tag) moment ++ 
 answer_text tag (NothingSeen at) = place_text (tag_text tag) (codes " none ") at
 answer_text tag (Unseen refusal) = word_text (tag_text tag) (codes " refused ") (peek_refusal_name refusal)
 answer_text tag (Completed replies) = (tag_text tag ++ codes " done") ++ (flat_map after_space replies.items ++ (10 ∷ []))
+answer_text tag (CompletedOne reply) = word_text (tag_text tag) (codes " done ") reply
 answer_text tag (BusyAt at blocker) = busy_text (tag_text tag) at blocker
 answer_text tag (NothingAt at) = place_text (tag_text tag) (codes " none ") at
 answer_text tag (RefusedAt at refusal) = refused_text (tag_text tag) at (refusal_name refusal)

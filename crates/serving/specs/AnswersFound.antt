@@ -13,7 +13,7 @@ use Rattle.durable_store.specs.Durable.{kinds}
 use Rattle.request_text.specs.Requests.{asked_by, calls_asked}
 use Rattle.request_text.specs.declared.request.Request.TheVariants as request
 use Rattle.serving.specs.declared.answer_line.AnswerLine.{AnswerLine}
-use Rattle.serving.specs.declared.answer_line.AnswerLine.TheVariants.{Completed}
+use Rattle.serving.specs.declared.answer_line.AnswerLine.TheVariants.{Completed, CompletedOne}
 use Rattle.serving.specs.declared.answer_line.Answered.{Answered}
 use Rattle.serving.specs.declared.extension.Extension.{Extension}
 use Rattle.serving.specs.Archives.{life_in}
@@ -62,6 +62,7 @@ AnswersAreFound g b last lines answers now =
 
 abbrev pub is_completed : AnswerLine → Bool
 is_completed (Completed replies) = true
+is_completed (CompletedOne reply) = true
 is_completed answer = false
 
 -- a line asks for a whole transaction, and is answered that it is done

@@ -18,7 +18,7 @@ use Rattle.request_text.specs.declared.request.AskedCall.{AskedCall}
 use Rattle.request_text.specs.declared.request.ObjectWord.{ObjectWord}
 use Rattle.serving.specs.declared.answer_line.AnswerLine.{AnswerLine}
 use Rattle.serving.specs.declared.answer_line.Moment.{Moment}
-use Rattle.serving.specs.declared.answer_line.AnswerLine.TheVariants.{Draining, Seen, SeenStates, NothingSeen, Unseen, Completed, BusyAt, NothingAt, RefusedAt, Refused, Nothing}
+use Rattle.serving.specs.declared.answer_line.AnswerLine.TheVariants.{Draining, Seen, SeenStates, NothingSeen, Unseen, Completed, CompletedOne, BusyAt, NothingAt, RefusedAt, Refused, Nothing}
 use Rattle.durable_store.specs.Keys.{op_of_object}
 use Rattle.serving.specs.Does.{is_epoch_full, named}
 use Rattle.serving.specs.Means.{Means}
@@ -104,6 +104,7 @@ ended_answer life at (ending.Refused refusal) = RefusedAt at refusal
 -- of one that is done the replies are told
 abbrev pub TellsReplies : List (Option (List ℕ)) → AnswerLine → Type 0
 TellsReplies replies (Completed told) = map Some told.items ≡ replies
+TellsReplies replies (CompletedOne told) = Some told ∷ [] ≡ replies
 TellsReplies replies Nothing = Contains replies None
 TellsReplies replies answer = ⊥
 

@@ -4,7 +4,7 @@ use Rattle.std.specs.Fmt.{decimal}
 use Rattle.std.specs.List.{flat_map, list_any}
 use Rattle.std.specs.Io.KnownBytes.{Appends}
 use Rattle.serving.specs.declared.answer_line.AnswerLine.{AnswerLine}
-use Rattle.serving.specs.declared.answer_line.AnswerLine.TheVariants.{Committed, Extended, Seen, SeenStates, NothingSeen, Completed, Replied, KeyRefused, OutcomeIs}
+use Rattle.serving.specs.declared.answer_line.AnswerLine.TheVariants.{Committed, Extended, Seen, SeenStates, NothingSeen, Completed, CompletedOne, Replied, KeyRefused, OutcomeIs}
 use Rattle.serving.specs.declared.answer_line.Answered.{Answered}
 use Rattle.serving.specs.AnswerText.{answer_text, pieces_text}
 
@@ -16,6 +16,7 @@ is_lasting (Seen moment replies) = true
 is_lasting (SeenStates moment states) = true
 is_lasting (NothingSeen at) = true
 is_lasting (Completed replies) = true
+is_lasting (CompletedOne reply) = true
 is_lasting (Replied replies) = true
 is_lasting (KeyRefused why) = true
 is_lasting (OutcomeIs found) = true

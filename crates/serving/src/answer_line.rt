@@ -52,6 +52,8 @@ pub enum AnswerLine {
     Unseen { refusal: PeekRefusal },
     /// The replies of the calls of a whole transaction, which is answered only once it is durable.
     Completed { replies: Vec<Name> },
+    /// The same of one that has one call: its reply.
+    CompletedOne { reply: Name },
     /// The call at this place ended a whole transaction: each of its legal operations conflicts, as `Busy` says.
     BusyAt { at: usize, blocker: TransactionName },
     /// No operation of the call at this place is legal, which ended one.
@@ -112,6 +114,7 @@ pub(crate) fn is_lasting(answer: &AnswerLine) -> bool
             | AnswerLine::SeenStates { .. }
             | AnswerLine::NothingSeen { .. }
             | AnswerLine::Completed { .. }
+            | AnswerLine::CompletedOne { .. }
             | AnswerLine::Replied { .. }
             | AnswerLine::KeyRefused { .. }
             | AnswerLine::OutcomeIs { .. }

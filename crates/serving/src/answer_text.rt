@@ -52,6 +52,9 @@ pub fn write_answer<W: Out>(
         AnswerLine::Seen { moment, replies } => put_seen(out, tag, *moment, replies),
         AnswerLine::SeenStates { moment, states } => put_states(out, tag, *moment, states),
         AnswerLine::Completed { replies } => put_completed(out, tag, replies),
+        AnswerLine::CompletedOne { reply } => {
+            put_all(out, &[tag, b" done ", reply.as_bytes(), b"\n"])
+        }
         AnswerLine::NothingSeen { at } | AnswerLine::NothingAt { at } => {
             put_place(out, tag, b" none ", *at)
         }

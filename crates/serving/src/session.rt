@@ -190,10 +190,7 @@ impl<S: Alter> Session<S> {
                 let objects = objects_asked(alloc, line)?;
                 self.committed(alloc, &objects)
             }
-            Request::Do => {
-                let calls = calls_asked(alloc, line)?;
-                self.attempt(alloc, &calls)
-            }
+            Request::Do => self.do_calls(alloc, line),
             Request::DoUnder { key } => {
                 let calls = calls_asked(alloc, line)?;
                 self.attempt_under(alloc, &calls, key)

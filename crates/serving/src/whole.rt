@@ -1,13 +1,16 @@
 //! A whole transaction, asked for by one line.
 
-ghost use Rattle.std.specs.Prelude.{◌≡◌, IfOk, OnOk};
+ghost use Rattle.std.specs.Prelude.{◌≡◌, List, [], ◌∷◌, false, Some, IfOk, OnOk};
 ghost use Rattle.journal.specs.Journal.{Clean, written};
 ghost use Rattle.durable_store.specs.Durable.{IsDurable};
-ghost use Rattle.attempts.specs.Commands.{asked_calls};
+ghost use Rattle.attempts.specs.Commands.{asked_call, asked_calls};
+ghost use Rattle.request_text.specs.Requests.{calls_asked};
+ghost use Rattle.request_text.specs.declared.request.AskedCall.{AskedCall as Asked};
+ghost use Rattle.serving.specs.Does.{is_epoch_full};
 ghost use Rattle.serving.specs.Follows.{LeavesWritten};
 ghost use Rattle.serving.specs.NextEpoch.{limit_while};
 ghost use Rattle.serving.specs.Server.{KeepsAll, StaysInEpoch};
-ghost use Rattle.serving.specs.Several.{DoesDo, InTurn, IsCallAt, TellsAttempt, TellsReplies, ended_answer, replies_of};
+ghost use Rattle.serving.specs.Several.{DoesDo, InTurn, IsCallAt, TellsAttempt, TellsReplies, ended_answer, found_reply, replies_of};
 
 use crate::answer_line::AnswerLine;
 use crate::reads::found_reply;
@@ -15,13 +18,39 @@ use crate::session::{Session, is_full};
 use attempts::{Attempt, AttemptCall, Ending};
 use journal::JournalError;
 use objects::Object;
-use request_text::{AskedCall, TransactionName};
+use request_text::{AskedCall, TransactionName, call_asked, calls_asked};
 use sqlite_trees::store::Alter;
 use std::alloc::{AllocError, Global};
 use store::Store;
 use type_table::Operation;
 
 impl<S: Alter> Session<S> {
+    /// Does the whole transaction that a line asks for.
+    ///
+    /// # Errors
+    ///
+    /// As `ask`.
+    pub(crate) fn do_calls(
+        &mut self,
+        alloc: Global,
+        line: &[u8],
+    ) -> Result<AnswerLine, JournalError>
+        requires { IsDurable S.Store self.old.store }
+        ensures does { IfOk result (λ a. DoesDo (Clean S.Store self.new.store.journal) (limit_while self.old.waiting self.old.most_events) self.old.life (written S.Store self.old.store.journal).objects self.old.store.store (calls_asked line.now) a self.new.store.store) }
+        ensures keyless { OnOk result (KeepsAll S.Store self.old.store self.new.store) }
+        ensures stays_in_epoch { OnOk result (StaysInEpoch S.Store self.old self.new) }
+        ensures waits { self.new.waiting ≡ self.old.waiting }
+        ensures clean { Clean S.Store self.new.store.journal → Clean S.Store self.old.store.journal }
+        ensures crash { LeavesWritten S.Store self.old.store self.new.store }
+    {
+        // one call alone needs no memory
+        if let Some(call) = call_asked(line) {
+            return self.attempt(alloc, &[call]);
+        }
+        let calls = calls_asked(alloc, line)?;
+        self.attempt(alloc, &calls)
+    }
+
     /// Does a whole transaction of these calls, but for an epoch that is full. That it is done is to be answered only once it
     /// is settled.
     ///
@@ -45,10 +74,48 @@ impl<S: Alter> Session<S> {
         if is_full(self.store.store(), limit) {
             return Ok(AnswerLine::Draining);
         }
+        if let [call] = calls {
+            let made = self.call_at(call);
+            return self.attempt_at(alloc, &[made]);
+        }
         let made = self.calls_at(alloc, calls)?;
-        let came = self.store.attempt(alloc, &made)?;
-        let answer = attempt_answer(alloc, self.store.store(), self.life, &made, &came)?;
+        self.attempt_at(alloc, &made)
+    }
+
+    /// Does a whole transaction of these calls, in an epoch that isn't full.
+    ///
+    /// # Errors
+    ///
+    /// As `ask`.
+    fn attempt_at(
+        &mut self,
+        alloc: Global,
+        calls: &[AttemptCall],
+    ) -> Result<AnswerLine, JournalError>
+        requires { IsDurable S.Store self.old.store }
+        ensures does { IfOk result (λ a. (asked : List Asked) → InTurn (IsCallAt (Clean S.Store self.old.store.journal) (written S.Store self.old.store.journal).objects) asked (asked_calls calls.now)
+            → is_epoch_full (limit_while self.old.waiting self.old.most_events) self.old.store.store ≡ false
+            → DoesDo (Clean S.Store self.new.store.journal) (limit_while self.old.waiting self.old.most_events) self.old.life (written S.Store self.old.store.journal).objects self.old.store.store asked a self.new.store.store) }
+        ensures keyless { OnOk result (KeepsAll S.Store self.old.store self.new.store) }
+        ensures stays_in_epoch { OnOk result (StaysInEpoch S.Store self.old self.new) }
+        ensures waits { self.new.waiting ≡ self.old.waiting }
+        ensures clean { Clean S.Store self.new.store.journal → Clean S.Store self.old.store.journal }
+        ensures crash { LeavesWritten S.Store self.old.store self.new.store }
+    {
+        let came = self.store.attempt(alloc, calls)?;
+        let answer = attempt_answer(alloc, self.store.store(), self.life, calls, &came)?;
         Ok(answer)
+    }
+
+    /// This call at the object that its word says.
+    fn call_at<'a>(&self, call: &'a AskedCall) -> AttemptCall<'a>
+        requires { IsDurable S.Store self.now.store }
+        ensures { IsCallAt (Clean S.Store self.now.store.journal) (written S.Store self.now.store.journal).objects call.now (asked_call result) }
+    {
+        AttemptCall {
+            at: self.number_of(call.x),
+            name: call.call.as_bytes(),
+        }
     }
 
     /// These calls at the objects that their words say.
@@ -90,9 +157,40 @@ fn attempt_answer(
     ensures { IfOk result (λ a. TellsAttempt store.now life (asked_calls calls.now) came.now a) }
 {
     match came {
-        Attempt::Done(operations) => replies_answer(alloc, store, calls, operations),
+        Attempt::Done(operations) => done_answer(alloc, store, calls, operations),
         Attempt::Ended { at, how } => Ok(ended_answer(life, *at, *how)),
         Attempt::NotBegun(refusal) => Ok(AnswerLine::Refused { refusal: *refusal }),
+    }
+}
+
+/// The replies of these operations, one for each call: of one alone it needs no memory.
+///
+/// # Errors
+///
+/// Memory was refused.
+fn done_answer(
+    alloc: Global,
+    store: &Store<Object>,
+    calls: &[AttemptCall],
+    operations: &[Operation],
+) -> Result<AnswerLine, AllocError>
+    ensures { IfOk result (λ a. TellsReplies (replies_of store.now (asked_calls calls.now) operations.now) a) }
+{
+    if let [call] = calls
+        && let [k] = operations
+    {
+        return Ok(reply_answer(store, call.at, *k));
+    }
+    replies_answer(alloc, store, calls, operations)
+}
+
+/// The reply of an operation at x.
+fn reply_answer(store: &Store<Object>, x: u32, k: Operation) -> AnswerLine
+    ensures { TellsReplies (found_reply store.now x (Some k) ∷ []) result }
+{
+    match found_reply(store, x, Some(k)) {
+        Some(reply) => AnswerLine::CompletedOne { reply },
+        None => AnswerLine::Nothing,
     }
 }
 
