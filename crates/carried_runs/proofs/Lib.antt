@@ -10,6 +10,7 @@ pub mod Telling
 pub mod Ordering
 pub mod Showing
 pub mod Renewing
+pub mod FirstEvents
 pub mod Repeating
 pub mod Opened
 pub mod Naming

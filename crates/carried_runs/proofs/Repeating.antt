@@ -32,7 +32,7 @@ object-there ms x m there =
     slice_get-map object_of (map (λ (k : Meaning). k.checked) ms) x ∙ ap (option_map object_of) (slice_get-map (λ (k : Meaning). k.checked) ms x ∙ ap (option_map (λ (k : Meaning). k.checked)) there)
 
 -- where the machine may do something there is such a meaning
-meaning-there : (ms : List Meaning) (s : Summary) (x t k : ℕ) → MayDo (slice_get (objects_meant ms) x) s x t k → (m : Meaning) × (slice_get ms x ≡ Some m)
+pub meaning-there : (ms : List Meaning) (s : Summary) (x t k : ℕ) → MayDo (slice_get (objects_meant ms) x) s x t k → (m : Meaning) × (slice_get ms x ≡ Some m)
 meaning-there ms s x t k may = found (slice_get (objects_meant ms) x) refl may
   where
     found : (o : Option Object) → slice_get (objects_meant ms) x ≡ o → MayDo o s x t k → (m : Meaning) × (slice_get ms x ≡ Some m)

@@ -56,9 +56,12 @@ shows-again worker P before W (e ∷ U) is =
     ∙ ap (λ V. record { begun = length P; committed = []; aborted = []; survives = V }) (sym (map-append (renumbered P) W (e ∷ []))))
     ∙ ap (carried_summary P) (append_assoc W (e ∷ []) U)
 
+-- in each order
+shows-carried : (worker : ℕ → ℕ) (P : List ℕ) (U : List Entry) → summary (carried_by worker P U) ≡ carried_summary P U
+shows-carried worker P U = shows-again worker P (begins_from worker 0 P) [] U (shows-begins worker [] 0 P refl ∙ ap begun (omega arith))
+
 pub carried-summary : (H : List Event) (worker : ℕ → ℕ) (P : List ℕ) → summary (carried_run worker P H) ≡ carried_summary P (of_these P (surviving H))
-carried-summary H worker P =
-    shows-again worker P (begins_from worker 0 P) [] (of_these P (surviving H)) (shows-begins worker [] 0 P refl ∙ ap begun (omega arith))
+carried-summary H worker P = shows-carried worker P (of_these P (surviving H))
 
 -- ---- what is seen
 
@@ -143,6 +146,14 @@ as_many_open : (P : List ℕ) (H : List Event) → AreOpenOnce P H → length P 
 as_many_open P H once =
     no-more_than P (range_with_len 0 (summary H).begun) (is_open (summary H)) once.apart
     (each-weaker (λ t is. (is, in-range 0 (summary H).begun t (omega arith) (let low = (of_open (summary H) t is).began in omega (arith, low)))) P once.are_open)
+
+-- and no more are open in the next epoch than are carried
+pub carried-open : (worker : ℕ → ℕ) (P : List ℕ) (U : List Entry) → open_count (summary (carried_by worker P U)) ≤ length P
+carried-open worker P U =
+    let few = filter-length (is_open (carried_summary P U)) (range_with_len 0 (length P)) in
+    let range : length (range_with_len 0 (length P)) ≡ length P = length-range_with_len 0 (length P) in
+    let same : open_count (summary (carried_by worker P U)) ≡ open_count (carried_summary P U) = ap open_count (shows-carried worker P U) in
+    omega (arith, few, range, same)
 
 -- transactions that began and operations that survive are no more than events
 abbrev weight : Summary → ℕ

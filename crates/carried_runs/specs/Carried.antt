@@ -53,6 +53,10 @@ begins_from worker n (t ∷ P) = (record { worker = worker t; kind = Begin n }) 
 abbrev pub done_again : (ℕ → ℕ) → List ℕ → Entry → Event
 done_again worker P e = record { worker = worker e.by; kind = Op e.op (number_in P e.by) e.at }
 
+-- what the log of the object at x tells of them, done again
+abbrev pub again_at : ℕ → (ℕ → ℕ) → List ℕ → List LogEntry → List Event
+again_at x worker P log = map (done_again worker P) (map (plain x) (filter (is_carried P) log))
+
 -- the first events of the next epoch, where these operations are done again
 abbrev pub carried_by : (ℕ → ℕ) → List ℕ → List Entry → List Event
 carried_by worker P U = begins_from worker 0 P ++ map (done_again worker P) U

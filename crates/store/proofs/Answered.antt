@@ -221,7 +221,7 @@ answer-last H K after w t x y c a happened appends same is here =
     ∙ ap (λ k. H ++ (record { worker = w; kind = k }) ∷ []) (is ∙ ap (λ z. as_event t z c a) here)
 
 -- which is what its event does
-answer-moved : QuietMoves → OpMoves → (ms now : List Meaning) (rows left : List (Option Row)) (H : List Event) (w t x c : ℕ) (a : Answer)
+pub answer-moved : QuietMoves → OpMoves → (ms now : List Meaning) (rows left : List (Option Row)) (H : List Event) (w t x c : ℕ) (a : Answer)
     → IsKept (keeping ms rows) H → table.has_row rows t ≡ true → ExecutesAnswer a t x ms now rows left
     → Moves (keeping ms rows) (keeping now left) H (record { worker = w; kind = as_event t x c a })
 answer-moved quiet op ms now rows left H w t x c (answer.Reply k) kept going done =
@@ -246,7 +246,7 @@ module _ (quiet : QuietMoves) (op : OpMoves) (types : TypesStay) (ms now : List 
       let limited = room-left H limits free in
       event-whole stays room_after types ms now calls rows left H after (record { worker = w; kind = as_event t x c a }) room more limits whole may
       (answer-moved quiet op ms now rows left H w t x c a kept going done) appended (omega (arith, limited, fits))
-      (omega (arith, reserved, counts, exact, takes_one)) (omega (arith, limited, takes_one))
+      (omega (arith, reserved, counts, exact, takes_one)) (omega (arith, limited, takes_one)) (omega (arith, whole.few_open, takes_one))
 
   -- what comes of it
   pub answer-comes : (limits : Limits) (forgotten : ℕ) (s : Stored) → shown (keeping ms rows) H limits forgotten ≡ s → is_history_full limits H 1 ≡ false

@@ -110,5 +110,6 @@ new-whole is_kept greatest ms calls rows H capacity limits places may checked kn
     (record {
       store = record { kept = kept; reserved = omega arith; limited = omega arith };
       within = record { few = may.few; numbered = are.numbered; slotted = are.slotted; placed = placed };
+      few_open = omega arith;
       known = known;
     })

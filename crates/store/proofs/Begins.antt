@@ -75,12 +75,12 @@ module _ (moves : BeginMoves) (ms : List Meaning) (rows now : List (Option Row))
 
   -- the store stays whole
   pub begin-whole : StaysKept → RoomAfter → TypesStay → RowsAreCounted → (calls : List (List NamedCall)) (opened room more : ℕ) (limits : Limits) {places : ℕ} → IsWholeStore ms calls rows H room limits places
-      → opened ≡ count_open rows → limits.events ≤ 4294967295 → length H + opened + 2 ≤ more → length H + opened + 2 ≤ limits.events → IsWholeStore ms calls now after more limits places
-  begin-whole stays room_after types counted calls opened room more limits whole counts fits reserved limited =
+      → opened ≡ count_open rows → limits.events ≤ 4294967295 → length H + opened + 2 ≤ more → length H + opened + 2 ≤ limits.events → opened < limits.«open» → IsWholeStore ms calls now after more limits places
+  begin-whole stays room_after types counted calls opened room more limits whole counts fits reserved limited few =
       let same : opened ≡ open_count (summary H) = counts ∙ sym (counted (keeping ms rows) H kept) in
       event-whole stays room_after types ms ms calls rows now H after (record { worker = w; kind = Begin t }) room more limits whole begin-number
       begin-moved appended (omega (arith, fits, limited)) (subst (λ n. length H + n + 2 ≤ more) same reserved)
-      (subst (λ n. length H + n + 2 ≤ limits.events) same limited)
+      (subst (λ n. length H + n + 2 ≤ limits.events) same limited) (omega (arith, same, few))
 
   -- and callers see the event
   pub begin-shown : TypesStay → (limits : Limits) (forgotten : ℕ) (s : Stored) → shown (keeping ms rows) H limits forgotten ≡ s → refusal (objects_of ms) limits H command.Begin ≡ None

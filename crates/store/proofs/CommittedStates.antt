@@ -57,24 +57,30 @@ fits-at states x s have is = subst (λ n. n < 2 ^ 32) (get_or_from_slice_get sta
 
 -- ---- a store
 
-module _ (covers : CheckedIsCovered) (there_is : CommittedIsThere) (agrees : CommittedAgrees) (ms : List Meaning) (rows : List (Option Row)) (H : List Event) (limits : Limits)
-    (forgotten : ℕ) (kept : IsKept (keeping ms rows) H) (s : Stored) (same : shown (keeping ms rows) H limits forgotten ≡ s) where
+module _ (covers : CheckedIsCovered) (ms : List Meaning) (rows : List (Option Row)) (H : List Event) (kept : IsKept (keeping ms rows) H) where
   -- the checker said yes for the type of each object
-  covered : AreCovered (objects_of ms)
+  pub covered : AreCovered (objects_of ms)
   covered x o there =
       let type = found-map object_of (types_of ms) x o there in
       let its = found-map (λ (m : Meaning). m.checked) ms x type.0 type.1 in
       subst IsCovered (ap object_of its.2 ∙ type.2) (covers its.0.checked (kept.objects x its.0 its.1).checked).0
 
   -- what an object has is its committed state
+  pub is-committed : CommittedIsThere → (x state : ℕ) (m : Meaning) → slice_get ms x ≡ Some m → committed_of m ≡ Some state → IsCommitted (object m) state x H
+  is-committed there_is x state m there is =
+      let its = kept.objects x m there in
+      let found = there_is (objects_of ms) H x m covered kept.run (object-at ms x m there) its.represents its.sound in
+      subst (λ n. IsCommitted (object m) n x H) (same_Some found.0 state (sym found.1 ∙ is)) found.2
+
+module _ (covers : CheckedIsCovered) (there_is : CommittedIsThere) (agrees : CommittedAgrees) (ms : List Meaning) (rows : List (Option Row)) (H : List Event) (limits : Limits)
+    (forgotten : ℕ) (kept : IsKept (keeping ms rows) H) (s : Stored) (same : shown (keeping ms rows) H limits forgotten ≡ s) where
+  -- as callers see it
   pub committed-shown : (x state : ℕ) (m : Meaning) → slice_get ms x ≡ Some m → committed_of m ≡ Some state → state < 2 ^ 32 → IsCommittedState s x state
   committed-shown x state m there is fits =
       let at = object-at ms x m there in
-      let its = kept.objects x m there in
-      let found = there_is (objects_of ms) H x m covered kept.run at its.represents its.sound in
-      let left : IsCommitted (object m) state x H = subst (λ n. IsCommitted (object m) n x H) (same_Some found.0 state (sym found.1 ∙ is)) found.2 in
+      let left = is-committed covers ms rows H kept there_is x state m there is in
       subst (λ (z : Stored). IsCommittedState z x state) same
-      (record { o = object m; there = at; committed = left; agrees = agrees (objects_of ms) H x (object m) state covered kept.run at left; fits = fits })
+      (record { o = object m; there = at; committed = left; agrees = agrees (objects_of ms) H x (object m) state (covered covers ms rows H kept) kept.run at left; fits = fits })
 
   -- so the object at a place is known
   pub object-known : (x : ℕ) (m : Meaning) → slice_get ms x ≡ Some m → IsObjectAt s x m

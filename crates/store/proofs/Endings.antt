@@ -86,7 +86,7 @@ module _ (how : End) (moves : EndMoves) (says : RowsSayWhoIsOpen) (ms ms_now : L
       event-whole stays room_after types ms ms_now calls rows now H after (record { worker = w; kind = end_event how t }) room more limits whole
       (end-may how (objects_of ms) H w t opened) end-moved appended (omega (arith, low, fits))
       (subst (λ n. length H + open_count (summary H) + n ≤ more) (sym free) (omega (arith, reserved, grown)))
-      (subst (λ n. length H + open_count (summary H) + n ≤ limits.events) (sym free) (omega (arith, limited)))
+      (subst (λ n. length H + open_count (summary H) + n ≤ limits.events) (sym free) (omega (arith, limited))) (omega (arith, whole.few_open, free))
 
   -- and callers see the event
   pub end-shown : TypesStay → (T : Type 0) (x : T) (limits : Limits) (forgotten : ℕ) (s : Stored) → shown (keeping ms rows) H limits forgotten ≡ s

@@ -20,9 +20,15 @@ pub mod Commits
 pub mod OpCalls
 pub mod OneAnswer
 pub mod Renewals
+pub mod Ascending
+pub mod CarriedEpochs
+pub mod DoneAgain
 pub mod SerialRenewals
 pub mod Follows
 pub mod FollowedOps
 pub mod Unreplied
 pub mod Replays
 pub mod OwnHistories
+pub mod Retraced
+pub mod Admitted
+pub mod TracedAgain

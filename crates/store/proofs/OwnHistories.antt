@@ -55,7 +55,7 @@ asked-followed s memory_refused commands = replayed-own s memory_refused 0 [] co
 -- ---- the aborts of what is open
 
 -- the abort of an open transaction is made
-abort-made : (s : Stored) (H : List Event) (e : Event) (t : ℕ) → e.kind ≡ Abort t → is_open (summary H) t ≡ true → IsMade (with_events (at_beginning s) H) e
+pub abort-made : (s : Stored) (H : List Event) (e : Event) (t : ℕ) → e.kind ≡ Abort t → is_open (summary H) t ≡ true → IsMade (with_events (at_beginning s) H) e
 abort-made s H e t is going =
     record {
       command = command.Abort t;

@@ -61,6 +61,7 @@ same-whole ms calls rows H after room more limits places whole same wider =
     subst (λ J. IsWholeStore ms calls rows J more limits places) (sym same) (record {
       store = record { kept = whole.store.kept; reserved = omega (arith, whole.store.reserved, wider); limited = whole.store.limited };
       within = whole.within;
+      few_open = whole.few_open;
       known = whole.known;
     })
 

@@ -139,7 +139,7 @@ module _ (moves : RollbackMoves) (ms ms_now : List Meaning) (rows now : List (Op
   rollback-whole stays room_after types counted may calls opened room more limits whole counts fits reserved limited =
       let same : opened ≡ open_count (summary H) = counts ∙ sym (counted (keeping ms rows) H kept) in
       event-whole stays room_after types ms ms_now calls rows now H after (record { worker = w; kind = Rollback t n }) room more limits whole may
-      rollback-moved appended (omega (arith, limited, fits)) (subst (λ m. length H + m + 1 ≤ more) same reserved) (subst (λ m. length H + m + 1 ≤ limits.events) same limited)
+      rollback-moved appended (omega (arith, limited, fits)) (subst (λ m. length H + m + 1 ≤ more) same reserved) (subst (λ m. length H + m + 1 ≤ limits.events) same limited) (omega (arith, whole.few_open))
 
   -- and callers see the event
   pub rollback-shown : TypesStay → (T : Type 0) (x : T) (limits : Limits) (forgotten : ℕ) (s : Stored) → shown (keeping ms rows) H limits forgotten ≡ s

@@ -1,7 +1,7 @@
 -- What a store keeps, and shows to its callers, after a call.
 use Rattle.store_limits.specs.declared.limits.Limits.{Limits}
-use Rattle.std.proofs.Common.{◌≡◌, ℕ, ◌+◌, ◌<◌, ◌≤◌, List, [], ◌∷◌, ◌++◌, length, Option, Some, None, Ok, Err, sym, ap, subst, ◌∙◌}
-use Rattle.std.proofs.lemmas.List.{length-map}
+use Rattle.std.proofs.Common.{◌≡◌, ℕ, ◌+◌, ◌<◌, ◌≤◌, List, [], ◌∷◌, ◌++◌, length, Option, Some, None, Ok, Err, sym, ap, subst, ◌∙◌, arith}
+use Rattle.std.proofs.lemmas.List.{length-append, length-map}
 use Rattle.table_checker.specs.Checked.{Checked}
 use Rattle.object_trait.specs.declared.event.Event.{Event}
 use Rattle.object_trait.specs.declared.event.EventKind.{EventKind}
@@ -12,7 +12,7 @@ use Rattle.serial_order.specs.declared.command.Command.{Command}
 use Rattle.serial_order.specs.declared.refusal.Refusal.{Refusal}
 use Rattle.serial_order.specs.declared.refusal.Refusal.TheVariants.{NoMemory}
 use Rattle.store_laws.specs.Stored.{Stored, types_of, Steps, MayStep}
-use Rattle.store_laws.specs.Kept.{Keeping, keeping, objects_of, IsStore}
+use Rattle.store_laws.specs.Kept.{Keeping, keeping, objects_of, IsKept, IsStore}
 use Rattle.store_laws.specs.Moves.{Moves, StaysKept}
 use Rattle.store_laws.specs.Events.{room_taken, TypesStay, RoomAfter}
 use Rattle.open_transactions.specs.Transactions.{Row}
@@ -68,16 +68,23 @@ event-store stays room_after old new H after e room more limits store may moves 
       limited = subst (λ n. n ≤ limits.events) (sym longer) limited;
     })
 
+-- one that begins none leaves no more open
+open-after : RoomAfter → (old : Keeping) (H : List Event) (e : Event) (limits : Limits) → IsKept old H → MayFollow (objects_of old.meanings) H e
+    → open_count (summary H) + room_taken e.kind ≤ limits.«open» + 1 → open_count (summary (H ++ e ∷ [])) ≤ limits.«open»
+open-after room_after old H e limits kept may few = omega (arith, room_after (objects_of old.meanings) H e kept.run may, few, length-append H (e ∷ []))
+
 -- and so for all parts of a store
 pub event-whole : StaysKept → RoomAfter → TypesStay → (ms now : List Meaning) (calls : List (List NamedCall)) (rows left : List (Option Row))
     (H after : List Event) (e : Event) (room more : ℕ) (limits : Limits) {places : ℕ} → IsWholeStore ms calls rows H room limits places → MayFollow (objects_of ms) H e
     → Moves (keeping ms rows) (keeping now left) H e → after ≡ H ++ e ∷ [] → length H < 4294967295
-    → length H + open_count (summary H) + room_taken e.kind ≤ more → length H + open_count (summary H) + room_taken e.kind ≤ limits.events → IsWholeStore now calls left after more limits places
-event-whole stays room_after types ms now calls rows left H after e room more limits {places} whole may moves appended short reserved limited =
+    → length H + open_count (summary H) + room_taken e.kind ≤ more → length H + open_count (summary H) + room_taken e.kind ≤ limits.events
+    → open_count (summary H) + room_taken e.kind ≤ limits.«open» + 1 → IsWholeStore now calls left after more limits places
+event-whole stays room_after types ms now calls rows left H after e room more limits {places} whole may moves appended short reserved limited few =
     let same : types_of now ≡ types_of ms = types (keeping ms rows) (keeping now left) H e moves in
     let as_many : length now ≡ length ms = sym (length-map now (λ m. m.checked)) ∙ ap length same ∙ length-map ms (λ m. m.checked) in
     record {
       store = event-store stays room_after (keeping ms rows) (keeping now left) H after e room more limits whole.store may moves appended short reserved limited;
       within = subst (λ n. IsLimited n limits places) (sym as_many) whole.within;
+      few_open = subst (λ K. open_count (summary K) ≤ limits.«open») (sym appended) (open-after room_after (keeping ms rows) H e limits whole.store.kept may few);
       known = subst (λ ts. HasCalls ts calls) (sym same) whole.known;
     }

@@ -197,6 +197,7 @@ whole-roomier {ms} {now} {rows} {left} {H} {K} objects row events calls room mor
       (record {
         store = record { kept = whole.store.kept; reserved = omega (arith, whole.store.reserved, wider); limited = whole.store.limited };
         within = whole.within;
+        few_open = whole.few_open;
         known = whole.known;
       }))),
   subst (λ J. committed ≡ length (commits J)) (sym events) counted,
@@ -209,6 +210,7 @@ pub record MayTransact (ms : List Meaning) (rows : List (Option Row)) (H : List 
   pub fits : limits.events ≤ 4294967295
   pub reserved : length H + opened + 3 ≤ more
   pub limited : length H + opened + 3 ≤ limits.events
+  pub few : opened < limits.«open»
 
 module _ (says : RowsSayWhoIsOpen) (counted : RowsAreCounted) (begins : BeginMoves) (stays : StaysKept) (room_after : RoomAfter) (types : TypesStay)
     {ms : List Meaning} {rows : List (Option Row)} {H : List Event} {calls : List (List NamedCall)} {room more : ℕ} {limits : Limits} {many w opened : ℕ}
@@ -224,7 +226,7 @@ module _ (says : RowsSayWhoIsOpen) (counted : RowsAreCounted) (begins : BeginMov
       let reserved = may.reserved in
       let limited = may.limited in
       begin-whole begins ms rows with_row H with_begin w (length rows) may.whole.store.kept refl refl refl stays room_after types counted calls opened room more limits may.whole may.exact may.fits
-      (omega (arith, reserved)) (omega (arith, limited))
+      (omega (arith, reserved)) (omega (arith, limited)) may.few
 
   pub begun-going : table.has_row with_row (length rows) ≡ true
   begun-going = ap is_some (last-row rows (begun_by w))

@@ -8,8 +8,10 @@ pub mod KeptState
 pub mod CommittedStates
 pub mod Peeks
 pub mod Renews
+pub mod Carries
 pub mod Renewals
 pub mod Follows
 pub mod Replays
 pub mod OwnHistory
+pub mod Retraces
 pub mod Examples

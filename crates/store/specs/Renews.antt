@@ -1,7 +1,7 @@
 -- A store that begins anew at the states that it kept.
-use Rattle.std.specs.Prelude.{◌≡◌, ℕ, ◌+◌, ◌<◌, ◌≤◌, ◌^◌, List, [], ◌++◌, length, true, false, Some, slice_get}
+use Rattle.std.specs.Prelude.{◌≡◌, ℕ, ◌+◌, ◌<◌, ◌≤◌, ◌^◌, List, [], ◌++◌, length, true, false, Option, Some, slice_get}
 use Rattle.table_checker.specs.At.{checked_at, IsInside}
-use Rattle.object_trait.specs.Meaning.{Meaning, state_of}
+use Rattle.object_trait.specs.Meaning.{Meaning}
 use Rattle.object_trait.specs.Steps.{IsFresh}
 use Rattle.serial_order.specs.History.{summary, is_open}
 use Rattle.serial_order.specs.Epochs.{IsEpoch, types_at}
@@ -16,21 +16,25 @@ use Rattle.store.specs.declared.refusals.RenewRefusal.TheVariants.{StillOpen, No
 
 -- ---- an object
 
--- as it is made of its type at the state that was kept
-pub record IsRenewed (m new : Meaning) : Type 0 where
-  pub kept : ℕ
-  pub state : state_of m ≡ Some kept
-  pub fits : kept < 2 ^ 32
+-- as it is made of its type at s
+pub record IsRenewedAt (m : Meaning) (s : ℕ) (new : Meaning) : Type 0 where
+  pub fits : s < 2 ^ 32
   pub fresh : IsFresh new
-  pub checked : new.checked ≡ checked_at m.checked kept
+  pub checked : new.checked ≡ checked_at m.checked s
 
-pub record AreRenewed (ms now : List Meaning) : Type 0 where
+-- at one of its states, as `the_state`: the one that is kept, or the committed one
+pub record IsRenewed (the_state : Meaning → Option ℕ) (m new : Meaning) : Type 0 where
+  pub state : ℕ
+  pub is : the_state m ≡ Some state
+  pub renewed : IsRenewedAt m state new
+
+pub record AreRenewed (the_state : Meaning → Option ℕ) (ms now : List Meaning) : Type 0 where
   pub as_many : length now ≡ length ms
-  pub each : (x : ℕ) (m new : Meaning) → slice_get ms x ≡ Some m → slice_get now x ≡ Some new → IsRenewed m new
+  pub each : (x : ℕ) (m new : Meaning) → slice_get ms x ≡ Some m → slice_get now x ≡ Some new → IsRenewed the_state m new
 
--- at each state its type may begin
-abbrev pub AreBeginStates : List Meaning → Type 0
-AreBeginStates ms = (x : ℕ) (m : Meaning) (s : ℕ) → slice_get ms x ≡ Some m → state_of m ≡ Some s → IsInside m.checked s
+-- at each such state its type may begin
+abbrev pub AreBeginStates : (Meaning → Option ℕ) → List Meaning → Type 0
+AreBeginStates the_state ms = (x : ℕ) (m : Meaning) (s : ℕ) → slice_get ms x ≡ Some m → the_state m ≡ Some s → IsInside m.checked s
 
 -- ---- a store
 

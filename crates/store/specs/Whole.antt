@@ -7,6 +7,8 @@ use Rattle.object_calls.specs.declared.call.NamedCall.{NamedCall}
 use Rattle.table_checker.specs.Checked.{Checked}
 use Rattle.object_trait.specs.Meaning.{Meaning}
 use Rattle.object_trait.specs.declared.event.Event.{Event}
+use Rattle.serial_order.specs.History.{summary}
+use Rattle.serial_order.specs.Replay.{open_count}
 use Rattle.open_transactions.specs.Transactions.{Row}
 use Rattle.store_laws.specs.Stored.{types_of}
 use Rattle.store_laws.specs.Kept.{keeping, IsStore}
@@ -27,4 +29,5 @@ pub record IsLimited (objects : ℕ) (limits : Limits) (places : ℕ) : Type 0 w
 pub record IsWholeStore (ms : List Meaning) (calls : List (List NamedCall)) (rows : List (Option Row)) (H : List Event) (capacity : ℕ) (limits : Limits) (places : ℕ) : Type 0 where
   pub store : IsStore (keeping ms rows) H capacity limits
   pub within : IsLimited (length ms) limits places
+  pub few_open : open_count (summary H) ≤ limits.«open»
   pub known : HasCalls (types_of ms) calls

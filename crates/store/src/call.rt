@@ -1,11 +1,13 @@
 //! Calls of a transaction, and what comes of them.
 
-ghost use Rattle.std.specs.Prelude.{◌≡◌, ℕ, ◌<◌, List, true, Some, Err, IfOk, IfErr, OnOk, slice_get};
+ghost use Rattle.std.specs.Prelude.{◌≡◌, ℕ, ◌<◌, List, [], ◌∷◌, ◌++◌, true, false, Some, Err, IfOk, IfErr, OnErr, OnOk, slice_get};
 ghost use Rattle.type_table.specs.Table.{call_of, first_op};
 ghost use Rattle.declared_types.specs.Declarations.{table_of};
 ghost use Rattle.object_trait.specs.Object.{object_of};
 ghost use Rattle.serial_order.specs.History.{summary, is_open};
-ghost use Rattle.serial_order.specs.Replay.{call_at, call_event};
+ghost use Rattle.object_trait.specs.declared.event.EventKind.TheVariants as kind;
+ghost use Rattle.serial_order.specs.Machine.{IsRun};
+ghost use Rattle.serial_order.specs.Replay.{call_at, call_event, is_history_full};
 ghost use Rattle.store_laws.specs.Stored.{objects, refusal_of, MayStep};
 ghost use Rattle.store.specs.Calls.{NotesAnswer, HasCall, unnumbered, op_call_at, AnswersCall, GivesAnswer};
 ghost use Rattle.serial_order.specs.Laws.{FirstOpIsLeast, AnswerMayFollow, MachineMayApply};
@@ -13,7 +15,7 @@ ghost use Rattle.serial_order.specs.After.{LogsAreCounted};
 ghost use Rattle.store_laws.specs.Words.{as_event};
 ghost use Rattle.serial_order.specs.declared.command.Command.TheVariants as command;
 
-use crate::execution::do_answer;
+use crate::execution::{do_answer, execute};
 use crate::room::has_room;
 use crate::store::Store;
 use declared_types::DeclaredType;
@@ -23,6 +25,7 @@ use object_trait::{Event, EventKind, Recovery};
 use serial_order::{
     Refusal, answer_may_follow, first_op_is_least, logs_are_counted, machine_may_apply,
 };
+use std::alloc::AllocError;
 use store_laws::{
     op_moves, quiet_moves, room_after, rows_are_counted, rows_say_who_is_open, stays_kept,
     types_stay,
@@ -202,6 +205,43 @@ impl<R: Recovery> Store<R> {
             return Err(Refusal::NoMemory);
         }
         let kind = kind_of(answer, t, x.number(), call.first);
+        self.history.push_reserved(Event { worker: w, kind });
+        Ok(())
+    }
+}
+
+impl<R: Recovery> Store<R> {
+    /// Executes operation k of transaction t at object x again, whose event may follow.
+    ///
+    /// # Errors
+    ///
+    /// Memory was refused, and the store is as it was.
+    pub(crate) fn execute_again(
+        &mut self,
+        w: u8,
+        t: u32,
+        x: u32,
+        k: Operation,
+    ) -> Result<(), AllocError>
+        requires run { IsRun (objects self.old) (self.old.history ++ (record { worker = w; kind = kind.Op k t x }) ∷ []) }
+        requires room { is_history_full self.old.limits self.old.history 1 ≡ false }
+        ensures done { OnOk result (self.new ≡ record self.old { history = self.old.history ++ (record { worker = w; kind = kind.Op k t x }) ∷ [] }) }
+        ensures back { OnErr result (self.new ≡ self.old) }
+    {
+        rows_say_who_is_open();
+        rows_are_counted();
+        machine_may_apply();
+        logs_are_counted();
+        quiet_moves();
+        op_moves();
+        stays_kept();
+        room_after();
+        types_stay();
+        let opened = self.transactions.open_count();
+        self.history.reserve(opened as usize + 1)?;
+        let object = ObjectIndex::of(x);
+        execute(&mut self.objects, &mut self.transactions, t, object, k)?;
+        let kind = EventKind::Op { t, x, k };
         self.history.push_reserved(Event { worker: w, kind });
         Ok(())
     }

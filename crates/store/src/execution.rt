@@ -47,7 +47,7 @@ pub(crate) fn do_answer<R: Recovery>(
 ///
 /// Memory was refused, and nothing has changed.
 #[inline(always)]
-fn execute<R: Recovery>(
+pub(crate) fn execute<R: Recovery>(
     objects: &mut Vec<R>,
     transactions: &mut OpenTransactions,
     t: u32,

@@ -2,10 +2,11 @@
 
 ghost use Rattle.store.specs.OwnHistory.{AskedIsFollowed, ClosingIsOwn, StepsAreOwn};
 ghost use Rattle.store.specs.Renewals.{RenewalsAreSerial};
+ghost use Rattle.store.specs.Retraces.{ClosingIsTraced, MadeIsRetraced, StepsAreTraced, TracedIsRun};
 
 use serial_order::{
-    beginners_after, epochs_are_serial, epochs_go_on, opens_after, run_goes_on, summary_after,
-    transactions_in_run,
+    beginners_after, command_appends, epochs_are_serial, epochs_go_on, opens_after, run_goes_on,
+    summary_after, transactions_in_run,
 };
 
 /// The committed transactions of a store and of those that renewed it, one store after another and in
@@ -24,6 +25,22 @@ pub fn steps_are_followed()
     ensures steps { StepsAreOwn }
     ensures closing { ClosingIsOwn }
 {
+    run_goes_on();
+    summary_after();
+    transactions_in_run();
+    opens_after();
+    beginners_after();
+}
+
+/// What a store makes is done again (`retrace`), also behind operations that were carried into its history. Such a
+/// history is a run, and stays so by each command, and by the aborts of what is open.
+pub fn steps_are_retraced()
+    ensures made { MadeIsRetraced }
+    ensures run { TracedIsRun }
+    ensures steps { StepsAreTraced }
+    ensures closing { ClosingIsTraced }
+{
+    command_appends();
     run_goes_on();
     summary_after();
     transactions_in_run();

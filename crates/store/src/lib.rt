@@ -2,11 +2,13 @@
 #![tactic(auto)]
 
 mod call;
+mod carried_store;
 mod commit_count;
 mod committed;
 mod conditional_call;
 mod current_answer;
 mod event_replay;
+mod event_retrace;
 mod execution;
 mod held_parts;
 mod laws;
@@ -20,9 +22,10 @@ mod whole_call;
 
 pub use committed::Snapshot;
 pub use event_replay::{ReplayFault, Stray, follow, replay};
-pub use laws::{renewals_are_serial, steps_are_followed};
+pub use event_retrace::retrace;
+pub use laws::{renewals_are_serial, steps_are_followed, steps_are_retraced};
 pub use object_calls::Answer;
-pub use refusals::{ExtendRefusal, NewRefusal, PeekRefusal, RenewRefusal};
+pub use refusals::{CarryRefusal, ExtendRefusal, NewRefusal, PeekRefusal, RenewRefusal};
 pub use store::Store;
 
 pub mod worked;

@@ -39,6 +39,26 @@ impl fmt::Display for RenewRefusal {
     }
 }
 
+/// Why a store doesn't begin anew with these transactions, and with objects more. It comes back.
+#[derive(Clone, Copy, Debug, PartialEq, Eq, Error)]
+pub enum CarryRefusal {
+    /// One of them isn't open, or isn't greater than the one before it.
+    NotOpen,
+    /// There would be more objects than the limits say.
+    TooManyObjects,
+    /// An object that is added isn't as it was made.
+    NotFresh,
+    /// Memory was refused.
+    NoMemory,
+}
+
+/// Writes the variant's name.
+impl fmt::Display for CarryRefusal {
+    fn fmt<W: fmt::Write>(&self, f: &mut fmt::Formatter<W>) -> fmt::Result {
+        fmt::Debug::fmt(self, f)
+    }
+}
+
 /// Why a store doesn't begin anew with more objects. It comes back.
 #[derive(Clone, Copy, Debug, PartialEq, Eq, Error)]
 pub enum ExtendRefusal {

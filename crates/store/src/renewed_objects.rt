@@ -1,9 +1,10 @@
 //! Objects that begin anew at their states.
 
-ghost use Rattle.std.specs.Prelude.{◌≡◌, ℕ, true, map, Some, IfOk, IfSome};
+ghost use Rattle.std.specs.Prelude.{◌≡◌, map, IfOk, IfSome};
 ghost use Rattle.table_checker.specs.At.{checked_at, IsInside};
+ghost use Rattle.object_trait.specs.Committed.{committed_of};
 ghost use Rattle.object_trait.specs.Meaning.{state_of};
-ghost use Rattle.store.specs.Renews.{AreBeginStates, AreRenewed, IsRenewed};
+ghost use Rattle.store.specs.Renews.{AreBeginStates, AreRenewed, IsRenewedAt};
 
 use object_trait::Renew;
 use std::alloc::{AllocError, Global};
@@ -20,27 +21,49 @@ pub(crate) fn renewed_objects<R: Renew>(
     alloc: Global,
     objects: &Vec<R>,
 ) -> Result<Vec<R>, AllocError>
-    requires { AreBeginStates (map R.meaning objects.now.items) }
-    ensures { IfOk result (λ new. AreRenewed (map R.meaning objects.now.items) (map R.meaning new.items)) }
+    requires { AreBeginStates state_of (map R.meaning objects.now.items) }
+    ensures { IfOk result (λ new. AreRenewed state_of (map R.meaning objects.now.items) (map R.meaning new.items)) }
 {
     let mut types = Vec::new(alloc);
     let mut renewed = Vec::with_capacity(alloc, objects.len())?;
     for object in objects {
-        renewed.push_reserved(renewed_object(alloc, &mut types, object)?);
+        let state = object.state();
+        renewed.push_reserved(renewed_object(alloc, &mut types, object, state)?);
     }
     Ok(renewed)
 }
 
-/// An object as it is made of this one's type at the state that this one has.
+/// An object for each, as it is made of its type at its committed state, and shares it as those do.
+///
+/// # Errors
+///
+/// Memory was refused.
+pub(crate) fn committed_objects<R: Renew>(
+    alloc: Global,
+    objects: &Vec<R>,
+) -> Result<Vec<R>, AllocError>
+    requires { AreBeginStates committed_of (map R.meaning objects.now.items) }
+    ensures { IfOk result (λ new. AreRenewed committed_of (map R.meaning objects.now.items) (map R.meaning new.items)) }
+{
+    let mut types = Vec::new(alloc);
+    let mut renewed = Vec::with_capacity(alloc, objects.len())?;
+    for object in objects {
+        let state = object.committed();
+        renewed.push_reserved(renewed_object(alloc, &mut types, object, state)?);
+    }
+    Ok(renewed)
+}
+
+/// An object as it is made of this one's type at this state.
 fn renewed_object<R: Renew>(
     alloc: Global,
     types: &mut Vec<Arc<CheckedType>>,
     object: &R,
+    state: u32,
 ) -> Result<R, AllocError>
-    requires { (s : ℕ) → state_of (R.meaning object.now) ≡ Some s → IsInside (R.meaning object.now).checked s }
-    ensures { IfOk result (λ new. IsRenewed (R.meaning object.now) (R.meaning new)) }
+    requires { IsInside (R.meaning object.now).checked state }
+    ensures { IfOk result (λ new. IsRenewedAt (R.meaning object.now) state (R.meaning new)) }
 {
-    let state = object.state();
     let shared = shared_at(alloc, types, object.checked(), state)?;
     Ok(object.renewed(alloc, shared))
 }

@@ -1,4 +1,4 @@
-//! Room in the history, for events and for the end of each open transaction.
+//! Room in the history, for events and for the end of each open transaction; and a place for each object more.
 
 ghost use Rattle.std.specs.Prelude.{◌≡◌, ◌+◌, length, nat_le};
 ghost use Rattle.store.specs.Room.{MakesRoom};
@@ -38,6 +38,13 @@ impl<R: Recovery> Store<R> {
             return Err(Refusal::NoMemory);
         }
         Ok(())
+    }
+
+    /// Whether the limit has places for so many objects more.
+    pub(crate) fn has_place_for(&self, more: usize) -> bool
+        ensures { result ≡ nat_le (length self.now.types + more) self.now.limits.objects }
+    {
+        more <= self.limits.objects as usize - self.objects.len()
     }
 }
 

@@ -541,7 +541,7 @@ impl<R: Renew> Store<R> {
         runs_along();
         closed_is_epoch();
         states_are_inside();
-        if added.len() > self.limits.objects as usize - self.objects.len() {
+        if !self.has_place_for(added.len()) {
             return Err(ExtendRefusal::TooManyObjects);
         }
         if !are_fresh(&added) {
@@ -581,7 +581,10 @@ impl<R: Renew> Store<R> {
 }
 
 /// Puts objects after others.
-fn add_all<R: Recovery>(objects: &mut Vec<R>, mut added: Vec<R>) -> Result<(), AllocError>
+pub(crate) fn add_all<R: Recovery>(
+    objects: &mut Vec<R>,
+    mut added: Vec<R>,
+) -> Result<(), AllocError>
     ensures { OnOk result (objects.new.items ≡ objects.old.items ++ added.items) }
 {
     objects.append(&mut added)

@@ -3,6 +3,7 @@
 mod amounts;
 mod boxed;
 mod calls;
+mod carried;
 mod followed;
 mod made;
 mod run_scripts;

@@ -4,16 +4,14 @@ use Rattle.table_checker.specs.At.{checked_at, IsInside}
 use Rattle.store.proofs.renewed_objects.renewed_object.Goals as goal
 
 pub shared_at-requires : goal.shared_at-requires
-shared_at-requires g c = subst (λ (k : Checked). IsInside k c.state-state.result) (sym c.checked.ensures) (c.requires c.state-state.result c.state-state.ensures.exact)
+shared_at-requires g c = subst (λ (k : Checked). IsInside k c.args.state) (sym c.checked.ensures) c.requires
 
 pub renewed-requires : goal.renewed-requires
 renewed-requires g c = ap (λ (k : Checked). k.kind) c.in_ok-shared.ensures ∙ ap (λ (k : Checked). k.kind) c.checked.ensures
 
 pub returns : goal.returns
 returns g c = record {
-  kept = c.state-state.result;
-  state = c.state-state.ensures.exact;
-  fits = omega (arith, c.state-state.type_inv);
+  fits = omega arith;
   fresh = c.renewed.ensures.fresh;
-  checked = c.renewed.ensures.checked ∙ c.in_ok-shared.ensures ∙ ap (λ (k : Checked). checked_at k c.state-state.result) c.checked.ensures;
+  checked = c.renewed.ensures.checked ∙ c.in_ok-shared.ensures ∙ ap (λ (k : Checked). checked_at k c.args.state) c.checked.ensures;
 }

@@ -17,7 +17,11 @@ static COUNTERS: [Sort; 3] = [
 ];
 
 /// This many objects, of which the one at a place may have been counted up.
-fn offered(rt: &(impl Abort + AllocGlobal), count: usize, touched: Option<usize>) -> Vec<Object> {
+pub fn offered(
+    rt: &(impl Abort + AllocGlobal),
+    count: usize,
+    touched: Option<usize>,
+) -> Vec<Object> {
     let mut objects = Vec::new(rt.alloc());
     for x in 0..count {
         let (kind, text) = COUNTERS[x % 3];

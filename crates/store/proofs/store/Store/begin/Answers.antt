@@ -80,7 +80,7 @@ invariant_of-self-2 g c =
           (past-more inside.past.items inside.history.items c.push_reserved.new.self.items (record { worker = c.args.w; kind = Begin c.begin-t.result })
           (c.push_reserved.ensures.items ∙ ap (λ K. K ++ (record { worker = c.args.w; kind = Begin c.begin-t.result }) ∷ []) c.reserve.ensures.items))
           c.stays_kept.ensures c.room_after.ensures c.types_stay.ensures c.rows_are_counted.ensures inside.calls.items opened (inside.forgotten + vec_capacity inside.history) (inside.forgotten + vec_capacity c.push_reserved.new.self) inside.limits c.self.invariant.1 c.open_count-opened.ensures.exact
-          (omega arith) (omega (arith, long, made, c.reserve.ensures.len, c.push_reserved.ensures.capacity, inside.history.ok.0)) limited,
+          (omega arith) (omega (arith, long, made, c.reserve.ensures.len, c.push_reserved.ensures.capacity, inside.history.ok.0)) limited c.if-opened-self.false,
       not-counted H (inside.past.items ++ c.push_reserved.new.self.items) (record { worker = c.args.w; kind = Begin c.begin-t.result }) inside.committed
           (past-more inside.past.items inside.history.items c.push_reserved.new.self.items (record { worker = c.args.w; kind = Begin c.begin-t.result })
           (c.push_reserved.ensures.items ∙ ap (λ K. K ++ (record { worker = c.args.w; kind = Begin c.begin-t.result }) ∷ []) c.reserve.ensures.items))

@@ -1,90 +1,38 @@
-use Rattle.std.proofs.Common.{◌+◌, ◌≤◌, ◌<◌, [], ◌++◌, length, map, sym, ap, subst, ◌∙◌, arith}
+use Rattle.std.proofs.Common.{◌≡◌, [], ◌++◌, length, map, sym, ap, ◌∙◌, arith}
 use Rattle.std.proofs.lemmas.Bool.{false≢true}
 use Rattle.std.proofs.lemmas.List.{length-map, map-append}
-use Rattle.store_laws.specs.Stored.{Stored, types_of}
+use Rattle.store_laws.specs.Stored.{types_of}
 use Rattle.store.proofs.Renewals.{extends}
-use Rattle.store.proofs.Rooms.{succeeded}
+use Rattle.store.proofs.Rooms.{few-enough, succeeded, too-many}
 use Rattle.store.proofs.Stored.{stored}
 use Rattle.store.proofs.store.Store.extended.Goals as goal
 
-pub overflow_sub-self-inside : goal.overflow_sub-self-inside
-overflow_sub-self-inside g c = omega (arith, c.self.invariant.1.within.few, length-map c.self.inside.objects.items g.R.Recovery.meaning, c.len-2.ensures, c.self.inside.objects.ok.0)
-
-pub returns-then-len-self-clause-refused : goal.returns-then-len-self-clause-refused
-returns-then-len-self-clause-refused g c =
-    let inside = c.self.inside in
-    let meaning = g.R.Recovery.meaning in
-    let many : inside.limits.objects < length (types_of (map meaning inside.objects.items)) + length (map meaning c.args.added.items) =
-    omega (
-      arith,
-      c.if-len-self.true,
-      c.self.invariant.1.within.few,
-      length-map inside.objects.items meaning,
-      length-map c.args.added.items meaning,
-      length-map (map meaning inside.objects.items) (λ m. m.checked),
-      c.len.ensures,
-      c.len-2.ensures,
-      inside.objects.ok.0,
-      c.args.added.ok.0,
-    ) in
-    (c.requires, subst (λ (z : Stored). z.limits.objects < length z.types + length (map meaning c.args.added.items)) c.self.view_is many)
+pub returns-then-not-has_place_for-clause-refused : goal.returns-then-not-has_place_for-clause-refused
+returns-then-not-has_place_for-clause-refused g c =
+    let ms = map g.R.Recovery.meaning c.args.added.items in
+    let as_many : c.len.result ≡ length ms = omega (arith, length-map c.args.added.items g.R.Recovery.meaning, c.len.ensures, c.args.added.ok.0) in
+    (c.requires, too-many c.args.self.now c.len.result ms c.has_place_for.result c.has_place_for.ensures c.if-not-has_place_for.true as_many)
 
 pub returns-then-not-are_fresh-clause-refused : goal.returns-then-not-are_fresh-clause-refused
 returns-then-not-are_fresh-clause-refused g c =
-    let inside = c.self.inside in
-    let meaning = g.R.Recovery.meaning in
-    let few : length (types_of (map meaning inside.objects.items)) + length (map meaning c.args.added.items) ≤ inside.limits.objects =
-    omega (
-      arith,
-      c.if-len-self.false,
-      c.self.invariant.1.within.few,
-      length-map inside.objects.items meaning,
-      length-map c.args.added.items meaning,
-      length-map (map meaning inside.objects.items) (λ m. m.checked),
-      c.len.ensures,
-      c.len-2.ensures,
-      inside.objects.ok.0,
-      c.args.added.ok.0,
-    ) in
-    (c.requires, subst (λ (z : Stored). length z.types + length (map meaning c.args.added.items) ≤ z.limits.objects) c.self.view_is few, λ fresh. false≢true (sym c.if-not-are_fresh.true ∙ c.are_fresh.ensures.1 fresh))
+    let ms = map g.R.Recovery.meaning c.args.added.items in
+    let as_many : c.len.result ≡ length ms = omega (arith, length-map c.args.added.items g.R.Recovery.meaning, c.len.ensures, c.args.added.ok.0) in (
+      c.requires,
+      few-enough c.args.self.now c.len.result ms c.has_place_for.result c.has_place_for.ensures c.if-not-has_place_for.false as_many,
+      λ fresh. false≢true (sym c.if-not-are_fresh.true ∙ c.are_fresh.ensures.1 fresh),
+    )
 
 pub returns-in_default-clause-refused : goal.returns-in_default-clause-refused
 returns-in_default-clause-refused g c =
-    let inside = c.self.inside in
-    let meaning = g.R.Recovery.meaning in
-    let few : length (types_of (map meaning inside.objects.items)) + length (map meaning c.args.added.items) ≤ inside.limits.objects =
-    omega (
-      arith,
-      c.if-len-self.false,
-      c.self.invariant.1.within.few,
-      length-map inside.objects.items meaning,
-      length-map c.args.added.items meaning,
-      length-map (map meaning inside.objects.items) (λ m. m.checked),
-      c.len.ensures,
-      c.len-2.ensures,
-      inside.objects.ok.0,
-      c.args.added.ok.0,
-    ) in
-    (c.requires, subst (λ (z : Stored). length z.types + length (map meaning c.args.added.items) ≤ z.limits.objects) c.self.view_is few, c.are_fresh.ensures.0 c.if-not-are_fresh.false)
+    let ms = map g.R.Recovery.meaning c.args.added.items in
+    let as_many : c.len.result ≡ length ms = omega (arith, length-map c.args.added.items g.R.Recovery.meaning, c.len.ensures, c.args.added.ok.0) in
+    (c.requires, few-enough c.args.self.now c.len.result ms c.has_place_for.result c.has_place_for.ensures c.if-not-has_place_for.false as_many, c.are_fresh.ensures.0 c.if-not-are_fresh.false)
 
 pub returns-then-is_err-clause-refused : goal.returns-then-is_err-clause-refused
 returns-then-is_err-clause-refused g c =
-    let inside = c.self.inside in
-    let meaning = g.R.Recovery.meaning in
-    let few : length (types_of (map meaning inside.objects.items)) + length (map meaning c.args.added.items) ≤ inside.limits.objects =
-    omega (
-      arith,
-      c.if-len-self.false,
-      c.self.invariant.1.within.few,
-      length-map inside.objects.items meaning,
-      length-map c.args.added.items meaning,
-      length-map (map meaning inside.objects.items) (λ m. m.checked),
-      c.len.ensures,
-      c.len-2.ensures,
-      inside.objects.ok.0,
-      c.args.added.ok.0,
-    ) in
-    (c.requires, subst (λ (z : Stored). length z.types + length (map meaning c.args.added.items) ≤ z.limits.objects) c.self.view_is few, c.are_fresh.ensures.0 c.if-not-are_fresh.false)
+    let ms = map g.R.Recovery.meaning c.args.added.items in
+    let as_many : c.len.result ≡ length ms = omega (arith, length-map c.args.added.items g.R.Recovery.meaning, c.len.ensures, c.args.added.ok.0) in
+    (c.requires, few-enough c.args.self.now c.len.result ms c.has_place_for.result c.has_place_for.ensures c.if-not-has_place_for.false as_many, c.are_fresh.ensures.0 c.if-not-are_fresh.false)
 
 pub renewed_objects-requires-after_bounds : goal.renewed_objects-requires-after_bounds
 renewed_objects-requires-after_bounds g c κs within = λ x m s there is.
@@ -103,19 +51,6 @@ returns-in-Ok-with_limits-clause-extended g c =
 
 pub returns-clause-refused : goal.returns-clause-refused
 returns-clause-refused g c =
-    let inside = c.self.inside in
-    let meaning = g.R.Recovery.meaning in
-    let few : length (types_of (map meaning inside.objects.items)) + length (map meaning c.args.added.items) ≤ inside.limits.objects =
-    omega (
-      arith,
-      c.if-len-self.false,
-      c.self.invariant.1.within.few,
-      length-map inside.objects.items meaning,
-      length-map c.args.added.items meaning,
-      length-map (map meaning inside.objects.items) (λ m. m.checked),
-      c.len.ensures,
-      c.len-2.ensures,
-      inside.objects.ok.0,
-      c.args.added.ok.0,
-    ) in
-    (c.requires, subst (λ (z : Stored). length z.types + length (map meaning c.args.added.items) ≤ z.limits.objects) c.self.view_is few, c.are_fresh.ensures.0 c.if-not-are_fresh.false)
+    let ms = map g.R.Recovery.meaning c.args.added.items in
+    let as_many : c.len.result ≡ length ms = omega (arith, length-map c.args.added.items g.R.Recovery.meaning, c.len.ensures, c.args.added.ok.0) in
+    (c.requires, few-enough c.args.self.now c.len.result ms c.has_place_for.result c.has_place_for.ensures c.if-not-has_place_for.false as_many, c.are_fresh.ensures.0 c.if-not-are_fresh.false)

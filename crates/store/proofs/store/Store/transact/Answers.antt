@@ -60,6 +60,7 @@ commit_at-requires-clause-may g c κs outlives = λ other found.
       fits = omega arith;
       reserved = omega (arith, long, made, c.reserve.ensures.len, inside.history.ok.0);
       limited = limited;
+      few = c.if-opened-self.false;
     } in
     let is : answered.Reply c.in-Reply.k ≡ answer_of m (length rows) c.args.call.now.first =
     sym c.in-Reply.is ∙ c.choose.ensures ∙ ap (λ t. answer_of m t c.args.call.now.first) c.begun-t.ensures in
@@ -169,6 +170,7 @@ invariant_of-self-2 g c =
       fits = omega arith;
       reserved = omega (arith, long, made, c.reserve.ensures.len, inside.history.ok.0, c.push_whole.ensures.capacity);
       limited = limited;
+      few = c.if-opened-self.false;
     } in
     let is : answered.Reply c.in-Reply.k ≡ answer_of m (length rows) c.args.call.now.first =
     sym c.in-Reply.is ∙ c.choose.ensures ∙ ap (λ t. answer_of m t c.args.call.now.first) c.begun-t.ensures in
@@ -207,6 +209,7 @@ returns g c =
       fits = omega arith;
       reserved = omega (arith, long, made, c.reserve.ensures.len, inside.history.ok.0, c.push_whole.ensures.capacity);
       limited = limited;
+      few = c.if-opened-self.false;
     } in
     let is : answered.Reply c.in-Reply.k ≡ answer_of m (length rows) c.args.call.now.first =
     sym c.in-Reply.is ∙ c.choose.ensures ∙ ap (λ t. answer_of m t c.args.call.now.first) c.begun-t.ensures in
