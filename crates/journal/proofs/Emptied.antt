@@ -1,4 +1,4 @@
--- A table is destroyed and made again.
+-- A table is destroyed and made again, and those of an epoch one after the other.
 use Rattle.std.proofs.Common.{◌≡◌, ◌≢◌, ℕ, ◌+◌, ◌<◌, List, [], ◌∷◌, length, not, false, true, inl, inr, IsTrue, ◌==◌, lit<, refl, sym, ap, subst, ◌∙◌, arith}
 use Rattle.std.specs.Prelude.{pos}
 use Rattle.std.specs.List.{AllByRecursion}
@@ -17,7 +17,7 @@ use Rattle.sqlite_trees.specs.Objects.{catalog_tree, is_frozen, IsFreeFor, Destr
 use Rattle.sqlite_trees.specs.Tree.{has_rowid, put_row, rowid, without_rowid}
 use Rattle.sqlite_trees.specs.View.{View}
 use Rattle.journal.specs.Journal.{IsNamedOnce, IsOwnNamed, IsRemade, name_column}
-use Rattle.journal.specs.EmptyTable.{Empties, MayEmpty}
+use Rattle.journal.specs.EmptyTable.{Empties, EmptiesEpoch, MayEmpty}
 
 -- a row more
 each-put : (P : Row → Type 0) (new : Row) (rs : List Row) → AllByRecursion P rs → P new → AllByRecursion P (put_row new rs)
@@ -118,3 +118,18 @@ module _ (old middle new : View) (table : ℕ) (name : List ℕ) (row : Row) (re
     is_open = ap (λ (v : View). v.is_open) made.is ∙ ap (λ (v : View). v.is_open) gone.is;
     is_broken = ap (λ (v : View). v.is_broken) made.is ∙ ap (λ (v : View). v.is_broken) gone.is;
   }
+
+-- ---- that of events, and then that of prepared transactions
+
+pub both-empty : (old between new : View) → Empties old between 0 → Empties between new 5 → EmptiesEpoch old new
+both-empty old between new first second = record {
+  sound = first.sound;
+  events = second.others 0 (λ is. omega (arith, is)) (lit< tt) ∙ first.rows;
+  prepared = second.rows;
+  others = λ t not0 not5 low. second.others t not5 low ∙ first.others t not0 low;
+  tables = second.tables;
+  numbered = second.numbered;
+  named = second.named;
+  committed = second.committed ∙ first.committed;
+  is_open = second.is_open ∙ first.is_open;
+}

@@ -10,14 +10,14 @@ use Rattle.journal.specs.StateRow.{state_row, state_told, state_read_back}
 use Rattle.journal.specs.TypeRow.{type_row, type_told, type_read_back}
 use Rattle.journal.specs.ObjectRows.{object_row, object_told, object_read_back}
 use Rattle.journal.specs.Tables.{AreBehind, Rewrites}
-use Rattle.journal.specs.EmptyTable.{Empties}
+use Rattle.journal.specs.EmptyTable.{EmptiesEpoch}
 use Rattle.journal.specs.Contents.{IsFile, contents_of, extended}
 use Rattle.journal.specs.Journal.{IsKeptFile, IsNamedOnce}
 use Rattle.journal.proofs.RowLemmas.{rows-told}
 
--- the views are those of the file before, without events, with the first states, with all states, with all types, and with all objects
-module _ (old none first states types new : View) (starts : List ℕ) (n : ℕ) (header : Header) (front back : List FirstState) (texts : List (List ℕ)) (lines : List ObjectLine) (known count : ℕ)
-    (kept : IsKeptFile old starts n header) (gone : Empties old none 0) (again : Rewrites none first 4 (value_rows state_row 0 front))
+-- the views are those of the file before, without events and prepared transactions, with the first states, with all states, with all types, and with all objects
+module _ (old none first states types new : View) (starts : List ℕ) (n prepared_before : ℕ) (header : Header) (front back : List FirstState) (texts : List (List ℕ)) (lines : List ObjectLine) (known count : ℕ)
+    (kept : IsKeptFile old starts n prepared_before header) (gone : EmptiesEpoch old none) (again : Rewrites none first 4 (value_rows state_row 0 front))
     (more_states : AreBehind state_row first states 4 count back) (more_types : AreBehind type_row states types 2 known texts) (more_objects : AreBehind object_row types new 3 count lines)
     (many : length front ≡ count) (many_types : length (contents_of old.trees).types ≡ known) (many_objects : length (contents_of old.trees).objects ≡ count) where
   before : IsFile old.trees
@@ -28,7 +28,7 @@ module _ (old none first states types new : View) (starts : List ℕ) (n : ℕ) 
 
   -- the types were as before till then
   types-before : states.trees 2 ≡ value_rows type_row 0 (contents_of old.trees).types
-  types-before = all.others 2 (λ is. omega (arith, is)) ∙ again.others 2 (λ is. omega (arith, is)) ∙ gone.others 2 (λ is. omega (arith, is)) (lit< tt) ∙ before.types
+  types-before = all.others 2 (λ is. omega (arith, is)) ∙ again.others 2 (λ is. omega (arith, is)) ∙ gone.others 2 (λ is. omega (arith, is)) (λ is. omega (arith, is)) (lit< tt) ∙ before.types
 
   typed : Rewrites states types 2 (value_rows type_row 0 ((contents_of old.trees).types ++ texts))
   typed = more_types (contents_of old.trees).types types-before many_types
@@ -36,7 +36,7 @@ module _ (old none first states types new : View) (starts : List ℕ) (n : ℕ) 
   -- and so were the objects
   objects-before : types.trees 3 ≡ value_rows object_row 0 (contents_of old.trees).objects
   objects-before =
-      typed.others 3 (λ is. omega (arith, is)) ∙ all.others 3 (λ is. omega (arith, is)) ∙ again.others 3 (λ is. omega (arith, is)) ∙ gone.others 3 (λ is. omega (arith, is)) (lit< tt) ∙ before.objects
+      typed.others 3 (λ is. omega (arith, is)) ∙ all.others 3 (λ is. omega (arith, is)) ∙ again.others 3 (λ is. omega (arith, is)) ∙ gone.others 3 (λ is. omega (arith, is)) (λ is. omega (arith, is)) (lit< tt) ∙ before.objects
 
   named : Rewrites types new 3 (value_rows object_row 0 ((contents_of old.trees).objects ++ lines))
   named = more_objects (contents_of old.trees).objects objects-before many_objects
@@ -45,14 +45,17 @@ module _ (old none first states types new : View) (starts : List ℕ) (n : ℕ) 
   same : (t : ℕ) → t ≢ 2 → t ≢ 3 → t ≢ 4 → new.trees t ≡ none.trees t
   same t not2 not3 not4 = named.others t not3 ∙ typed.others t not2 ∙ all.others t not4 ∙ again.others t not4
 
-  stays : (t : ℕ) → t ≢ 0 → t ≢ 2 → t ≢ 3 → t ≢ 4 → t < 7 → new.trees t ≡ old.trees t
-  stays t not0 not2 not3 not4 low = same t not2 not3 not4 ∙ gone.others t not0 low
+  stays : (t : ℕ) → t ≢ 0 → t ≢ 2 → t ≢ 3 → t ≢ 4 → t ≢ 5 → t < 7 → new.trees t ≡ old.trees t
+  stays t not0 not2 not3 not4 not5 low = same t not2 not3 not4 ∙ gone.others t not0 not5 low
 
   events : new.trees 0 ≡ []
-  events = same 0 (λ is. omega (arith, is)) (λ is. omega (arith, is)) (λ is. omega (arith, is)) ∙ gone.rows
+  events = same 0 (λ is. omega (arith, is)) (λ is. omega (arith, is)) (λ is. omega (arith, is)) ∙ gone.events
+
+  prepared : new.trees 5 ≡ []
+  prepared = same 5 (λ is. omega (arith, is)) (λ is. omega (arith, is)) (λ is. omega (arith, is)) ∙ gone.prepared
 
   headers : new.trees 1 ≡ old.trees 1
-  headers = stays 1 (λ is. omega (arith, is)) (λ is. omega (arith, is)) (λ is. omega (arith, is)) (λ is. omega (arith, is)) (lit< tt)
+  headers = stays 1 (λ is. omega (arith, is)) (λ is. omega (arith, is)) (λ is. omega (arith, is)) (λ is. omega (arith, is)) (λ is. omega (arith, is)) (lit< tt)
 
   type-rows : new.trees 2 ≡ value_rows type_row 0 ((contents_of old.trees).types ++ texts)
   type-rows = named.others 2 (λ is. omega (arith, is)) ∙ typed.rows_are
@@ -70,15 +73,15 @@ module _ (old none first states types new : View) (starts : List ℕ) (n : ℕ) 
   states-told = ap (map state_told) state-rows ∙ rows-told state_row state_told state_read_back 0 (front ++ back)
 
   outcomes : new.trees 6 ≡ old.trees 6
-  outcomes = stays 6 (λ is. omega (arith, is)) (λ is. omega (arith, is)) (λ is. omega (arith, is)) (λ is. omega (arith, is)) (lit< tt)
+  outcomes = stays 6 (λ is. omega (arith, is)) (λ is. omega (arith, is)) (λ is. omega (arith, is)) (λ is. omega (arith, is)) (λ is. omega (arith, is)) (lit< tt)
 
   pub extends : contents_of new.trees ≡ extended (contents_of old.trees) texts lines (front ++ back)
-  extends = rw (events, headers, types-told, objects-told, states-told, outcomes) refl
+  extends = rw (events, headers, types-told, objects-told, states-told, prepared, outcomes) refl
 
   committed-same : new.committed ≡ old.committed
   committed-same = named.committed ∙ typed.committed ∙ all.committed ∙ again.committed ∙ gone.committed
 
-  pub begins-anew : IsKeptFile new [] 0 header
+  pub begins-anew : IsKeptFile new [] 0 0 header
   begins-anew = record {
     tables = record { each = λ t low. ap (λ s. s t) (named.shape ∙ typed.shape ∙ all.shape ∙ again.shape) ∙ gone.tables.each t low };
     file = λ _. record {
@@ -87,12 +90,14 @@ module _ (old none first states types new : View) (starts : List ℕ) (n : ℕ) 
       types = type-rows ∙ ap (value_rows type_row 0) (sym types-told);
       objects = named.rows_are ∙ ap (value_rows object_row 0) (sym objects-told);
       states = state-rows ∙ ap (value_rows state_row 0) (sym states-told);
-      prepared = stays 5 (λ is. omega (arith, is)) (λ is. omega (arith, is)) (λ is. omega (arith, is)) (λ is. omega (arith, is)) (lit< tt) ∙ before.prepared;
+      prepared = rw prepared refl;
+      unprepared = λ _. prepared;
       outcomes = rw (headers, outcomes) before.outcomes;
     };
     count_is = λ _. rw events refl;
     starts_are = λ _. rw events refl;
     header_is = λ _. rw headers (kept.header_is gone.sound);
+    prepared_are = λ _. rw prepared refl;
     kept = λ is_open. subst IsFile (sym committed-same)
         (kept.kept (subst IsTrue (named.is_open ∙ typed.is_open ∙ all.is_open ∙ again.is_open ∙ gone.is_open) is_open));
     numbered = subst IsTrue (sym (named.numbered ∙ typed.numbered ∙ all.numbered ∙ again.numbered)) gone.numbered;

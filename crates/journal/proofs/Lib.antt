@@ -7,6 +7,7 @@ pub mod Names
 pub mod Opens
 pub mod Emptied
 pub mod Outcomes
+pub mod PreparedRows
 pub mod NewHeaders
 pub mod Rewritten
 pub mod MoreRows
@@ -14,3 +15,4 @@ pub mod Extended
 pub mod Outages
 pub mod Same
 pub mod ObjectCells
+pub mod PreparedCells

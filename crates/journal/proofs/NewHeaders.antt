@@ -1,5 +1,5 @@
 -- The header is written anew.
-use Rattle.std.proofs.Common.{◌≡◌, ◌<◌, arith, refl, sym, ap, subst, ℕ, List, [], ◌∷◌, length, map, ◌∙◌, IsTrue, lit<}
+use Rattle.std.proofs.Common.{◌≡◌, ◌<◌, ◌≤◌, arith, refl, sym, ap, subst, ℕ, List, [], ◌∷◌, length, map, ◌∙◌, IsTrue, lit<}
 use Rattle.sqlite_trees.specs.Objects.{catalog_tree}
 use Rattle.sqlite_trees.specs.Tree.{put_row}
 use Rattle.sqlite_trees.specs.View.{View, SetsTree}
@@ -7,11 +7,11 @@ use Rattle.journal.specs.declared.header.Header.{Header}
 use Rattle.journal.specs.HeaderRow.{header_row, header_told}
 use Rattle.journal.specs.Rows.{value_rows}
 use Rattle.journal.specs.EventRow.{event_told, row_starts}
-use Rattle.journal.specs.Contents.{Contents, IsFile, IsOlder, contents_of, in_life, newest_format}
+use Rattle.journal.specs.Contents.{Contents, IsFile, IsOlderThan, contents_of, in_life, keyed_format, newest_format}
 use Rattle.journal.specs.Journal.{HasTables, IsKeptFile, IsNamedOnce}
 use Rattle.journal.proofs.RowLemmas.{put-set}
 
-module _ (old new : View) (starts : List ℕ) (n : ℕ) (was now : Header) (sets : SetsTree old new 1 (put_row (header_row 0 now))) (kept : IsKeptFile old starts n was) where
+module _ (old new : View) (starts : List ℕ) (n prepared : ℕ) (was now : Header) (sets : SetsTree old new 1 (put_row (header_row 0 now))) (kept : IsKeptFile old starts n prepared was) where
   before : IsFile old.trees
   before = kept.file sets.sound
 
@@ -24,13 +24,14 @@ module _ (old new : View) (starts : List ℕ) (n : ℕ) (was now : Header) (sets
   told : contents_of new.trees ≡ record (contents_of old.trees) { headers = now ∷ [] }
   told = ap (λ (v : View). contents_of v.trees) sets.is ∙ ap (λ rs. record (contents_of old.trees) { headers = map header_told rs }) other
 
-  aged : now.format ≡ newest_format → IsOlder (map header_told (put_row (header_row 0 now) (old.trees 1))) → ⊥
-  aged newest older =
-      let low : now.format < newest_format = subst IsOlder (ap (map header_told) other) older in
-      omega (arith, newest, low)
+  -- which is of no older format than one up to the newest
+  aged : (format : ℕ) → format ≤ newest_format → now.format ≡ newest_format → IsOlderThan format (map header_told (put_row (header_row 0 now) (old.trees 1))) → ⊥
+  aged format within newest older =
+      let low : now.format < format = subst (IsOlderThan format) (ap (map header_told) other) older in
+      omega (arith, within, newest, low)
 
   -- it is a file of a store with this header
-  pub raises : now.format ≡ newest_format → IsKeptFile new starts n now
+  pub raises : now.format ≡ newest_format → IsKeptFile new starts n prepared now
   raises newest = record {
     tables = subst (λ (v : View). HasTables v) (sym sets.is) (record { each = kept.tables.each });
     file = λ _. subst (λ (v : View). IsFile v.trees) (sym sets.is) (record {
@@ -40,11 +41,13 @@ module _ (old new : View) (starts : List ℕ) (n : ℕ) (was now : Header) (sets
       objects = before.objects;
       states = before.states;
       prepared = before.prepared;
-      outcomes = λ older. absurd (aged newest older);
+      unprepared = λ older. absurd (aged newest_format (omega arith) newest older);
+      outcomes = λ older. absurd (aged keyed_format (omega arith) newest older);
     });
     count_is = λ _. kept.count_is sets.sound ∙ ap (λ (c : Contents). length c.events) (sym told);
     starts_are = λ _. kept.starts_are sets.sound ∙ ap (λ (v : View). row_starts 0 (map event_told (v.trees 0))) (sym sets.is);
     header_is = λ _. ap (λ (c : Contents). c.headers) told;
+    prepared_are = λ _. kept.prepared_are sets.sound ∙ ap (λ (c : Contents). length c.prepared) (sym told);
     kept = λ is_open. subst (λ (v : View). IsTrue v.is_open → IsFile v.committed) (sym sets.is) kept.kept is_open;
     numbered = subst (λ (v : View). IsTrue v.is_numbered) (sym sets.is) kept.numbered;
     named = λ _. subst (λ (v : View). IsNamedOnce (v.trees catalog_tree)) (sym sets.is) (kept.named sets.sound);

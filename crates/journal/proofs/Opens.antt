@@ -12,7 +12,8 @@ use Rattle.journal.specs.HeaderRow.{header_row, header_told, header_read_back}
 use Rattle.journal.specs.TypeRow.{type_row, type_told, type_read_back}
 use Rattle.journal.specs.ObjectRows.{object_row, object_told, object_read_back}
 use Rattle.journal.specs.StateRow.{state_row, state_told, state_read_back}
-use Rattle.journal.specs.Contents.{Contents, IsFile, IsOlder, contents_of}
+use Rattle.journal.specs.PreparedRow.{prepared_row, prepared_told, prepared_read_back}
+use Rattle.journal.specs.Contents.{Contents, IsFile, IsOlderThan, contents_of, keyed_format, newest_format}
 use Rattle.journal.specs.Said.{HasRowsOf, contents_beside}
 use Rattle.journal.specs.Tables.{IsUnused, OnlyReads}
 use Rattle.journal.specs.Journal.{HasTables, IsKeptFile, IsNamedOnce}
@@ -37,8 +38,9 @@ module _ (db : Trees) (said : FileContents) (starts : List ℕ) (told : HasRowsO
     types = rows-of type_row type_told type_read_back (db 2) said.types.items told.types;
     objects = rows-of object_row object_told object_read_back (db 3) said.objects.items told.objects;
     states = rows-of state_row state_told state_read_back (db 4) said.states.items told.states;
-    prepared = told.prepared;
-    outcomes = λ older. told.outcomes (subst IsOlder headers-are older);
+    prepared = rows-of prepared_row prepared_told prepared_read_back (db 5) said.prepared.items told.prepared;
+    unprepared = λ older. told.unprepared (subst (IsOlderThan newest_format) headers-are older);
+    outcomes = λ older. told.outcomes (subst (IsOlderThan keyed_format) headers-are older);
   }
 
   rows-are : map event_told (db 0) ≡ told.rows
@@ -58,6 +60,7 @@ module _ (db : Trees) (said : FileContents) (starts : List ℕ) (told : HasRowsO
     told-of type_row type_told type_read_back (db 2) said.types.items told.types,
     told-of object_row object_told object_read_back (db 3) said.objects.items told.objects,
     told-of state_row state_told state_read_back (db 4) said.states.items told.states,
+    told-of prepared_row prepared_told prepared_read_back (db 5) said.prepared.items told.prepared,
   ) refl
 
 -- ---- the last commit is shown
@@ -81,16 +84,17 @@ module _ (old new : View) (back : IsRolledBack old new) (clean : IsClean new) (b
 
 -- what was read without a write is a file of a store
 pub starts : (old new : View) (said : FileContents) (places : List ℕ) → IsUnused old → HasTables old → IsTrue old.is_numbered → IsNamedOnce (old.trees catalog_tree) → OnlyReads old new
-    → HasRowsOf old.trees said places → IsKeptFile new places (length said.events.items) said.header
+    → HasRowsOf old.trees said places → IsKeptFile new places (length said.events.items) (length said.prepared.items) said.header
 starts old new said places unused tables numbered named only told =
     let file = is-file old.trees said places told in
     let says' = says old.trees said places told in
-    subst (λ (v : View). IsKeptFile v places (length said.events.items) said.header) (sym only) (record {
+    subst (λ (v : View). IsKeptFile v places (length said.events.items) (length said.prepared.items) said.header) (sym only) (record {
       tables = record { each = tables.each };
       file = λ _. file;
       count_is = λ _. ap (λ (c : Contents). length c.events) (sym says');
       starts_are = λ _. starts-are old.trees said places told;
       header_is = λ _. ap (λ (c : Contents). c.headers) says';
+      prepared_are = λ _. ap (λ (c : Contents). length c.prepared) (sym says');
       kept = λ _. subst IsFile unused.clean file;
       numbered = numbered;
       named = λ _. named;

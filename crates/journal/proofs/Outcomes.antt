@@ -19,7 +19,7 @@ use Rattle.journal.specs.declared.header.Header.{Header}
 use Rattle.journal.specs.declared.outcome_row.KeyedOutcome.{KeyedOutcome}
 use Rattle.journal.specs.OutcomeRow.{outcome_at, outcome_row, outcome_told, outcome_read_back, outcomes_with}
 use Rattle.journal.specs.EventRow.{event_told, row_starts}
-use Rattle.journal.specs.Contents.{Contents, IsFile, IsOlder, contents_of, newest_format, with_outcome}
+use Rattle.journal.specs.Contents.{Contents, IsFile, IsOlderThan, contents_of, keyed_format, newest_format, with_outcome}
 use Rattle.journal.specs.EmptyTable.{Empties}
 use Rattle.journal.specs.Tables.{IsUnused, OnlyReads}
 use Rattle.journal.specs.Journal.{HasTables, IsKeptFile, IsNamedOnce}
@@ -86,10 +86,10 @@ pub none-kept : (old new : View) → OnlyReads old new → IsUnused old → old.
 unfolding outcome_at
 none-kept old new only unused none = ap (λ (v : View). outcome_at (v.committed 6)) only ∙ ap (λ (db : Trees). outcome_at (db 6)) (sym unused.clean) ∙ ap outcome_at none
 
--- ---- it is kept in a file of the newest format
+-- ---- it is kept in a file of a format that knows keys
 
-module _ (old new : View) (starts : List ℕ) (n : ℕ) (header : Header) (o : KeyedOutcome) (sets : SetsTree old new 6 (put_row (outcome_row (key_place o.key) o)))
-    (kept : IsKeptFile old starts n header) (newest : header.format < newest_format → ⊥) where
+module _ (old new : View) (starts : List ℕ) (n prepared : ℕ) (header : Header) (o : KeyedOutcome) (sets : SetsTree old new 6 (put_row (outcome_row (key_place o.key) o)))
+    (kept : IsKeptFile old starts n prepared header) (keyed : header.format < keyed_format → ⊥) where
   before : IsFile old.trees
   before = kept.file sets.sound
 
@@ -97,11 +97,11 @@ module _ (old new : View) (starts : List ℕ) (n : ℕ) (header : Header) (o : K
   pub keeps : contents_of new.trees ≡ with_outcome (contents_of old.trees) o
   keeps = ap (λ (v : View). contents_of v.trees) sets.is ∙ ap (λ os. record (contents_of old.trees) { outcomes = os }) (kept-there (old.trees 6) o)
 
-  aged : IsOlder (contents_of old.trees).headers → ⊥
-  aged older = newest (subst IsOlder (kept.header_is sets.sound) older)
+  aged : IsOlderThan keyed_format (contents_of old.trees).headers → ⊥
+  aged older = keyed (subst (IsOlderThan keyed_format) (kept.header_is sets.sound) older)
 
   -- and it is a file of a store again
-  pub keeps-file : IsKeptFile new starts n header
+  pub keeps-file : IsKeptFile new starts n prepared header
   keeps-file = record {
     tables = subst (λ (v : View). HasTables v) (sym sets.is) (record { each = kept.tables.each });
     file = λ _. subst (λ (v : View). IsFile v.trees) (sym sets.is) (record {
@@ -111,11 +111,13 @@ module _ (old new : View) (starts : List ℕ) (n : ℕ) (header : Header) (o : K
       objects = before.objects;
       states = before.states;
       prepared = before.prepared;
+      unprepared = before.unprepared;
       outcomes = λ older. absurd (aged older);
     });
     count_is = λ _. kept.count_is sets.sound ∙ ap (λ (c : Contents). length c.events) (sym keeps);
     starts_are = λ _. kept.starts_are sets.sound ∙ ap (λ (v : View). row_starts 0 (map event_told (v.trees 0))) (sym sets.is);
     header_is = λ _. ap (λ (c : Contents). c.headers) keeps ∙ kept.header_is sets.sound;
+    prepared_are = λ _. kept.prepared_are sets.sound ∙ ap (λ (c : Contents). length c.prepared) (sym keeps);
     kept = λ is_open. subst (λ (v : View). IsTrue v.is_open → IsFile v.committed) (sym sets.is) kept.kept is_open;
     numbered = subst (λ (v : View). IsTrue v.is_numbered) (sym sets.is) kept.numbered;
     named = λ _. subst (λ (v : View). IsNamedOnce (v.trees catalog_tree)) (sym sets.is) (kept.named sets.sound);
@@ -123,9 +125,13 @@ module _ (old new : View) (starts : List ℕ) (n : ℕ) (header : Header) (o : K
 
 -- ---- a table that has no row is made anew
 
--- a file of an older format has no outcomes
-pub older-none : (v : View) (starts : List ℕ) (n : ℕ) (header : Header) → IsKeptFile v starts n header → header.format < newest_format → v.is_broken ≡ false → v.trees 6 ≡ []
-older-none v starts n header kept older sound = (kept.file sound).outcomes (subst IsOlder (sym (kept.header_is sound)) older)
+-- a file of an older format has no prepared transactions, and one of a format that doesn't know keys no outcomes
+module _ (v : View) (starts : List ℕ) (n prepared : ℕ) (header : Header) (kept : IsKeptFile v starts n prepared header) where
+  pub older-unprepared : header.format < newest_format → v.is_broken ≡ false → v.trees 5 ≡ []
+  older-unprepared older sound = (kept.file sound).unprepared (subst (IsOlderThan newest_format) (sym (kept.header_is sound)) older)
+
+  pub older-none : header.format < keyed_format → v.is_broken ≡ false → v.trees 6 ≡ []
+  older-none older sound = (kept.file sound).outcomes (subst (IsOlderThan keyed_format) (sym (kept.header_is sound)) older)
 
 same-file : (now was : Trees) → ((t : ℕ) → t < 7 → now t ≡ was t) → IsFile was → IsFile now
 same-file now was same file = record {
@@ -134,11 +140,12 @@ same-file now was same file = record {
   types = rw (same 2 (lit< tt)) file.types;
   objects = rw (same 3 (lit< tt)) file.objects;
   states = rw (same 4 (lit< tt)) file.states;
-  prepared = same 5 (lit< tt) ∙ file.prepared;
+  prepared = rw (same 5 (lit< tt)) file.prepared;
+  unprepared = rw (same 1 (lit< tt), same 5 (lit< tt)) file.unprepared;
   outcomes = rw (same 1 (lit< tt), same 6 (lit< tt)) file.outcomes;
 }
 
-module _ (old new : View) (starts : List ℕ) (n : ℕ) (header : Header) (table : ℕ) (kept : IsKeptFile old starts n header) (none : old.is_broken ≡ false → old.trees table ≡ []) (anew : Empties old new table) where
+module _ (old new : View) (starts : List ℕ) (n prepared : ℕ) (header : Header) (table : ℕ) (kept : IsKeptFile old starts n prepared header) (none : old.is_broken ≡ false → old.trees table ≡ []) (anew : Empties old new table) where
   same : (t : ℕ) → t < 7 → new.trees t ≡ old.trees t
   same t low = elim (cases_eq t table) [
     | inl is ↦ rw is (anew.rows ∙ sym (none anew.sound))
@@ -146,15 +153,16 @@ module _ (old new : View) (starts : List ℕ) (n : ℕ) (header : Header) (table
   ]
 
   pub stays : contents_of new.trees ≡ contents_of old.trees
-  stays = rw (same 0 (lit< tt), same 1 (lit< tt), same 2 (lit< tt), same 3 (lit< tt), same 4 (lit< tt), same 6 (lit< tt)) refl
+  stays = rw (same 0 (lit< tt), same 1 (lit< tt), same 2 (lit< tt), same 3 (lit< tt), same 4 (lit< tt), same 5 (lit< tt), same 6 (lit< tt)) refl
 
-  pub stays-file : IsKeptFile new starts n header
+  pub stays-file : IsKeptFile new starts n prepared header
   stays-file = record {
     tables = anew.tables;
     file = λ _. same-file new.trees old.trees same (kept.file anew.sound);
     count_is = λ _. kept.count_is anew.sound ∙ ap (λ (c : Contents). length c.events) (sym stays);
     starts_are = λ _. kept.starts_are anew.sound ∙ ap (λ rs. row_starts 0 (map event_told rs)) (sym (same 0 (lit< tt)));
     header_is = λ _. ap (λ (c : Contents). c.headers) stays ∙ kept.header_is anew.sound;
+    prepared_are = λ _. kept.prepared_are anew.sound ∙ ap (λ (c : Contents). length c.prepared) (sym stays);
     kept = λ is_open. subst IsFile (sym anew.committed) (kept.kept (subst IsTrue anew.is_open is_open));
     numbered = anew.numbered;
     named = λ _. anew.named;

@@ -12,7 +12,7 @@ use Rattle.journal.specs.declared.state_row.FirstState.{FirstState}
 use Rattle.journal.specs.Rows.{value_rows}
 use Rattle.journal.specs.StateRow.{state_row, state_told, state_read_back}
 use Rattle.journal.specs.Tables.{Rewrites}
-use Rattle.journal.specs.EmptyTable.{Empties}
+use Rattle.journal.specs.EmptyTable.{EmptiesEpoch}
 use Rattle.journal.specs.Contents.{IsFile, contents_of, from_states}
 use Rattle.journal.specs.Journal.{IsKeptFile, IsNamedOnce}
 use Rattle.journal.proofs.RowLemmas.{put-set, rows-told}
@@ -60,36 +60,39 @@ all-new old now states x first past =
 
 -- ---- a history begins anew at these states
 
-module _ (old middle new : View) (starts : List ℕ) (n : ℕ) (header : Header) (states : List FirstState) (kept : IsKeptFile old starts n header) (gone : Empties old middle 0) (again : Rewrites middle new 4 (value_rows state_row 0 states)) where
+module _ (old middle new : View) (starts : List ℕ) (n many : ℕ) (header : Header) (states : List FirstState) (kept : IsKeptFile old starts n many header) (gone : EmptiesEpoch old middle) (again : Rewrites middle new 4 (value_rows state_row 0 states)) where
   before : IsFile old.trees
   before = kept.file gone.sound
 
   -- the other tables are as they were
-  stays : (t : ℕ) → t ≢ 0 → t ≢ 4 → t < 7 → new.trees t ≡ old.trees t
-  stays t differs apart low = again.others t apart ∙ gone.others t differs low
+  stays : (t : ℕ) → t ≢ 0 → t ≢ 4 → t ≢ 5 → t < 7 → new.trees t ≡ old.trees t
+  stays t not0 not4 not5 low = again.others t not4 ∙ gone.others t not0 not5 low
 
   events : new.trees 0 ≡ []
-  events = again.others 0 (λ is. omega (arith, is)) ∙ gone.rows
+  events = again.others 0 (λ is. omega (arith, is)) ∙ gone.events
+
+  prepared : new.trees 5 ≡ []
+  prepared = again.others 5 (λ is. omega (arith, is)) ∙ gone.prepared
 
   headers : new.trees 1 ≡ old.trees 1
-  headers = stays 1 (λ is. omega (arith, is)) (λ is. omega (arith, is)) (lit< tt)
+  headers = stays 1 (λ is. omega (arith, is)) (λ is. omega (arith, is)) (λ is. omega (arith, is)) (lit< tt)
 
   types : new.trees 2 ≡ old.trees 2
-  types = stays 2 (λ is. omega (arith, is)) (λ is. omega (arith, is)) (lit< tt)
+  types = stays 2 (λ is. omega (arith, is)) (λ is. omega (arith, is)) (λ is. omega (arith, is)) (lit< tt)
 
   objects : new.trees 3 ≡ old.trees 3
-  objects = stays 3 (λ is. omega (arith, is)) (λ is. omega (arith, is)) (lit< tt)
+  objects = stays 3 (λ is. omega (arith, is)) (λ is. omega (arith, is)) (λ is. omega (arith, is)) (lit< tt)
 
   states-told : map state_told (new.trees 4) ≡ states
   states-told = ap (map state_told) again.rows_are ∙ rows-told state_row state_told state_read_back 0 states
 
   outcomes : new.trees 6 ≡ old.trees 6
-  outcomes = stays 6 (λ is. omega (arith, is)) (λ is. omega (arith, is)) (lit< tt)
+  outcomes = stays 6 (λ is. omega (arith, is)) (λ is. omega (arith, is)) (λ is. omega (arith, is)) (lit< tt)
 
   pub from-states : contents_of new.trees ≡ from_states (contents_of old.trees) states
-  from-states = rw (events, headers, types, objects, states-told, outcomes) refl
+  from-states = rw (events, headers, types, objects, states-told, prepared, outcomes) refl
 
-  pub resets : IsKeptFile new [] 0 header
+  pub resets : IsKeptFile new [] 0 0 header
   resets = record {
     tables = record { each = λ t low. ap (λ s. s t) again.shape ∙ gone.tables.each t low };
     file = λ _. record {
@@ -98,12 +101,14 @@ module _ (old middle new : View) (starts : List ℕ) (n : ℕ) (header : Header)
       types = rw types before.types;
       objects = rw objects before.objects;
       states = again.rows_are ∙ ap (value_rows state_row 0) (sym states-told);
-      prepared = stays 5 (λ is. omega (arith, is)) (λ is. omega (arith, is)) (lit< tt) ∙ before.prepared;
+      prepared = rw prepared refl;
+      unprepared = λ _. prepared;
       outcomes = rw (headers, outcomes) before.outcomes;
     };
     count_is = λ _. rw events refl;
     starts_are = λ _. rw events refl;
     header_is = λ _. rw headers (kept.header_is gone.sound);
+    prepared_are = λ _. rw prepared refl;
     kept = λ is_open. subst IsFile (sym (again.committed ∙ gone.committed)) (kept.kept (subst IsTrue (again.is_open ∙ gone.is_open) is_open));
     numbered = subst IsTrue (sym again.numbered) gone.numbered;
     named = λ _. subst IsNamedOnce (sym (again.others catalog_tree (λ is. omega (arith, is)))) gone.named;

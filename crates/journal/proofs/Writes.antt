@@ -31,8 +31,8 @@ one-pending c events e = ap (λ es. record c { events = es }) (sym (append_assoc
 
 -- ---- those that are pending become a row
 
-module _ (old new : View) (position count : ℕ) (starts : List ℕ) (header : Header) (events : List EventKind) (sets : SetsTree old new 0 (put_row (event_row position (Lines events))))
-    (kept : IsKeptFile old starts count header) (behind : position ≡ length starts) where
+module _ (old new : View) (position count prepared : ℕ) (starts : List ℕ) (header : Header) (events : List EventKind) (sets : SetsTree old new 0 (put_row (event_row position (Lines events))))
+    (kept : IsKeptFile old starts count prepared header) (behind : position ≡ length starts) where
   before : IsFile old.trees
   before = kept.file sets.sound
 
@@ -60,6 +60,7 @@ module _ (old new : View) (position count : ℕ) (starts : List ℕ) (header : H
     objects = before.objects;
     states = before.states;
     prepared = before.prepared;
+    unprepared = before.unprepared;
     outcomes = before.outcomes;
   })
 
@@ -75,7 +76,7 @@ module _ (old new : View) (position count : ℕ) (starts : List ℕ) (header : H
       ∙ ap (row_starts 0) (sym told)
 
   -- and it is a file of a store again
-  pub groups : IsKeptFile new (starts ++ count ∷ []) (count + length events) header
+  pub groups : IsKeptFile new (starts ++ count ∷ []) (count + length events) prepared header
   groups = record {
     tables = subst (λ (v : View). HasTables v) (sym sets.is) (record { each = kept.tables.each });
     file = λ _. file;
@@ -84,6 +85,7 @@ module _ (old new : View) (position count : ℕ) (starts : List ℕ) (header : H
         let was = kept.count_is sets.sound in omega arith;
     starts_are = λ _. begin ∙ ap (λ (v : View). row_starts 0 (map event_told (v.trees 0))) (sym sets.is);
     header_is = λ _. ap (λ (c : Contents). c.headers) grouped ∙ kept.header_is sets.sound;
+    prepared_are = λ _. kept.prepared_are sets.sound ∙ ap (λ (c : Contents). length c.prepared) (sym grouped);
     kept = λ is_open. subst (λ (v : View). IsTrue v.is_open → IsFile v.committed) (sym sets.is) kept.kept is_open;
     numbered = subst (λ (v : View). IsTrue v.is_numbered) (sym sets.is) kept.numbered;
     named = λ _. subst (λ (v : View). IsNamedOnce (v.trees catalog_tree)) (sym sets.is) (kept.named sets.sound);

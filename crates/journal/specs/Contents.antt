@@ -13,15 +13,18 @@ use Rattle.journal.specs.ObjectRows.{object_row, object_told}
 use Rattle.journal.specs.StateRow.{state_row, state_told}
 use Rattle.journal.specs.declared.outcome_row.KeyedOutcome.{KeyedOutcome}
 use Rattle.journal.specs.OutcomeRow.{outcome_at, outcomes_with}
+use Rattle.journal.specs.declared.prepared_row.Prepared.{Prepared}
+use Rattle.journal.specs.PreparedRow.{prepared_row, prepared_told}
 
 -- the events of the history since the file's states, what the file says of itself, the texts of types, the objects with their types,
--- the states at which they began, and what became of transactions that have keys, by the places of these
+-- the states at which they began, which transactions were prepared since, and what became of transactions that have keys, by the places of these
 pub record Contents : Type 0 where
   pub events : List EventKind
   pub headers : List Header
   pub types : List (List ℕ)
   pub objects : List ObjectLine
   pub states : List FirstState
+  pub prepared : List Prepared
   pub outcomes : ℕ → Option KeyedOutcome
 
 abbrev pub contents_of : Trees → Contents
@@ -31,29 +34,35 @@ contents_of db = record {
   types = map type_told (db 2);
   objects = map object_told (db 3);
   states = map state_told (db 4);
+  prepared = map prepared_told (db 5);
   outcomes = outcome_at (db 6);
 }
 
--- the format of what is written: 6 has what became of transactions that have keys, 5 a row for the events that were written together,
+-- the format of what is written: 7 has prepared transactions, 6 what became of transactions that have keys, 5 a row for the events that were written together,
 -- 4 names of objects, 3 operations with amounts, 2 types that are numbers
 abbrev pub newest_format : ℕ
-newest_format = 6
+newest_format = 7
 
--- a header of an older format
-abbrev pub IsOlder : List Header → Type 0
-IsOlder [] = ⊥
-IsOlder (h ∷ hs) = h.format < newest_format
+-- the first format that knows keys
+abbrev pub keyed_format : ℕ
+keyed_format = 6
 
--- each table but the last one has the rows of what it says, at the positions 0, 1, 2 and so on, and no other; a row of events may say several; that
--- for prepared transactions has none, nor has the last one in a file of an older format
+-- a header of an older format than this one
+abbrev pub IsOlderThan : ℕ → List Header → Type 0
+IsOlderThan format [] = ⊥
+IsOlderThan format (h ∷ hs) = h.format < format
+
+-- each table but the last one has the rows of what it says, at the positions 0, 1, 2 and so on, and no other; a row of events may say several; the
+-- last two have none in a file of a format that doesn't know them
 pub record IsFile (db : Trees) : Type 0 where
   pub events : db 0 ≡ value_rows event_row 0 (map event_told (db 0))
   pub headers : db 1 ≡ value_rows header_row 0 (contents_of db).headers
   pub types : db 2 ≡ value_rows type_row 0 (contents_of db).types
   pub objects : db 3 ≡ value_rows object_row 0 (contents_of db).objects
   pub states : db 4 ≡ value_rows state_row 0 (contents_of db).states
-  pub prepared : db 5 ≡ []
-  pub outcomes : IsOlder (contents_of db).headers → db 6 ≡ []
+  pub prepared : db 5 ≡ value_rows prepared_row 0 (contents_of db).prepared
+  pub unprepared : IsOlderThan newest_format (contents_of db).headers → db 5 ≡ []
+  pub outcomes : IsOlderThan keyed_format (contents_of db).headers → db 6 ≡ []
 
 -- with these events, which are in no row yet, behind the others
 abbrev pub with_pending : Contents → List EventKind → Contents
@@ -63,6 +72,10 @@ with_pending c events = record c { events = c.events ++ events }
 abbrev pub contents_with_event : Contents → EventKind → Contents
 contents_with_event c e = record c { events = c.events ++ e ∷ [] }
 
+-- with a prepared transaction more
+abbrev pub with_prepared : Contents → Prepared → Contents
+with_prepared c p = record c { prepared = c.prepared ++ p ∷ [] }
+
 -- with what became of a transaction, at its key's place
 abbrev pub with_outcome : Contents → KeyedOutcome → Contents
 with_outcome c o = record c { outcomes = outcomes_with c.outcomes o }
@@ -71,10 +84,10 @@ with_outcome c o = record c { outcomes = outcomes_with c.outcomes o }
 abbrev pub in_life : Contents → ℕ → Contents
 in_life c life = record c { headers = map (λ (h : Header). let raised : Header = record h { format = newest_format; life = life } in raised) c.headers }
 
--- where a history begins at these states
+-- where a history begins at these states, and no transaction is prepared yet
 abbrev pub from_states : Contents → List FirstState → Contents
-from_states c states = record c { events = []; states = states }
+from_states c states = record c { events = []; states = states; prepared = [] }
 
 -- with these types and objects behind those that there are, where a history of all of them begins at these states
 abbrev pub extended : Contents → List (List ℕ) → List ObjectLine → List FirstState → Contents
-extended c types objects states = record c { events = []; types = c.types ++ types; objects = c.objects ++ objects; states = states }
+extended c types objects states = record c { events = []; types = c.types ++ types; objects = c.objects ++ objects; states = states; prepared = [] }

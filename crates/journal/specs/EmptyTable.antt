@@ -1,4 +1,4 @@
--- A table is made anew, with no row, and nothing else changes.
+-- Tables are made anew, with no row, and nothing else changes.
 use Rattle.std.specs.Prelude.{◌≡◌, ◌≢◌, ◌<◌, ℕ, false, [], IsTrue}
 use Rattle.sqlite_trees.specs.Objects.{catalog_tree}
 use Rattle.sqlite_trees.specs.View.{View}
@@ -20,3 +20,15 @@ pub record Empties (old new : View) (table : ℕ) : Type 0 where
   pub committed : new.committed ≡ old.committed
   pub is_open : new.is_open ≡ old.is_open
   pub is_broken : new.is_broken ≡ old.is_broken
+
+-- those of what an epoch has: of events, and of prepared transactions
+pub record EmptiesEpoch (old new : View) : Type 0 where
+  pub sound : old.is_broken ≡ false
+  pub events : new.trees 0 ≡ []
+  pub prepared : new.trees 5 ≡ []
+  pub others : (t : ℕ) → t ≢ 0 → t ≢ 5 → t < 7 → new.trees t ≡ old.trees t
+  pub tables : HasTables new
+  pub numbered : IsTrue new.is_numbered
+  pub named : IsNamedOnce (new.trees catalog_tree)
+  pub committed : new.committed ≡ old.committed
+  pub is_open : new.is_open ≡ old.is_open

@@ -22,7 +22,7 @@ pub record HasTables (v : View) : Type 0 where
 abbrev pub name_column : ℕ
 name_column = 2
 
--- the tables that are made anew, with their names: that of events by each epoch, the others by a newer format
+-- the tables that are made anew, with their names: those of events and of prepared transactions by each epoch, the last two by a newer format
 abbrev pub IsRemade : ℕ → List ℕ → Type 0
 IsRemade table name = ((table ≡ 0) × (name ≡ codes "event")) ⊎ (((table ≡ 5) × (name ≡ codes "prepared")) ⊎ ((table ≡ 6) × (name ≡ codes "outcome")))
 
@@ -33,13 +33,15 @@ IsOwnNamed r = (table : ℕ) (name : List ℕ) → IsRemade table name → has_r
 abbrev pub IsNamedOnce : List Row → Type 0
 IsNamedOnce = AllByRecursion IsOwnNamed
 
--- what the store shows: while it is not broken, a file of a store with this header and this many events, whose rows begin at these of them
-pub record IsKeptFile (v : View) (starts : List ℕ) (count : ℕ) (header : Header) : Type 0 where
+-- what the store shows: while it is not broken, a file of a store with this header, this many events, whose rows begin at these of them, and this many
+-- prepared transactions
+pub record IsKeptFile (v : View) (starts : List ℕ) (count prepared : ℕ) (header : Header) : Type 0 where
   pub tables : HasTables v
   pub file : v.is_broken ≡ false → IsFile v.trees
   pub count_is : v.is_broken ≡ false → count ≡ length (contents_of v.trees).events
   pub starts_are : v.is_broken ≡ false → starts ≡ row_starts 0 (map event_told (v.trees 0))
   pub header_is : v.is_broken ≡ false → (contents_of v.trees).headers ≡ header ∷ []
+  pub prepared_are : v.is_broken ≡ false → prepared ≡ length (contents_of v.trees).prepared
   pub kept : IsTrue v.is_open → IsFile v.committed
   pub numbered : IsTrue v.is_numbered
   pub named : v.is_broken ≡ false → IsNamedOnce (v.trees catalog_tree)
@@ -65,7 +67,7 @@ module _ {S : Type 0} (g : Ghosts S) where
   may_leave it = g.recovers it.store
 
   abbrev pub IsJournal : Journal S → Type 0
-  IsJournal it = IsClean (g.view it.store) → IsKeptFile (g.view it.store) it.starts.items it.settled it.header × (it.count ≡ it.settled + length it.pending)
+  IsJournal it = IsClean (g.view it.store) → IsKeptFile (g.view it.store) it.starts.items it.settled it.prepared it.header × (it.count ≡ it.settled + length it.pending)
 
   -- the file that a commit at this moment may leave: all that was written, under this header
   abbrev pub IsAsWritten : Journal S → Trees → Type 0

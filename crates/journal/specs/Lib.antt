@@ -8,9 +8,11 @@ pub mod Tables
 pub mod HeaderRow
 pub mod StateRow
 pub mod OutcomeRow
+pub mod PreparedRow
 pub mod ObjectRows
 pub mod TypeRow
 pub mod Contents
 pub mod Journal
 pub mod Said
 pub mod EmptyTable
+pub mod Examples

@@ -10,7 +10,8 @@ use Rattle.journal.specs.TypeRow.{type_row}
 use Rattle.journal.specs.ObjectRows.{object_row}
 use Rattle.journal.specs.StateRow.{state_row}
 use Rattle.journal.specs.declared.outcome_row.KeyedOutcome.{KeyedOutcome}
-use Rattle.journal.specs.Contents.{Contents, newest_format}
+use Rattle.journal.specs.PreparedRow.{prepared_row}
+use Rattle.journal.specs.Contents.{Contents, keyed_format, newest_format}
 
 -- the same as the tables say it, where no transaction had a key
 abbrev pub contents : FileContents → Contents
@@ -20,6 +21,7 @@ contents said = record {
   types = said.types.items;
   objects = said.objects.items;
   states = said.states.items;
+  prepared = said.prepared.items;
   outcomes = λ _. None;
 }
 
@@ -37,5 +39,6 @@ pub record HasRowsOf (db : Trees) (said : FileContents) (starts : List ℕ) : Ty
   pub types : db 2 ≡ value_rows type_row 0 said.types.items
   pub objects : db 3 ≡ value_rows object_row 0 said.objects.items
   pub states : db 4 ≡ value_rows state_row 0 said.states.items
-  pub prepared : db 5 ≡ []
-  pub outcomes : said.header.format < newest_format → db 6 ≡ []
+  pub prepared : db 5 ≡ value_rows prepared_row 0 said.prepared.items
+  pub unprepared : said.header.format < newest_format → db 5 ≡ []
+  pub outcomes : said.header.format < keyed_format → db 6 ≡ []

@@ -4,15 +4,16 @@ ghost use Rattle.std.specs.Prelude.{◌≡◌, ◌<◌, ◌∷◌, [], IfOk, IsT
 ghost use Rattle.sqlite_trees.specs.Tree.{Trees};
 ghost use Rattle.sqlite_trees.specs.View.{IsClean};
 ghost use Rattle.journal.specs.HeaderRow.{header_row};
-ghost use Rattle.journal.specs.Contents.{newest_format};
+ghost use Rattle.journal.specs.Contents.{keyed_format, newest_format};
 ghost use Rattle.journal.specs.Said.{HasRowsOf};
 ghost use Rattle.journal.specs.Journal.{HasTables};
 ghost use Rattle.journal.specs.Tables.{IsUnused, OnlyReads};
 
 use crate::event_row::{EventRow, events_of, starts_of};
-use crate::header::{FORMAT, Header};
+use crate::header::{FORMAT, Header, KEYED_FORMAT};
 use crate::journal_error::JournalError;
 use crate::object_row::TypeText;
+use crate::prepared_row::Prepared;
 use crate::state_row::FirstState;
 use crate::table::{has_no_rows, read_all};
 use object_trait::EventKind;
@@ -36,7 +37,7 @@ pub const OBJECTS: u32 = 3;
 /// The table of the states at which they began.
 pub const STATES: u32 = 4;
 
-/// The table of transactions that are prepared, which has no rows.
+/// The table of transactions that were prepared in the present epoch.
 pub const PREPARED: u32 = 5;
 
 /// The table of what became of transactions that have keys.
@@ -46,7 +47,7 @@ pub const OUTCOMES: u32 = 6;
 pub const NAME: usize = 2;
 
 /// What a file of a store says: of itself, the texts of types, the objects with their types, the states at
-/// which they began, and the events since, oldest first.
+/// which they began, the events since, oldest first, and the transactions that were prepared since.
 #[derive(Drop)]
 pub struct FileContents {
     pub header: Header,
@@ -54,6 +55,8 @@ pub struct FileContents {
     pub objects: Vec<ObjectLine>,
     pub states: Vec<FirstState>,
     pub events: Vec<EventKind>,
+    /// In the order in which they were, decided ones too.
+    pub prepared: Vec<Prepared>,
 }
 
 /// What was read of a file, and at which place among all events those of each row begin.
@@ -86,7 +89,8 @@ pub fn read_contents<S: Store>(
     let objects = read_all(alloc, store, OBJECTS, row)?;
     let states = read_all(alloc, store, STATES, row)?;
     let rows: Vec<EventRow> = read_all(alloc, store, EVENTS, row)?;
-    if !has_no_rows(store, PREPARED, row)? || !may_have_outcomes(store, header, row)? {
+    let prepared: Vec<Prepared> = read_all(alloc, store, PREPARED, row)?;
+    if !may_be_prepared(header, &prepared) || !may_have_outcomes(store, header, row)? {
         return Err(JournalError::Foreign);
     }
     let events = events_of(alloc, &rows)?;
@@ -97,8 +101,16 @@ pub fn read_contents<S: Store>(
         objects,
         states,
         events,
+        prepared,
     };
     Ok(FoundContents { said, starts })
+}
+
+/// Whether these may be prepared in a file of this format: those before 7 have none.
+fn may_be_prepared(header: Header, prepared: &[Prepared]) -> bool
+    ensures { IsTrue result → header.format < newest_format → prepared.now ≡ [] }
+{
+    header.format >= FORMAT || prepared.is_empty()
 }
 
 /// Whether the table of what became of transactions is as the file's format has it: those before 6 have no row there.
@@ -113,12 +125,12 @@ fn may_have_outcomes<S: Store>(
 ) -> Result<bool, JournalError>
     requires unused { IsClean (S.Store.view store.old) → IsUnused (S.Store.view store.old) }
     requires tables { IsClean (S.Store.view store.old) → HasTables (S.Store.view store.old) }
-    ensures told { IfOk result (λ may. IsTrue may → IsClean (S.Store.view store.new) → header.format < newest_format → (S.Store.view store.old).trees 6 ≡ []) }
+    ensures told { IfOk result (λ may. IsTrue may → IsClean (S.Store.view store.new) → header.format < keyed_format → (S.Store.view store.old).trees 6 ≡ []) }
     ensures same { OnOk result (IsClean (S.Store.view store.new) → OnlyReads (S.Store.view store.old) (S.Store.view store.new)) }
     ensures clean { IsClean (S.Store.view store.new) → IsClean (S.Store.view store.old) }
     ensures crash { (db : Trees) → S.Store.recovers store.new db → S.Store.recovers store.old db }
 {
-    if header.format >= FORMAT {
+    if header.format >= KEYED_FORMAT {
         return Ok(true);
     }
     has_no_rows(store, OUTCOMES, row)

@@ -57,6 +57,7 @@ impl<S: Alter> Journal<S> {
             Ok(FoundContents { said, starts }) => {
                 let settled = said.events.as_slice().len() as u64;
                 let header = said.header;
+                let prepared = said.prepared.as_slice().len() as u64;
                 let journal = Journal {
                     store,
                     row,
@@ -65,6 +66,7 @@ impl<S: Alter> Journal<S> {
                     count: settled,
                     pending: EventGroup::new(alloc),
                     header,
+                    prepared,
                 };
                 Ok((journal, said))
             }

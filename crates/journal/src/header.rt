@@ -17,7 +17,10 @@ const ID: usize = 3;
 const LIFE: usize = 4;
 
 /// The format of what is written.
-pub const FORMAT: u32 = 6;
+pub const FORMAT: u32 = 7;
+
+/// The first format whose tables of prepared transactions and of outcomes are as they are now.
+pub const KEYED_FORMAT: u32 = 6;
 
 /// What a file says of itself: the version of its format, 16 bytes that were drawn when it was made, and
 /// how many lives of stores began over it, which is the number of the present one.

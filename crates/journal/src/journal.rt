@@ -2,7 +2,7 @@
 
 ghost use Rattle.std.specs.Prelude.{◌≡◌, ◌^◌, ◌⊎◌, ◌∷◌, [], IsTrue, OnOk, ◌<◌, drop, map, take, IfOk, ◌+◌, ◌≤◌, ℕ, List, false, length};
 ghost use Rattle.sqlite_trees.specs.Tree.{Trees};
-ghost use Rattle.journal.specs.Contents.{contents_with_event, extended, from_states, in_life, with_outcome};
+ghost use Rattle.journal.specs.Contents.{contents_with_event, extended, from_states, in_life, with_outcome, with_prepared};
 ghost use Rattle.journal.specs.Journal.{Clean, IsAsWritten, IsJournal, IsNumbered, IsOpen, IsSettled, ShowsCommit, durable, may_leave, written};
 ghost use Rattle.sqlite_trees.specs.declared.store.Shape.TheVariants.{Table};
 ghost use Rattle.sqlite_trees.specs.View.{IsClean};
@@ -15,14 +15,15 @@ ghost use Rattle.transaction_key.specs.TransactionKey.{key_place};
 use crate::contents::{EVENTS, HEADER, OBJECTS, OUTCOMES, PREPARED, STATES, TYPES};
 use crate::entry::Entry;
 use crate::event_row::{EventRow, put_group, some_of};
-use crate::header::{FORMAT, Header};
+use crate::header::{FORMAT, Header, KEYED_FORMAT};
 use crate::journal_error::JournalError;
 use crate::more_rows::append_each;
-use crate::new_table::make_anew;
+use crate::new_table::{empty_epoch, make_anew};
 use crate::object_row::TypeText;
 use crate::outcome_row::{KeyedOutcome, kept_at};
+use crate::prepared_row::Prepared;
 use crate::row_places::rows_of;
-use crate::schema::{EVENT_SQL, OUTCOME_SQL, PREPARED_SQL};
+use crate::schema::{OUTCOME_SQL, PREPARED_SQL};
 use crate::state_row::FirstState;
 use crate::table::{MOST_ROWS, append, read_all, read_from};
 use event_text::EventGroup;
@@ -48,6 +49,8 @@ pub struct Journal<S: Store> {
     // Those in no row yet: the next commit makes one of them.
     pub(crate) pending: EventGroup,
     pub(crate) header: Header,
+    // How many transactions were prepared in this epoch.
+    pub(crate) prepared: u64,
 }
 
 impl<S: Store> Journal<S> {
@@ -149,6 +152,33 @@ impl<S: Store> Journal<S> {
         Ok(())
     }
 
+    /// Writes that a transaction is prepared, behind the others of the epoch. A crash may still take it away.
+    ///
+    /// # Errors
+    ///
+    /// `Foreign` where the file is of an older format, which the next life raises, or `Full`, and nothing changes; the file
+    /// failed, or memory was refused: the journal isn't to be used any more.
+    pub fn prepare(&mut self, prepared: &Prepared) -> Result<(), JournalError>
+        requires { IsJournal S.Store self.old }
+        ensures kept { OnOk result (IsJournal S.Store self.new) }
+        ensures written { OnOk result (Clean S.Store self.new → written S.Store self.new ≡ with_prepared (written S.Store self.old) prepared.now) }
+        ensures durable { OnOk result (Clean S.Store self.new → durable S.Store self.new ≡ durable S.Store self.old) }
+        ensures header { self.new.header ≡ self.old.header }
+        ensures clean { Clean S.Store self.new → Clean S.Store self.old }
+        ensures crash { (db : Trees) → may_leave S.Store self.new db → may_leave S.Store self.old db }
+    {
+        if self.header.format < FORMAT {
+            return Err(JournalError::Foreign);
+        }
+        if self.prepared >= MOST_ROWS {
+            return Err(JournalError::Full);
+        }
+        let (store, row) = (&mut self.store, &mut self.row);
+        append(store, PREPARED, self.prepared, prepared, row)?;
+        self.prepared += 1;
+        Ok(())
+    }
+
     /// Keeps what became of a transaction at its key's place, and nothing else there. A crash may still take it away.
     ///
     /// # Errors
@@ -164,7 +194,7 @@ impl<S: Store> Journal<S> {
         ensures clean { Clean S.Store self.new → Clean S.Store self.old }
         ensures crash { (db : Trees) → may_leave S.Store self.new db → may_leave S.Store self.old db }
     {
-        if self.header.format < FORMAT {
+        if self.header.format < KEYED_FORMAT {
             return Err(JournalError::Foreign);
         }
         let (store, row) = (&mut self.store, &mut self.row);
@@ -226,6 +256,7 @@ impl<S: Store> Journal<S> {
             count: _,
             pending: _,
             header: _,
+            prepared: _,
         } = self;
         store
     }
@@ -391,7 +422,7 @@ impl<S: Alter> Journal<S> {
         ensures clean { Clean S.Store self.new → Clean S.Store self.old }
         ensures crash { (db : Trees) → may_leave S.Store self.new db → may_leave S.Store self.old db }
     {
-        if self.header.format >= FORMAT {
+        if self.header.format >= KEYED_FORMAT {
             return Ok(());
         }
         make_anew(&mut self.store, PREPARED, "prepared", PREPARED_SQL)?;
@@ -399,8 +430,8 @@ impl<S: Alter> Journal<S> {
         Ok(())
     }
 
-    /// Begins another epoch, and another life with it: no event is left, and these are the objects' states.
-    /// A crash before the next commit takes all of it away.
+    /// Begins another epoch, and another life with it: no event and no prepared transaction is left, and these are the
+    /// objects' states. A crash before the next commit takes all of it away.
     ///
     /// # Errors
     ///
@@ -421,9 +452,9 @@ impl<S: Alter> Journal<S> {
         self.begin_life()
     }
 
-    /// Begins another epoch with more objects, and another life with it: no event is left, these texts of types and
-    /// objects are behind those that the file has, of which it has `known` texts, and these are the states of all
-    /// objects. A crash before the next commit takes all of it away.
+    /// Begins another epoch with more objects, and another life with it: no event and no prepared transaction is left,
+    /// these texts of types and objects are behind those that the file has, of which it has `known` texts, and these are
+    /// the states of all objects. A crash before the next commit takes all of it away.
     ///
     /// # Errors
     ///
@@ -454,7 +485,7 @@ impl<S: Alter> Journal<S> {
         self.begin_life()
     }
 
-    /// Leaves no event, these types and objects behind the others, and these states.
+    /// Leaves no event and no prepared transaction, these types and objects behind the others, and these states.
     ///
     /// # Errors
     ///
@@ -482,7 +513,7 @@ impl<S: Alter> Journal<S> {
     {
         let count = states.len() - objects.len();
         let (store, row) = (&mut self.store, &mut self.row);
-        make_anew(store, EVENTS, "event", EVENT_SQL)?;
+        empty_epoch(store)?;
         rewrite_states(store, &states[..count], row)?;
         append_each(store, STATES, count as u64, &states[count..], row)?;
         append_each(store, TYPES, known, types, row)?;
@@ -491,10 +522,11 @@ impl<S: Alter> Journal<S> {
         self.pending.clear();
         self.settled = 0;
         self.count = 0;
+        self.prepared = 0;
         Ok(())
     }
 
-    /// Leaves no event, and these states.
+    /// Leaves no event and no prepared transaction, and these states.
     ///
     /// # Errors
     ///
@@ -510,12 +542,13 @@ impl<S: Alter> Journal<S> {
         ensures clean { Clean S.Store self.new → Clean S.Store self.old }
         ensures crash { (db : Trees) → may_leave S.Store self.new db → may_leave S.Store self.old db }
     {
-        make_anew(&mut self.store, EVENTS, "event", EVENT_SQL)?;
+        empty_epoch(&mut self.store)?;
         rewrite_states(&mut self.store, states, &mut self.row)?;
         self.starts.clear();
         self.pending.clear();
         self.settled = 0;
         self.count = 0;
+        self.prepared = 0;
         Ok(())
     }
 }

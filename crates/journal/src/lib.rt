@@ -15,6 +15,7 @@ mod new_table;
 mod object_row;
 mod outage;
 mod outcome_row;
+mod prepared_row;
 mod row_places;
 mod schema;
 mod single_event;
@@ -29,6 +30,7 @@ pub use journal_error::JournalError;
 pub use object_row::TypeText;
 pub use outage::{commit_and_restart, restart};
 pub use outcome_row::{KeyedOutcome, Outcome, ReplyText};
+pub use prepared_row::{GivenName, Prepared};
 pub use state_row::FirstState;
 pub use table::{append, read_all};
 

@@ -1,6 +1,6 @@
 //! A new file of a store.
 
-ghost use Rattle.std.specs.Prelude.{◌≡◌, ◌≢◌, ◌<◌, ◌≤◌, ◌^◌, [], true, length, IfOk, OnOk, IsTrue};
+ghost use Rattle.std.specs.Prelude.{◌≡◌, ◌≢◌, ◌<◌, ◌^◌, true, length, IfOk, OnOk, IsTrue};
 ghost use Rattle.std.specs.List.{AllByRecursion};
 ghost use Rattle.sqlite_value.specs.Order.{column};
 ghost use Rattle.sqlite_value.specs.declared.value.Value.TheVariants.{Text};
@@ -18,7 +18,6 @@ use crate::journal::Journal;
 use crate::journal_error::JournalError;
 use crate::schema::TABLES;
 use crate::table::{append, has_no_rows};
-use object_trait::EventKind;
 use sqlite_trees::schema::Object;
 use sqlite_trees::store::{Alter, Shape, Store};
 use sqlite_value::row::Row;
@@ -161,10 +160,10 @@ fn few<E>(entries: &Vec<E>) -> Result<&[E], JournalError>
 fn is_same(found: &FileContents, said: &FileContents) -> bool
     ensures { result ≡ true → contents found.now ≡ contents said.now }
 {
-    if !are_none(&found.events) {
+    if !are_none(&found.events, &said.events) {
         return false;
     }
-    if !are_none(&said.events) {
+    if !are_none(&found.prepared, &said.prepared) {
         return false;
     }
     if !found.header.is_same(&said.header) {
@@ -179,11 +178,11 @@ fn is_same(found: &FileContents, said: &FileContents) -> bool
     are_same(&found.types, &said.types)
 }
 
-/// Whether there is no event.
-fn are_none(events: &[EventKind]) -> bool
-    ensures { result ≡ true → events.now ≡ [] }
+/// Whether neither list has any.
+fn are_none<E>(found: &[E], said: &[E]) -> bool
+    ensures { result ≡ true → found.now ≡ said.now }
 {
-    events.is_empty()
+    found.is_empty() && said.is_empty()
 }
 
 /// Whether two lists of values are the same.
@@ -207,7 +206,7 @@ impl<S: Alter> Journal<S> {
     ///
     /// # Errors
     ///
-    /// `Foreign` where there is another table, or an event; the file failed, or memory was refused.
+    /// `Foreign` where there is another table, an event, or a prepared transaction; the file failed, or memory was refused.
     /// The trees come back.
     pub fn create(
         alloc: Global,

@@ -1,12 +1,14 @@
-//! A table is made anew, which empties it.
+//! Tables are made anew, which empties them.
 
 ghost use Rattle.std.specs.Prelude.{◌≡◌, OnOk};
 ghost use Rattle.sqlite_trees.specs.Tree.{Trees};
 ghost use Rattle.sqlite_trees.specs.View.{IsClean};
-ghost use Rattle.journal.specs.EmptyTable.{Empties, MayEmpty};
+ghost use Rattle.journal.specs.EmptyTable.{Empties, EmptiesEpoch, MayEmpty};
 ghost use Rattle.journal.specs.Journal.{IsRemade};
 
+use crate::contents::{EVENTS, PREPARED};
 use crate::journal_error::JournalError;
+use crate::schema::{EVENT_SQL, PREPARED_SQL};
 use sqlite_trees::schema::Object;
 use sqlite_trees::store::{Alter, Shape};
 
@@ -37,5 +39,21 @@ pub fn make_anew<S: Alter>(
     };
     store.destroy(tree)?;
     store.create(tree, &object)?;
+    Ok(())
+}
+
+/// Makes the tables of what an epoch has anew: its events, and the transactions that were prepared in it.
+///
+/// # Errors
+///
+/// The file failed, or memory was refused.
+pub fn empty_epoch<S: Alter>(store: &mut S) -> Result<(), JournalError>
+    requires { IsClean (S.Store.view store.old) → MayEmpty (S.Store.view store.old) }
+    ensures ok { OnOk result (IsClean (S.Store.view store.new) → EmptiesEpoch (S.Store.view store.old) (S.Store.view store.new)) }
+    ensures clean { IsClean (S.Store.view store.new) → IsClean (S.Store.view store.old) }
+    ensures crash { (db : Trees) → S.Store.recovers store.new db → S.Store.recovers store.old db }
+{
+    make_anew(store, EVENTS, "event", EVENT_SQL)?;
+    make_anew(store, PREPARED, "prepared", PREPARED_SQL)?;
     Ok(())
 }

@@ -135,7 +135,7 @@ impl FilledEntry for KeyedOutcome {
 }
 
 /// The key that a row has, where it is one.
-fn key_in(row: &Row) -> Option<TransactionKey>
+pub fn key_in(row: &Row) -> Option<TransactionKey>
     ensures { IfSome result (λ key. column row.now 2 ≡ Text key) }
 {
     TransactionKey::from_bytes(text_in(row, KEY)?)

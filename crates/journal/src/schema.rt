@@ -8,7 +8,7 @@ use sqlite_trees::store::Shape;
 pub const EVENT_SQL: &str =
     "CREATE TABLE event (number INTEGER PRIMARY KEY, lines TEXT NOT NULL, events INTEGER NOT NULL)";
 
-/// The statement that makes the table of prepared transactions, which is empty.
+/// The statement that makes the table of prepared transactions. Formats 1 to 5 have another one, which is empty.
 pub const PREPARED_SQL: &str =
     "CREATE TABLE prepared (position INTEGER PRIMARY KEY, key TEXT NOT NULL, s INTEGER NOT NULL, n INTEGER NOT NULL, number INTEGER NOT NULL, until INTEGER NOT NULL)";
 

@@ -6,8 +6,11 @@ ghost use Rattle.object_trait.specs.declared.event.EventKind.TheVariants.{Begin,
 ghost use Rattle.sqlite_value.specs.declared.value.Value.TheVariants.{Int, Null, Text};
 ghost use Rattle.journal.specs.declared.event_row.EventRow.TheVariants.{Lines, Single};
 ghost use Rattle.journal.specs.declared.outcome_row.Outcome.TheVariants.{Aborted, Committed};
+ghost use Rattle.journal.specs.Contents.{IsFile, contents_of};
 ghost use Rattle.journal.specs.EventRow.{event_row, events_in_rows, row_starts};
+ghost use Rattle.journal.specs.Examples.{prepared_order, small_file};
 ghost use Rattle.journal.specs.OutcomeRow.{outcome_at, outcome_row};
+ghost use Rattle.journal.specs.PreparedRow.{prepared_row, prepared_told};
 ghost use Rattle.journal.specs.RowPlaces.{AreBefore, HaveEvents};
 
 /// A transaction at object 3 that was written at once, then one of which a file of an older format has each event in a row.
@@ -33,4 +36,19 @@ pub fn rows_of_outcomes()
     ensures aborted { outcome_row 9 (record { key = codes "order:9"; outcome = Aborted }) ≡ Int (pos 9) ∷ Null ∷ Text (codes "order:9") ∷ Text (codes "aborted") ∷ Text [] ∷ [] }
     ensures found { outcome_at (outcome_row 7 (record { key = codes "order:7"; outcome = Committed [] }) ∷ outcome_row 9 (record { key = codes "order:9"; outcome = Aborted }) ∷ []) 9 ≡ Some (record { key = codes "order:9"; outcome = Aborted }) }
     ensures none { outcome_at (outcome_row 7 (record { key = codes "order:7"; outcome = Committed [] }) ∷ outcome_row 9 (record { key = codes "order:9"; outcome = Aborted }) ∷ []) 8 ≡ None }
+{}
+
+/// A prepared transaction is a row of its position, its key, the name that its client has, its number and how long it waits.
+pub fn rows_of_prepared()
+    ensures row { prepared_row 0 prepared_order ≡ Int (pos 0) ∷ Null ∷ Text (codes "order:7") ∷ Int (pos 1) ∷ Int (pos 3) ∷ Int (pos 4) ∷ Int (pos 60) ∷ [] }
+    ensures told { prepared_told (Int (pos 2) ∷ Null ∷ Text (codes "order:7") ∷ Int (pos 1) ∷ Int (pos 3) ∷ Int (pos 4) ∷ Int (pos 60) ∷ []) ≡ prepared_order }
+{}
+
+/// A file of format 7 says of a transaction that it is prepared; one of format 6 doesn't, and no file does so at another position.
+pub fn small_files()
+    ensures says { (contents_of (small_file 7 (prepared_row 0 prepared_order ∷ []))).prepared ≡ prepared_order ∷ [] }
+    ensures is { IsFile (small_file 7 (prepared_row 0 prepared_order ∷ [])) }
+    ensures none { IsFile (small_file 6 []) }
+    ensures older { IsFile (small_file 6 (prepared_row 0 prepared_order ∷ [])) → ⊥ }
+    ensures elsewhere { IsFile (small_file 7 (prepared_row 1 prepared_order ∷ [])) → ⊥ }
 {}

@@ -6,7 +6,7 @@ use Rattle.journal.proofs.journal.Journal.begin_life.Goals as goal
 pub returns-clause-kept : goal.returns-clause-kept
 returns-clause-kept g c = λ clean.
     let was = c.in_ok-raise_tables.ensures.kept (c.append.ensures.clean clean) in
-    (raises _ _ _ _ _ _ (c.in_ok-append.ensures.ok clean) was.0 refl, was.1)
+    (raises _ _ _ _ _ _ _ (c.in_ok-append.ensures.ok clean) was.0 refl, was.1)
 
 pub returns-clause-last : goal.returns-clause-last
 returns-clause-last g c = λ clean.
@@ -17,5 +17,5 @@ returns-clause-last g c = λ clean.
 pub returns-clause-written : goal.returns-clause-written
 returns-clause-written g c = λ clean.
     let between = c.append.ensures.clean clean in
-    ap (λ x. with_pending x c.raise_tables.new.self.pending) (in-life _ _ _ _ _ _ (c.in_ok-append.ensures.ok clean) (c.in_ok-raise_tables.ensures.kept between).0 refl)
+    ap (λ x. with_pending x c.raise_tables.new.self.pending) (in-life _ _ _ _ _ _ _ (c.in_ok-append.ensures.ok clean) (c.in_ok-raise_tables.ensures.kept between).0 refl)
     ∙ ap (λ x. in_life x c.in-Some.life) (c.in_ok-raise_tables.ensures.written between)

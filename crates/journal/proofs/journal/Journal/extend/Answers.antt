@@ -21,10 +21,10 @@ returns-clause-kept g c = λ clean.
     let all = c.append_each-2.ensures.clean typed in
     let first = c.append_each.ensures.clean all in
     let none = c.rewrite_states.ensures.clean first in
-    let before = c.make_anew.ensures.clean none in
+    let before = c.empty_epoch.ensures.clean none in
     let was = c.requires.journal before in (
-      rw c.clear.ensures.items (begins-anew _ (g.S.Store.view c.make_anew.new.store) (g.S.Store.view c.rewrite_states.new.store) (g.S.Store.view c.append_each.new.store) (g.S.Store.view c.append_each-2.new.store) _ _ _ _ _ _ _ _ _ _
-          was.0 (c.in_ok-make_anew.ensures.ok none) (c.in_ok-rewrite_states.ensures.ok first) (c.in_ok-append_each.ensures.ok all) (c.in_ok-append_each-2.ensures.ok typed)
+      rw c.clear.ensures.items (begins-anew _ (g.S.Store.view c.empty_epoch.new.store) (g.S.Store.view c.rewrite_states.new.store) (g.S.Store.view c.append_each.new.store) (g.S.Store.view c.append_each-2.new.store) _ _ _ _ _ _ _ _ _ _ _
+          was.0 (c.in_ok-empty_epoch.ensures.ok none) (c.in_ok-rewrite_states.ensures.ok first) (c.in_ok-append_each.ensures.ok all) (c.in_ok-append_each-2.ensures.ok typed)
           (c.in_ok-append_each-3.ensures.ok clean) (length-take-le count states low) (sym (c.requires.known before)) (c.requires.objects before ∙ omega (arith, c.requires.as_many before))),
       rw c.clear-2.ensures (omega arith),
     )
@@ -38,12 +38,12 @@ returns-clause-written g c = λ clean.
     let all = c.append_each-2.ensures.clean typed in
     let first = c.append_each.ensures.clean all in
     let none = c.rewrite_states.ensures.clean first in
-    let before = c.make_anew.ensures.clean none in
+    let before = c.empty_epoch.ensures.clean none in
     let was = c.requires.journal before in
     let new = g.S.Store.view c.append_each-3.new.store in
     ap (with_pending (contents_of new.trees)) c.clear-2.ensures
     ∙ none-pending (contents_of new.trees)
-    ∙ extends _ (g.S.Store.view c.make_anew.new.store) (g.S.Store.view c.rewrite_states.new.store) (g.S.Store.view c.append_each.new.store) (g.S.Store.view c.append_each-2.new.store) _ _ _ _ _ _ _ _ _ _
-    was.0 (c.in_ok-make_anew.ensures.ok none) (c.in_ok-rewrite_states.ensures.ok first) (c.in_ok-append_each.ensures.ok all) (c.in_ok-append_each-2.ensures.ok typed)
+    ∙ extends _ (g.S.Store.view c.empty_epoch.new.store) (g.S.Store.view c.rewrite_states.new.store) (g.S.Store.view c.append_each.new.store) (g.S.Store.view c.append_each-2.new.store) _ _ _ _ _ _ _ _ _ _ _
+    was.0 (c.in_ok-empty_epoch.ensures.ok none) (c.in_ok-rewrite_states.ensures.ok first) (c.in_ok-append_each.ensures.ok all) (c.in_ok-append_each-2.ensures.ok typed)
     (c.in_ok-append_each-3.ensures.ok clean) (length-take-le count states low) (sym (c.requires.known before)) (c.requires.objects before ∙ omega (arith, c.requires.as_many before))
     ∙ ap (extended (written g.S.Store c.args.self.now) c.args.types.now c.args.objects.now) (halves count states)

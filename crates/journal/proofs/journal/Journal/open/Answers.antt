@@ -14,7 +14,7 @@ returns-in-Ok-clause-kept g c = λ clean.
     let at-first : IsClean first = omega (arith, c.rollback.ensures.quiet.clean) in
     let sound : old.is_broken ≡ false = c.in-Ok-true.ensures.sound c.in-Ok-true.field-0-test was in
     let numbered : IsTrue old.is_numbered = subst IsTrue (sym c.rollback.ensures.undone.numbered) (c.requires at-first) in (
-      rw c.as_slice.ensures.value (starts old (g.S.Store.view c.read_contents.new.store) found.said found.starts.items
+      rw (c.as_slice.ensures.value, c.as_slice-in-Ok.ensures.value) (starts old (g.S.Store.view c.read_contents.new.store) found.said found.starts.items
           (unused first old c.rollback.ensures.undone was (g.met.S.Store.broken_if_shut _) sound)
           (c.in-Ok-true.ensures.tables c.in-Ok-true.field-0-test) numbered (c.in-Ok-true.ensures.named c.in-Ok-true.field-0-test was)
           (c.in-Ok.ensures.same clean) (c.in-Ok.ensures.told clean)),

@@ -7,16 +7,16 @@ use Rattle.journal.proofs.journal.Journal.reset.Goals as goal
 pub returns-clause-kept : goal.returns-clause-kept
 returns-clause-kept g c = λ clean.
     let between = c.rewrite_states.ensures.clean clean in
-    let was = c.requires.journal (c.make_anew.ensures.clean between) in (
-      rw c.clear.ensures.items (resets _ (g.S.Store.view c.make_anew.new.store) _ _ _ _ _ was.0 (c.in_ok-make_anew.ensures.ok between) (c.in_ok-rewrite_states.ensures.ok clean)),
+    let was = c.requires.journal (c.empty_epoch.ensures.clean between) in (
+      rw c.clear.ensures.items (resets _ (g.S.Store.view c.empty_epoch.new.store) _ _ _ _ _ _ was.0 (c.in_ok-empty_epoch.ensures.ok between) (c.in_ok-rewrite_states.ensures.ok clean)),
       rw c.clear-2.ensures (omega arith),
     )
 
 pub returns-clause-written : goal.returns-clause-written
 returns-clause-written g c = λ clean.
     let between = c.rewrite_states.ensures.clean clean in
-    let was = c.requires.journal (c.make_anew.ensures.clean between) in
+    let was = c.requires.journal (c.empty_epoch.ensures.clean between) in
     let new = g.S.Store.view c.rewrite_states.new.store in
     ap (with_pending (contents_of new.trees)) c.clear-2.ensures
     ∙ none-pending (contents_of new.trees)
-    ∙ from-states _ (g.S.Store.view c.make_anew.new.store) _ _ _ _ _ was.0 (c.in_ok-make_anew.ensures.ok between) (c.in_ok-rewrite_states.ensures.ok clean)
+    ∙ from-states _ (g.S.Store.view c.empty_epoch.new.store) _ _ _ _ _ _ was.0 (c.in_ok-empty_epoch.ensures.ok between) (c.in_ok-rewrite_states.ensures.ok clean)

@@ -8,7 +8,7 @@ returns-clause-kept g c = λ clean.
     let it = c.args.self.now in
     let was = c.requires (c.put_group.ensures.clean clean) in
     let position : c.len-position.result ≡ length it.starts.items = omega (arith, c.len-position.ensures) in (
-      rw (c.in_ok-push.ensures.items, was.1) (groups (g.S.Store.view it.store) (g.S.Store.view c.put_group.new.store) c.len-position.result it.settled it.starts.items it.header it.pending
+      rw (c.in_ok-push.ensures.items, was.1) (groups (g.S.Store.view it.store) (g.S.Store.view c.put_group.new.store) c.len-position.result it.settled it.prepared it.starts.items it.header it.pending
           (c.in_ok-put_group.ensures.ok clean) was.0 position),
       rw c.clear.ensures (omega arith),
     )
@@ -21,4 +21,4 @@ returns-clause-written g c = λ clean.
     let new = g.S.Store.view c.put_group.new.store in
     ap (with_pending (contents_of new.trees)) c.clear.ensures
     ∙ none-pending (contents_of new.trees)
-    ∙ grouped (g.S.Store.view it.store) new c.len-position.result it.settled it.starts.items it.header it.pending (c.in_ok-put_group.ensures.ok clean) was.0 position
+    ∙ grouped (g.S.Store.view it.store) new c.len-position.result it.settled it.prepared it.starts.items it.header it.pending (c.in_ok-put_group.ensures.ok clean) was.0 position
