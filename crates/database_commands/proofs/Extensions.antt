@@ -11,6 +11,8 @@ use Rattle.journal.specs.Contents.{Contents}
 use Rattle.journal.specs.Journal.{written}
 use Rattle.durable_store.specs.declared.durable.Durable.{Durable}
 use Rattle.durable_store.specs.Growth.{Grows}
+use Rattle.durable_store.specs.Durable as durable
+use Rattle.journal.specs.declared.prepared_row.Prepared.{Prepared}
 use Rattle.durable_store.specs.Recovered.{IsRecovered}
 use Rattle.command_files.specs.declared.status.Verdict.{Verdict}
 use Rattle.command_files.specs.declared.status.Verdict.TheVariants.{Yes, No}
@@ -22,13 +24,14 @@ use Rattle.database_commands.specs.Created.{DescribesObjects, FindsAmong}
 use Rattle.database_commands.specs.Extended.{AnswersFound, ExtendsStore, HasGrown}
 
 -- a store that was opened has grown, and so has the file that it was opened of
-pub has-grown : {S : Type 0} (g : Ghosts S) (c : Contents) (d : Durable S) (texts : List (List ℕ)) (objects : List ObjectLine) (s : Stored) (now : Contents) → IsRecovered g c d
-    → Grows texts objects d.store s (written g d.journal) now → HasGrown texts objects c now
-has-grown g c d texts objects s now found grows = record {
+pub has-grown : {S : Type 0} (g : Ghosts S) (c : Contents) (d : Durable S) (texts : List (List ℕ)) (objects : List ObjectLine) (s : Stored) (ps : List Prepared) (now : Contents) → IsRecovered g c d
+    → Grows texts objects d.store d.prepared.items s ps (written g d.journal) now → HasGrown texts objects c now
+has-grown g c d texts objects s ps now found grows = record {
   old = d.store;
   opened = record { types = found.types; history = found.history };
   new = s;
-  grows = subst (λ w. Grows texts objects d.store s w now) found.written grows;
+  prepared = ps;
+  grows = subst (λ w. Grows texts objects d.store (durable.prepared_in c) s ps w now) found.written (subst (λ hs. Grows texts objects d.store hs s ps (written g d.journal) now) found.prepared grows);
 }
 
 -- what is answered of the types that were found is answered of the files

@@ -5,10 +5,12 @@ use Rattle.table_checker.specs.declared.refusal.CheckRefusal.{CheckRefusal}
 use Rattle.declared_types.specs.declared.declared_type.Declaration.{Declaration}
 use Rattle.declared_text.specs.Canonical.{canonical_text}
 use Rattle.store_laws.specs.Stored.{Stored}
-use Rattle.store.specs.Ends.{closing}
+use Rattle.store.specs.Ends.{closing_but}
+use Rattle.journal.specs.declared.prepared_row.Prepared.{Prepared}
+use Rattle.durable_store.specs.Held.{prepared_numbers}
 use Rattle.store_text.specs.declared.line.ObjectLine.{ObjectLine}
 use Rattle.journal.specs.Contents.{Contents, contents_of}
-use Rattle.durable_store.specs.Durable.{events_of_kinds}
+use Rattle.durable_store.specs.Durable.{events_of_kinds, prepared_in}
 use Rattle.durable_store.specs.Growth.{Grows}
 use Rattle.durable_store.specs.Recovered.{recovered}
 use Rattle.durable_store.specs.Types.{HasTypes}
@@ -21,17 +23,18 @@ use Rattle.store_files.specs.declared.found_types.ObjectTypes.{ObjectTypes}
 use Rattle.store_files.specs.declared.found_types.ObjectTypes.TheVariants.{Accepted, Refused}
 use Rattle.database_commands.specs.Created.{DescribesObjects, HaveAcceptedTypes}
 
--- the store of what a file said, where each transaction that was open is aborted
+-- the store of what a file said, where each transaction that was open and isn't prepared is aborted
 pub record IsReopened (was : Contents) (s : Stored) : Type 0 where
   pub types : HasTypes was s.types
-  pub history : s.history ≡ events_of_kinds was.events ++ closing (events_of_kinds was.events)
+  pub history : s.history ≡ events_of_kinds was.events ++ closing_but (prepared_numbers (prepared_in was)) (events_of_kinds was.events)
 
--- a file is what another one becomes where its open transactions are aborted, and then these objects, whose types have these texts, are added
+-- a file is what another one becomes where its open transactions are aborted that aren't prepared, and then these objects, whose types have these texts, are added
 pub record HasGrown (texts : List (List ℕ)) (objects : List ObjectLine) (was now : Contents) : Type 0 where
   pub old : Stored
   pub opened : IsReopened was old
   pub new : Stored
-  pub grows : Grows texts objects old new (recovered was) now
+  pub prepared : List Prepared
+  pub grows : Grows texts objects old (prepared_in was) new prepared (recovered was) now
 
 -- the text is the line of the first object whose type isn't accepted, by its number behind so many others
 abbrev pub SaysRefusedBehind : ℕ → Held → List (List ℕ) → List ObjectLine → List ℕ → Type 0

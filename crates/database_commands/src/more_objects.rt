@@ -1,6 +1,6 @@
 //! `extend`: more objects for the store in a file.
 
-ghost use Rattle.std.specs.Prelude.{◌≡◌, ⊤, ◌+◌, [], None, Some, map, IfErr, IfOk, IsTrue, OnOk};
+ghost use Rattle.std.specs.Prelude.{◌≡◌, ⊤, ◌+◌, [], List, None, Some, map, IfErr, IfOk, IsTrue, OnOk};
 ghost use Rattle.sqlite_trees.specs.View.{IsClean};
 ghost use Rattle.store_laws.specs.Stored.{Stored};
 ghost use Rattle.journal.specs.Contents.{contents_of};
@@ -8,6 +8,7 @@ ghost use Rattle.journal.specs.Journal.{Clean, IsJournal, IsOpen, ShowsCommit, d
 ghost use Rattle.journal.specs.Said.{contents_beside};
 ghost use Rattle.durable_store.specs.Durable.{IsDurable};
 ghost use Rattle.durable_store.specs.Growth.{Grows};
+ghost use Rattle.journal.specs.declared.prepared_row.Prepared.{Prepared};
 ghost use Rattle.command_files.specs.Answers.{Comes, IsEarlyFault};
 ghost use Rattle.command_files.specs.declared.fault.Fault.TheVariants.{NoMemory};
 ghost use Rattle.store_files.specs.Lines.{refused_object_line};
@@ -22,7 +23,7 @@ use journal::{FileContents, Journal, TypeText};
 use outputs::Out;
 use sqlite_trees::store::Alter;
 use std::alloc::Global;
-use store::ExtendRefusal;
+use store::CarryRefusal;
 use store_files::{ObjectTypes, object_line, read_declared};
 use store_text::ObjectLine;
 use table_checker::CheckRefusal;
@@ -42,8 +43,8 @@ struct Answer {
 }
 
 /// `extend DATABASE OBJECTS TYPE...`: the objects are read and then the types, each parsed before the next is opened;
-/// object by object, its place is tested and its type is checked. Then the database is opened, what was open in it is
-/// aborted, and the objects are added behind those that it has, at the initial states of their types, in one commit.
+/// object by object, its place is tested and its type is checked. Then the database is opened, what was open in it and
+/// isn't prepared is aborted, and the objects are added behind those that it has, at the initial states of their types, in one commit.
 /// Where a type isn't accepted the file is as it was. The events of the epoch that ends are let go.
 ///
 /// # Errors
@@ -174,7 +175,7 @@ fn grow<'a, S: Alter>(
     if objects.len() > most.saturating_sub(said.objects.len()) {
         return (Err(Fault::TooLarge), journal.into_store());
     }
-    match resume(alloc, journal, said, &[]) {
+    match resume(alloc, journal, said) {
         Ok(store) => extend(alloc, paths, store, texts, objects),
         Err((error, trees)) => (Err(fault_of_open(paths.database, error)), trees),
     }
@@ -191,7 +192,7 @@ fn extend<'a, S: Alter>(
     requires sound { IsDurable S.Store store }
     requires shows { ShowsCommit S.Store store.journal }
     ensures yes { IfOk result.0 (λ a. (a.verdict ≡ Verdict.Yes) × (a.text.bytes.items ≡ [])) }
-    ensures grows { OnOk result.0 (IsClean (S.Store.view result.1) → (s : Stored) × Grows texts.now objects.now store.store s (written S.Store store.journal) (contents_of (S.Store.view result.1).committed)) }
+    ensures grows { OnOk result.0 (IsClean (S.Store.view result.1) → (s : Stored) × (ps : List Prepared) × Grows texts.now objects.now store.store store.prepared.items s ps (written S.Store store.journal) (contents_of (S.Store.view result.1).committed)) }
     ensures clean { OnOk result.0 (IsClean (S.Store.view result.1) → Clean S.Store store.journal) }
     ensures refused { IfErr result.0 (IsEarlyFault ⊤) }
 {
@@ -218,7 +219,7 @@ fn fault_of_extending<'a>(paths: Paths<'a>, error: OpenError) -> Fault<'a>
             path: paths.objects,
             x,
         },
-        OpenError::NotExtended(ExtendRefusal::NoMemory) => Fault::NoMemory,
+        OpenError::NotExtended(CarryRefusal::NoMemory) => Fault::NoMemory,
         _ => fault_of_making(paths.database, error),
     }
 }

@@ -11,9 +11,8 @@ use Rattle.object_trait.specs.declared.event.EventKind.TheVariants.{Begin, Op, B
 use Rattle.serial_order.specs.History.{summary}
 use Rattle.serial_order.specs.After.{beginners}
 use Rattle.store.specs.Ends.{closing_but, is_other}
-use Rattle.serial_order.specs.Machine.{IsRun}
-use Rattle.store.specs.OwnHistory.{ClosingIsOwn, IsOwnHistory}
-use Rattle.store_laws.specs.Stored.{Stored, objects}
+use Rattle.store.specs.Retraces.{ClosingIsTraced, IsTracedHistory}
+use Rattle.store_laws.specs.Stored.{Stored}
 use Rattle.journal.specs.Journal.{written}
 use Rattle.durable_store.specs.declared.durable.Durable.{Durable}
 use Rattle.durable_store.specs.Types.{HasTypes}
@@ -42,9 +41,9 @@ closing-by-zero those happened =
     (filter (is_other those (summary (events_of_kinds happened))) (range_with_len 0 (summary (events_of_kinds happened)).begun))
 
 -- the aborts of what was open, but of those, are what the journal hasn't yet
-pub aborts-behind : {S : Type 0} (g : Ghosts S) (those : List ℕ) (d : Durable S) (s : Stored) (count : ℕ) → ClosingIsOwn → IsRun (objects d.store) d.store.history → IsDurable g d → count ≡ length d.store.history → d.store.forgotten ≤ count
-    → s ≡ record d.store { history = d.store.history ++ closing_but those d.store.history } → IsBehind g (record { store = s; journal = d.journal; names = d.names }) count
-aborts-behind g those d s count closing run sound is remembered aborted =
+pub aborts-behind : {S : Type 0} (g : Ghosts S) (those : List ℕ) (d : Durable S) (s : Stored) (count : ℕ) → ClosingIsTraced → IsDurable g d → count ≡ length d.store.history → d.store.forgotten ≤ count
+    → s ≡ record d.store { history = d.store.history ++ closing_but those d.store.history } → IsBehind g (record { store = s; journal = d.journal; names = d.names; prepared = d.prepared }) count
+aborts-behind g those d s count closing sound is remembered aborted =
     let more = closing_but those d.store.history in
     let history : s.history ≡ d.store.history ++ more = ap (λ (s : Stored). s.history) aborted in
     let rest : drop count s.history ≡ more = ap₂ drop is history ∙ drop-append_seam d.store.history more in
@@ -54,7 +53,7 @@ aborts-behind g those d s count closing run sound is remembered aborted =
       types = λ clean. subst (HasTypes (written g d.journal)) (sym (ap (λ (s : Stored). s.types) aborted)) (sound.types clean);
       settled = sound.settled;
       limit = ap (λ (s : Stored). s.limits) aborted ∙ sound.limit;
-      own = subst IsOwnHistory (sym aborted) (closing those d.store run sound.own);
+      own = subst IsTracedHistory (sym aborted) (closing those d.store sound.own);
       named = sound.named;
       remembered = subst (λ (s : Stored). s.forgotten ≤ count) (sym aborted) remembered;
       inside = omega (arith, long, is);

@@ -1,9 +1,8 @@
--- A store that has begun anew is ahead of its journal: its types are those of the file at the states that were kept.
+-- Types of a file at the states that were kept.
 use Rattle.std.proofs.Common.{◌≡◌, ◌∙◌, ℕ, ◌<◌, zero, suc, List, [], ◌∷◌, length, get_or, Some, refl, sym, ap, subst, arith}
 use Rattle.std.specs.Prelude.{slice_get}
 use Rattle.std.proofs.lemmas.List.{length-map}
 use Rattle.std.proofs.lemmas.Option.{same_Some, slice_get-get_or, slice_get_within}
-use Rattle.sqlite_trees.specs.declared.store.Store.{Ghosts}
 use Rattle.type_table.specs.declared.kind.Kind.{Kind}
 use Rattle.type_table.specs.declared.kind.Kind.TheVariants.{Undo, Intentions, Escrow}
 use Rattle.declared_types.specs.TypeFile.{file_at}
@@ -13,17 +12,11 @@ use Rattle.table_checker.specs.Checked.{Checked, set_by}
 use Rattle.declared_types.specs.Declarations.{file_of}
 use Rattle.serial_order.specs.Epochs.{types_at}
 use Rattle.serial_order.proofs.EpochTypes.{is-at, length-types_at}
-use Rattle.store.specs.Renews.{Renews}
-use Rattle.store_laws.specs.Stored.{Stored}
-use Rattle.store.specs.OwnHistory.{IsOwnHistory}
 use Rattle.store_text.specs.declared.line.ObjectLine.{ObjectLine}
 use Rattle.journal.specs.declared.state_row.FirstState.{FirstState}
 use Rattle.journal.specs.Contents.{Contents, from_states}
-use Rattle.journal.specs.Journal.{written}
-use Rattle.durable_store.specs.declared.durable.Durable.{Durable}
 use Rattle.durable_store.specs.Types.{HasTypes, IsTypeAt}
-use Rattle.durable_store.specs.Durable.{IsDurable}
-use Rattle.durable_store.specs.Epochs.{IsAhead, firsts}
+use Rattle.durable_store.specs.Epochs.{firsts}
 
 -- where it begins makes no difference to where it may begin
 same-inside : (kind : Kind) (file : TypeFile) (i s : ℕ) → set_by kind (file_at file i) s ≡ set_by kind file s
@@ -74,22 +67,4 @@ has-renewed f types kept its long inside =
           let of : IsTypeAt f.types o was found.c = its.each x o was found.c line (slice_get-get_or f.states x first low) found.type in
           begun-anew f.types o was first found.c type found.s of (inside x found.c found.s found.type found.state) is
           (first-of now x type first there state ∙ ap (λ (c : Checked). c.file.table.initial) is);
-    }
-
--- after a new epoch of the store alone
-pub ahead : {S : Type 0} (g : Ghosts S) (d : Durable S) (new : Stored) → IsDurable g d → Renews d.store new → IsAhead g (record { store = new; journal = d.journal; names = d.names })
-ahead g d new sound renews =
-    let now = types_at d.store.types renews.kept in
-    let types : new.types ≡ now = ap (λ (s : Stored). s.types) renews.is in
-    record {
-      journal = sound.journal;
-      settled = sound.settled;
-      limit = ap (λ (s : Stored). s.limits) renews.is ∙ sound.limit;
-      none = ap (λ (s : Stored). s.history) renews.is;
-      own = subst IsOwnHistory (sym renews.is) tt;
-      named = sound.named;
-      as_many = λ clean. ap length types ∙ length-types_at d.store.types renews.kept renews.as_many ∙ (sound.types clean).as_many ∙ sym (sound.types clean).as_many_states;
-      types = λ clean.
-          subst (λ ts. HasTypes (from_states (written g d.journal) (firsts ts)) ts) (sym types)
-          (has-renewed (written g d.journal) d.store.types renews.kept (sound.types clean) renews.as_many (λ x c s there kept. (renews.epoch.kept x c s there kept).inside));
     }

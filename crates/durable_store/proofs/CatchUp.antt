@@ -1,5 +1,5 @@
 -- The journal catches up with the store.
-use Rattle.std.proofs.Common.{◌≡◌, ◌∙◌, ℕ, ◌-◌, ◌+◌, ◌≤◌, List, ◌++◌, Result, Ok, Err, sym, ap, ap₂, subst, length, take, drop, arith}
+use Rattle.std.proofs.Common.{◌≡◌, ◌∙◌, ℕ, ◌-◌, ◌+◌, ◌≤◌, List, ◌++◌, Result, Ok, Err, refl, sym, ap, ap₂, subst, length, take, drop, arith}
 use Rattle.std.specs.Prelude.{OnOk}
 use Rattle.std.proofs.lemmas.List.{map-append, length-drop, drop-drop, take_all, take-append-drop}
 use Rattle.sqlite_trees.specs.Tree.{Trees}
@@ -11,7 +11,9 @@ use Rattle.journal.specs.declared.journal.Journal.{Journal}
 use Rattle.durable_store.specs.declared.durable.Durable.{Durable}
 use Rattle.durable_store.specs.Types.{HasTypes}
 use Rattle.durable_store.specs.Names.{IndexesNames}
+use Rattle.durable_store.specs.Held.{ArePrepared}
 use Rattle.durable_store.specs.Durable.{IsBehind, IsDurable, events_of_kinds, kinds, with_all}
+use Rattle.durable_store.proofs.GoneOver.{prepared-alike}
 
 -- what is remembered ends with the events after the first n
 pub last-ones : (H R : List Event) (f n k : ℕ) → R ≡ drop f H → k ≡ length H → f ≤ n → n ≤ length H
@@ -24,12 +26,13 @@ last-ones H R f n k is total low high =
     let many : length (drop n H) ≤ length R - (length R - (k - n)) = omega (arith, length-drop n H, long, total, low, high) in
     ap (take (length R - (length R - (k - n)))) rest ∙ take_all (length R - (length R - (k - n))) (drop n H) many
 
-pub caught-up : {S T E : Type 0} (g : Ghosts S) (d : Durable S) (count : ℕ) (new : Journal S) (es : List Event) (r : Result T E) → IsBehind g d count → es ≡ drop count d.store.history
+pub caught-up : {S T E : Type 0} (g : Ghosts S) (d : Durable S) (count : ℕ) (new : Journal S) (es : List Event) (r : Result T E) → IsBehind g d count
+    → (Clean g d.journal → ArePrepared d.store.history (written g d.journal) d.prepared.items) → es ≡ drop count d.store.history
     → OnOk r (IsJournal g new) → OnOk r (Clean g new → written g new ≡ with_all (written g d.journal) es) → OnOk r (Clean g new → durable g new ≡ durable g d.journal)
     → (Clean g new → Clean g d.journal) → ((db : Trees) → may_leave g new db → may_leave g d.journal db)
-    → OnOk r (IsDurable g (record { store = d.store; journal = new; names = d.names }))
-caught-up g d count new es (Err e) late rest kept more same was crash = tt
-caught-up g d count new es (Ok x) late rest kept more same was crash = record {
+    → OnOk r (IsDurable g (record { store = d.store; journal = new; names = d.names; prepared = d.prepared }))
+caught-up g d count new es (Err e) late are rest kept more same was crash = tt
+caught-up g d count new es (Ok x) late are rest kept more same was crash = record {
   journal = kept;
   types = λ clean. subst (λ (c : Contents). HasTypes c d.store.types) (sym (more clean)) (late.types (was clean));
   history = λ clean.
@@ -41,4 +44,7 @@ caught-up g d count new es (Ok x) late rest kept more same was crash = record {
   limit = late.limit;
   own = late.own;
   named = λ clean. subst (λ (c : Contents). IndexesNames c.objects d.names) (sym (more clean)) (late.named (was clean));
+  prepared = λ clean.
+      let c = written g d.journal in
+      subst (λ (now : Contents). ArePrepared d.store.history now d.prepared.items) (sym (more clean)) (prepared-alike d.store.history c (with_all c es) d.prepared.items refl refl (are (was clean)));
 }

@@ -1,5 +1,7 @@
 -- A store that has begun anew with more objects is ahead of its journal: their types are those of a file that has their texts and lines too.
-use Rattle.std.proofs.Common.{◌≡◌, ◌∙◌, inl, inr, ℕ, ◌+◌, ◌-◌, ◌<◌, zero, suc, List, [], ◌∷◌, ◌++◌, length, get_or, None, Some, refl, sym, ap, subst, arith}
+use Rattle.std.proofs.Common.{◌≡◌, ◌∙◌, inl, inr, ℕ, ◌+◌, ◌-◌, ◌<◌, zero, suc, List, [], ◌∷◌, ◌++◌, map, length, get_or, None, Some, refl, sym, ap, subst, arith}
+use Rattle.std.specs.declared.alloc.Global.{Global}
+use Rattle.std.specs.declared.vec.Vec.{Vec}
 use Rattle.std.specs.Prelude.{slice_get}
 use Rattle.std.proofs.lemmas.Bool.{cases_lt}
 use Rattle.std.proofs.lemmas.List.{length-append, length-map, map-append}
@@ -15,10 +17,11 @@ use Rattle.object_types.proofs.CheckedTypes.{types_checked}
 use Rattle.object_types.proofs.Pairs.{Each}
 use Rattle.serial_order.specs.Epochs.{types_at}
 use Rattle.serial_order.proofs.EpochTypes.{length-types_at}
-use Rattle.store.specs.Renews.{Extends}
-use Rattle.store.specs.OwnHistory.{IsOwnHistory}
+use Rattle.store.specs.Carries.{Carries}
+use Rattle.store.specs.Retraces.{IsTracedHistory}
 use Rattle.store_laws.specs.Stored.{Stored}
 use Rattle.store_text.specs.declared.line.ObjectLine.{ObjectLine}
+use Rattle.journal.specs.declared.prepared_row.Prepared.{Prepared}
 use Rattle.journal.specs.declared.state_row.FirstState.{FirstState}
 use Rattle.journal.specs.Contents.{Contents, extended, from_states}
 use Rattle.journal.specs.Journal.{Clean, written}
@@ -28,11 +31,12 @@ use Rattle.durable_store.specs.Names.{IndexesNames}
 use Rattle.durable_store.specs.Begun.{AreRead}
 use Rattle.durable_store.specs.Durable.{IsDurable}
 use Rattle.durable_store.specs.Epochs.{firsts}
+use Rattle.durable_store.specs.Held.{AreTheirNumbers, moved_among}
 use Rattle.durable_store.specs.Growth.{AreAdded, ArePlaced, HavePlaces}
 use Rattle.durable_store.specs.GrowthParts.{ArePlacesOf, IsAheadBy}
 use Rattle.durable_store.specs.Types.{AreTypes, HasTypes, IsTypeAt}
-use Rattle.durable_store.proofs.Ahead.{has-renewed}
 use Rattle.durable_store.proofs.Begun.{are-types}
+use Rattle.durable_store.proofs.Carried.{has-kept, over-by-zero, prepared-over}
 use Rattle.durable_store.proofs.New.{at-own, first-of}
 
 -- ---- what is added
@@ -40,7 +44,7 @@ use Rattle.durable_store.proofs.New.{at-own, first-of}
 -- types that were accepted begin at their initial states
 pub added-of : (texts : List (List ℕ)) (declared : List Declaration) (lines : List ObjectLine) (types : List Checked) → AreRead texts declared → AreTypesOf declared lines types → AreAdded texts lines types
 added-of texts declared lines types read of =
-    let said : Contents = record { events = []; headers = []; types = texts; objects = lines; states = firsts types; outcomes = λ n. None } in
+    let said : Contents = record { events = []; headers = []; types = texts; objects = lines; states = firsts types; prepared = []; outcomes = λ n. None } in
     are-types said declared types types read of (length-map types first-of ∙ of.as_many) of.as_many (at-own types (types_checked declared lines types of))
 
 -- a line with the place that stands at its place
@@ -146,25 +150,27 @@ has-grown c fresh placed types added has are =
     (types-behind (c.types ++ fresh) c.objects placed (firsts types) (firsts added) types added (more-texts c.types fresh c.objects (firsts types) types has) are)
 
 -- after a new epoch of the store alone
-pub ahead-by : {S : Type 0} (g : Ghosts S) (d : Durable S) (new : Stored) (names : ObjectNames) (fresh : List (List ℕ)) (placed : List ObjectLine) (added : List Checked) → IsDurable g d → Extends d.store added new
-    → length placed ≡ length added → (Clean g d.journal → AreAdded ((written g d.journal).types ++ fresh) placed added) → (Clean g d.journal → IndexesNames ((written g d.journal).objects ++ placed) names)
-    → IsAheadBy g fresh placed (record { store = new; journal = d.journal; names = names })
-ahead-by g d new names fresh placed added sound extends as-many are named =
-    let now = types_at d.store.types extends.kept in
-    let types : new.types ≡ now ++ added = ap (λ (s : Stored). s.types) extends.is in
-    let long : length now ≡ length d.store.types = length-types_at d.store.types extends.kept extends.as_many in
+pub ahead-by : {S : Type 0} (g : Ghosts S) (d : Durable S) (those : List ℕ) (new : Stored) (ps : Vec Prepared Global) (names : ObjectNames) (fresh : List (List ℕ)) (placed : List ObjectLine) (added : List Checked)
+    → IsDurable g d → AreTheirNumbers d.prepared.items those → ps.items ≡ map (moved_among those) d.prepared.items → Carries d.store 0 those added new → IsTracedHistory new → length placed ≡ length added
+    → (Clean g d.journal → AreAdded ((written g d.journal).types ++ fresh) placed added) → (Clean g d.journal → IndexesNames ((written g d.journal).objects ++ placed) names)
+    → IsAheadBy g fresh placed (record { store = new; journal = d.journal; names = names; prepared = ps })
+ahead-by g d those new ps names fresh placed added sound in_order moved carries traced as-many are named =
+    let now = types_at d.store.types carries.kept in
+    let types : new.types ≡ now ++ added = ap (λ (s : Stored). s.types) carries.is in
+    let long : length now ≡ length d.store.types = length-types_at d.store.types carries.kept carries.epoch.as_many in
     record {
       journal = sound.journal;
       settled = sound.settled;
-      limit = ap (λ (s : Stored). s.limits) extends.is ∙ sound.limit;
-      none = ap (λ (s : Stored). s.history) extends.is;
-      own = subst IsOwnHistory (sym extends.is) tt;
+      limit = ap (λ (s : Stored). s.limits) carries.is ∙ sound.limit;
+      remembered = ap (λ (s : Stored). s.forgotten) carries.is;
+      by_zero = over-by-zero d.store those added new carries;
+      own = traced;
       named = named;
       some = omega (arith, ap length types, length-append now added, as-many);
       as_many = λ clean. omega (arith, ap length types, length-append now added, as-many, long, (sound.types clean).as_many, (sound.types clean).as_many_states);
       objects = λ clean. sym (sound.types clean).as_many_states;
       types = λ clean.
           subst (λ ts. HasTypes (extended (written g d.journal) fresh placed (firsts ts)) ts) (sym types)
-          (has-grown (written g d.journal) fresh placed now added
-          (has-renewed (written g d.journal) d.store.types extends.kept (sound.types clean) extends.as_many (λ x c s there kept. (extends.epoch.kept x c s there kept).inside)) (are clean));
+          (has-grown (written g d.journal) fresh placed now added (has-kept (written g d.journal) d.store those added new carries (sound.types clean)) (are clean));
+      prepared = prepared-over g d those added new ps.items sound in_order moved carries;
     }

@@ -5,6 +5,8 @@ pub mod CatchUp
 pub mod Firsts
 pub mod Found
 pub mod Growths
+pub mod Carried
+pub mod EpochWrites
 mod Followed
 mod Stepped
 mod Attempted
@@ -12,3 +14,15 @@ pub mod New
 pub mod NameSets
 pub mod NameIndexes
 mod ReplyTexts
+pub mod HeldNumbers
+pub mod GoneOver
+pub mod Recoveries
+pub mod PreparedRows
+pub mod GrowthOver
+mod Undecided
+mod Spared
+mod HeldKeys
+mod Gates
+mod Decided
+mod HeldLists
+pub mod Resumed

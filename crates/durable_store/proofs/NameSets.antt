@@ -11,8 +11,9 @@ use Rattle.std.proofs.lemmas.Option.{none-some, slice_get_within}
 use Rattle.type_table.proofs.Elements.{cases-more, none_any, take-found}
 use Rattle.object_name.specs.ObjectName.{is_same_name}
 use Rattle.store_text.specs.declared.line.ObjectLine.{ObjectLine}
+use Rattle.journal.specs.declared.prepared_row.Prepared.{Prepared}
 use Rattle.durable_store.specs.declared.open_error.OpenError.{OpenError}
-use Rattle.durable_store.specs.declared.open_error.OpenError.TheVariants.{Journal, Text, Untyped, NoStore, NotExtended, NameTaken, NotMade, NoMemory}
+use Rattle.durable_store.specs.declared.open_error.OpenError.TheVariants.{Journal, Text, Untyped, NoStore, NotExtended, NameTaken, NotMade, NotPrepared, NoMemory}
 use Rattle.object_trait.specs.Meaning.{Meaning}
 use Rattle.store_laws.specs.Stored.{Stored}
 use Rattle.durable_store.specs.Growth.{RefusesGrowth}
@@ -86,6 +87,7 @@ growth-error known lines (NoStore why) other = tt
 growth-error known lines (NotExtended why) other = absurd (other tt)
 growth-error known lines (NameTaken x) other = absurd (other tt)
 growth-error known lines (NotMade place) other = absurd (other tt)
+growth-error known lines (NotPrepared place) other = absurd (other tt)
 growth-error known lines NoMemory other = tt
 
 -- what such an error says of names
@@ -97,26 +99,29 @@ growth-says known lines (NoStore why) is = tt
 growth-says known lines (NotExtended why) is = tt
 growth-says known lines (NameTaken x) is = is
 growth-says known lines (NotMade place) is = tt
+growth-says known lines (NotPrepared place) is = tt
 growth-says known lines NoMemory is = tt
 
 -- and the store doesn't refuse
-pub growth-refuses : (texts : List (List ℕ)) (known lines : List ObjectLine) (old : Stored) (error : OpenError) → IsGrowthError known lines error → RefusesGrowth texts lines old error
-growth-refuses texts known lines old (Journal fault) is = tt
-growth-refuses texts known lines old (Text k) is = tt
-growth-refuses texts known lines old (Untyped x) is = tt
-growth-refuses texts known lines old (NoStore why) is = tt
-growth-refuses texts known lines old (NotExtended why) is = absurd is
-growth-refuses texts known lines old (NameTaken x) is = tt
-growth-refuses texts known lines old (NotMade place) is = tt
-growth-refuses texts known lines old NoMemory is = tt
+pub growth-refuses : (texts : List (List ℕ)) (known lines : List ObjectLine) (old : Stored) (prepared : List Prepared) (error : OpenError) → IsGrowthError known lines error → RefusesGrowth texts lines old prepared error
+growth-refuses texts known lines old prepared (Journal fault) is = tt
+growth-refuses texts known lines old prepared (Text k) is = tt
+growth-refuses texts known lines old prepared (Untyped x) is = tt
+growth-refuses texts known lines old prepared (NoStore why) is = tt
+growth-refuses texts known lines old prepared (NotExtended why) is = absurd is
+growth-refuses texts known lines old prepared (NameTaken x) is = tt
+growth-refuses texts known lines old prepared (NotMade place) is = tt
+growth-refuses texts known lines old prepared (NotPrepared place) is = tt
+growth-refuses texts known lines old prepared NoMemory is = tt
 
 -- an error of the store itself is of no name
-pub store-says : (ms : List Meaning) (old : Stored) (known lines : List ObjectLine) (error : OpenError) → RefusesObjects ms old error → SaysTaken known lines error
-store-says ms old known lines (Journal fault) why = tt
-store-says ms old known lines (Text k) why = tt
-store-says ms old known lines (Untyped x) why = tt
-store-says ms old known lines (NoStore error) why = tt
-store-says ms old known lines (NotExtended refusal) why = tt
-store-says ms old known lines (NameTaken x) why = absurd why
-store-says ms old known lines (NotMade place) why = tt
-store-says ms old known lines NoMemory why = tt
+pub store-says : (ms : List Meaning) (old : Stored) (prepared : List Prepared) (known lines : List ObjectLine) (error : OpenError) → RefusesObjects ms old prepared error → SaysTaken known lines error
+store-says ms old prepared known lines (Journal fault) why = tt
+store-says ms old prepared known lines (Text k) why = tt
+store-says ms old prepared known lines (Untyped x) why = tt
+store-says ms old prepared known lines (NoStore error) why = tt
+store-says ms old prepared known lines (NotExtended refusal) why = tt
+store-says ms old prepared known lines (NameTaken x) why = absurd why
+store-says ms old prepared known lines (NotMade place) why = tt
+store-says ms old prepared known lines (NotPrepared place) why = tt
+store-says ms old prepared known lines NoMemory why = tt

@@ -1,5 +1,5 @@
 -- The replies of a whole transaction, word by word.
-use Rattle.std.proofs.Common.{◌≡◌, ◌∙◌, ◌<◌, ◌≤◌, ◌⊎◌, inl, inr, ℕ, zero, suc, Bool, false, get_or, List, [], ◌∷◌, ◌++◌, length, take, Some, slice_get, refl, sym, ap, arith}
+use Rattle.std.proofs.Common.{◌≡◌, ◌∙◌, ◌<◌, ◌≤◌, ◌⊎◌, inl, inr, ℕ, zero, suc, false, get_or, List, [], ◌∷◌, ◌++◌, length, take, Some, slice_get, refl, sym, ap, arith}
 use Rattle.std.specs.Prelude.{◌==◌, min, nat_le}
 use Rattle.std.proofs.lemmas.Bool.{cases_Bool}
 use Rattle.std.proofs.lemmas.Bool.Decides.{nat_tests}

@@ -10,7 +10,7 @@ use Rattle.serial_order.specs.Replay.{appended, event_of}
 use Rattle.serial_order.specs.declared.command.Command.{Command}
 use Rattle.serial_order.specs.declared.refusal.Refusal.{Refusal}
 use Rattle.store_laws.specs.Stored.{MayStep, Steps, Stored, objects, refusal_of}
-use Rattle.store.specs.OwnHistory.{IsOwnHistory, StepsAreOwn}
+use Rattle.store.specs.Retraces.{IsTracedHistory, StepsAreTraced}
 use Rattle.journal.specs.Journal.{written}
 use Rattle.durable_store.specs.declared.durable.Durable.{Durable}
 use Rattle.durable_store.specs.Types.{HasTypes}
@@ -29,7 +29,7 @@ appends H None (Some kind) = (kind ∷ [], refl)
 
 -- a store that has more events than the journal
 pub behind-more : {S : Type 0} (g : Ghosts S) (d : Durable S) (s : Stored) (count : ℕ) (more : List EventKind) → IsDurable g d → count ≡ length d.store.history → d.store.forgotten ≤ count
-    → s ≡ record d.store { history = d.store.history ++ events_of_kinds more } → IsOwnHistory s → IsBehind g (record { store = s; journal = d.journal; names = d.names }) count
+    → s ≡ record d.store { history = d.store.history ++ events_of_kinds more } → IsTracedHistory s → IsBehind g (record { store = s; journal = d.journal; names = d.names; prepared = d.prepared }) count
 behind-more g d s count more sound is remembered now own =
     let events = events_of_kinds more in
     let history : s.history ≡ d.store.history ++ events = ap (λ (s : Stored). s.history) now in
@@ -49,19 +49,34 @@ behind-more g d s count more sound is remembered now own =
     }
 
 -- a store that did a command
-pub done-behind : {S T : Type 0} (g : Ghosts S) (d : Durable S) (command : Command) (r : Result T Refusal) (s : Stored) (count : ℕ) → StepsAreOwn → IsDurable g d → count ≡ length d.store.history
-    → d.store.forgotten ≤ count → Steps d.store 0 command r s → IsBehind g (record { store = s; journal = d.journal; names = d.names }) count
+pub done-behind : {S T : Type 0} (g : Ghosts S) (d : Durable S) (command : Command) (r : Result T Refusal) (s : Stored) (count : ℕ) → StepsAreTraced → IsDurable g d → count ≡ length d.store.history
+    → d.store.forgotten ≤ count → Steps d.store 0 command r s → IsBehind g (record { store = s; journal = d.journal; names = d.names; prepared = d.prepared }) count
 done-behind g d command r s count steps sound is remembered step =
     let it = appends d.store.history (refusal_of d.store command) (event_of (objects d.store) (summary d.store.history) command) in
     behind-more g d s count it.0 sound is remembered (step.1 ∙ ap (λ H. record d.store { history = H }) it.1)
-    (subst IsOwnHistory (sym (step.1)) (steps d.store 0 command sound.own))
+    (subst IsTracedHistory (sym (step.1)) (steps d.store 0 command sound.own))
 
 -- or may have done it, where memory wasn't refused
-pub step-behind : {S T : Type 0} (g : Ghosts S) (d : Durable S) (command : Command) (r : Result T Refusal) (s : Stored) (count : ℕ) → StepsAreOwn → IsDurable g d → count ≡ length d.store.history
-    → d.store.forgotten ≤ count → MayStep d.store 0 command r s → IsBehind g (record { store = s; journal = d.journal; names = d.names }) count
+pub step-behind : {S T : Type 0} (g : Ghosts S) (d : Durable S) (command : Command) (r : Result T Refusal) (s : Stored) (count : ℕ) → StepsAreTraced → IsDurable g d → count ≡ length d.store.history
+    → d.store.forgotten ≤ count → MayStep d.store 0 command r s → IsBehind g (record { store = s; journal = d.journal; names = d.names; prepared = d.prepared }) count
 step-behind g d command r s count steps sound is remembered may = elim may [
   | inl step ↦ done-behind g d command r s count steps sound is remembered step
   | inr refused ↦
       behind-more g d s count [] sound is remembered (refused.2 ∙ ap (λ H. record d.store { history = H }) (sym (append-nil d.store.history)))
-      (subst IsOwnHistory (sym (refused.2)) sound.own)
+      (subst IsTracedHistory (sym (refused.2)) sound.own)
 ]
+
+-- whoever is prepared
+pub behind-alike : {S : Type 0} (g : Ghosts S) (d now : Durable S) (count : ℕ) → IsBehind g (record { store = now.store; journal = now.journal; names = now.names; prepared = d.prepared }) count → IsBehind g now count
+behind-alike g d now count late = record {
+  journal = late.journal;
+  types = late.types;
+  settled = late.settled;
+  limit = late.limit;
+  own = late.own;
+  named = late.named;
+  remembered = late.remembered;
+  inside = late.inside;
+  history = late.history;
+  by_zero = late.by_zero;
+}

@@ -18,12 +18,13 @@ IsReadFormat format = (1 ≤ format) × (format ≤ newest_format)
 abbrev pub first_header : List ℕ → Header
 first_header id = record { format = newest_format; id = id; life = 0 }
 
--- these texts and objects, which have types that begin at their initial states, no event, and no transaction that had a key
+-- these texts and objects, which have types that begin at their initial states, no event, and no transaction that is prepared or had a key
 pub record IsNewFile (id : List ℕ) (given : List (List ℕ)) (lines : List ObjectLine) (c : Contents) : Type 0 where
   pub headers : c.headers ≡ first_header id ∷ []
   pub texts : c.types ≡ given
   pub objects : c.objects ≡ lines
   pub none : c.events ≡ []
+  pub unprepared : c.prepared ≡ []
   pub keyless : (n : ℕ) → c.outcomes n ≡ None
   pub types : List Checked
   pub are : HasTypes c types

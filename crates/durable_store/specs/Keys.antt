@@ -1,5 +1,5 @@
 -- Keys of transactions: what a file knows of each, and what is done under one.
-use Rattle.std.specs.Prelude.{◌≡◌, ℕ, Bool, true, false, cond, List, [], ◌∷◌, drop, length, option_and_then, slice_get, Option, Some, None, Result, Ok, Err}
+use Rattle.std.specs.Prelude.{◌≡◌, ◌⊎◌, ℕ, Bool, true, false, cond, List, [], ◌∷◌, drop, length, option_and_then, slice_get, Option, Some, None, Result, Ok, Err}
 use Rattle.std.specs.List.{join_with_byte}
 use Rattle.std.specs.Str.{bytes_eq}
 use Rattle.type_table.specs.Table.{op_of}
@@ -20,10 +20,14 @@ use Rattle.journal.specs.declared.outcome_row.Outcome.{Outcome}
 use Rattle.journal.specs.declared.outcome_row.Outcome.TheVariants.{Committed, Aborted}
 use Rattle.journal.specs.Contents.{Contents, with_outcome}
 use Rattle.journal.specs.Journal.{written}
-use Rattle.durable_store.specs.Durable.{with_all}
+use Rattle.durable_store.specs.Durable.{prepared_in, with_all}
+use Rattle.durable_store.specs.Held.{Unless, first_passing, has_key, has_place}
+use Rattle.durable_store.specs.declared.denial.Denial.{Denial}
+use Rattle.journal.specs.declared.prepared_row.Prepared.{Prepared}
 use Rattle.durable_store.specs.declared.durable.Durable.{Durable}
 use Rattle.durable_store.specs.declared.keyed.Keyed.{Keyed}
 use Rattle.durable_store.specs.declared.keyed.Keyed.TheVariants.{Done, Undone, Known, Taken}
+use Rattle.durable_store.specs.declared.keyed.Keyed.TheVariants as keyed
 use Rattle.durable_store.specs.declared.keyed.KeyState.{KeyState}
 use Rattle.durable_store.specs.declared.keyed.KeyState.TheVariants as state
 use Rattle.durable_store.specs.declared.keyed.Unfinished.{Unfinished}
@@ -40,18 +44,25 @@ outcome_for key (Some kept) = cond (bytes_eq kept.key key) (Some kept.outcome) N
 abbrev pub outcome_under : Contents → List ℕ → Option Outcome
 outcome_under c key = outcome_for key (c.outcomes (key_place key))
 
--- nothing is kept at its place
+-- nothing is kept at its place, and nobody is prepared under a key of that place
 abbrev pub IsFree : Contents → List ℕ → Type 0
-IsFree c key = c.outcomes (key_place key) ≡ None
+IsFree c key = (c.outcomes (key_place key) ≡ None) × (first_passing (has_place key) (prepared_in c) ≡ None)
 
--- something is, of another key
+-- a transaction is prepared under it
+abbrev pub IsPreparedUnder : Contents → List ℕ → Type 0
+IsPreparedUnder c key = (p : Prepared) × (first_passing (has_place key) (prepared_in c) ≡ Some p) × (has_key key p ≡ true)
+
+-- its place is another key's: of one that is kept there, or of one under which a transaction is prepared
 abbrev pub IsTaken : Contents → List ℕ → Type 0
-IsTaken c key = (kept : KeyedOutcome) × (c.outcomes (key_place key) ≡ Some kept) × (bytes_eq kept.key key ≡ false)
+IsTaken c key =
+    ((kept : KeyedOutcome) × (c.outcomes (key_place key) ≡ Some kept) × (bytes_eq kept.key key ≡ false))
+    ⊎ ((p : Prepared) × (first_passing (has_place key) (prepared_in c) ≡ Some p) × (has_key key p ≡ false))
 
 -- what is known of a key
 abbrev pub IsInState : Contents → List ℕ → KeyState → Type 0
 IsInState c key state.Free = IsFree c key
 IsInState c key (state.Known outcome) = outcome_under c key ≡ Some outcome
+IsInState c key state.Prepared = IsPreparedUnder c key
 IsInState c key state.Taken = IsTaken c key
 
 -- with an outcome under this key, where there is one
@@ -61,11 +72,12 @@ with_key key (Some outcome) c = with_outcome c (record { key = key; outcome = ou
 
 -- ---- work under a key
 
--- the key was free, or is known, or its place is another's
+-- the key was free, or is known, or a transaction is prepared under it, or its place is another's
 abbrev pub KnowsKey : {T : Type 0} → Contents → List ℕ → Keyed T → Type 0
 KnowsKey c key (Done outcome) = IsFree c key
 KnowsKey c key (Undone why) = IsFree c key
 KnowsKey c key (Known outcome) = outcome_under c key ≡ Some outcome
+KnowsKey c key keyed.Prepared = IsPreparedUnder c key
 KnowsKey c key Taken = IsTaken c key
 
 -- what is kept from now on
@@ -79,17 +91,18 @@ WritesUnder g key came old new = written g new.journal ≡ with_key key (kept_un
 
 -- ---- a commit
 
--- the work of transaction t was done before, under the key that it asks for: it is aborted, where it is open
-abbrev pub IsSuperseded : Stored → ℕ → Outcome → Stored → Type 0
-IsSuperseded old t (Committed replies) new = (r : Result (Unit {0}) Refusal) × Steps old 0 (command.Abort t) r new
-IsSuperseded old t Aborted new = new ≡ old
+-- the work of transaction t was done before, under the key that it asks for: it is aborted, where it is open and isn't prepared
+abbrev pub IsSuperseded : Bool → Stored → ℕ → Outcome → Stored → Type 0
+IsSuperseded prepared old t (Committed replies) new = (r : Result (Unit {0}) Denial) × Unless prepared old (λ r. Steps old 0 (command.Abort t) r new) r new
+IsSuperseded prepared old t Aborted new = new ≡ old
 
--- it was done, which has no replies, or refused, or was done before; under a key that is another one's nothing was done
-abbrev pub CommitsUnder : Stored → ℕ → Keyed Refusal → Stored → Type 0
-CommitsUnder old t (Done outcome) new = Steps old 0 (command.Commit t) (Ok (tt {0})) new × (outcome ≡ Committed [])
-CommitsUnder old t (Undone refusal) new = Steps {T = Unit {0}} old 0 (command.Commit t) (Err refusal) new
-CommitsUnder old t (Known outcome) new = IsSuperseded old t outcome new
-CommitsUnder old t Taken new = new ≡ old
+-- it was done, which has no replies, or denied, as where t is prepared, or was done before; under a key of one that is prepared, or that is another one's,
+-- nothing was done
+abbrev pub CommitsUnder : Bool → Stored → ℕ → Keyed Denial → Stored → Type 0
+CommitsUnder prepared old t (Done outcome) new = Unless prepared old (λ r. Steps old 0 (command.Commit t) r new) (Ok (tt {0})) new × (outcome ≡ Committed [])
+CommitsUnder prepared old t (Undone why) new = Unless {T = Unit {0}} prepared old (λ r. Steps old 0 (command.Commit t) r new) (Err why) new
+CommitsUnder prepared old t (Known outcome) new = IsSuperseded prepared old t outcome new
+CommitsUnder prepared old t came new = new ≡ old
 
 -- ---- a whole transaction
 

@@ -8,4 +8,6 @@ pub mod Created
 pub mod Names
 pub mod Growth
 pub mod GrowthParts
+pub mod Held
 pub mod Keys
+pub mod Votes

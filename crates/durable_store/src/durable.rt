@@ -5,32 +5,30 @@ ghost use Rattle.sqlite_trees.specs.Tree.{Trees};
 ghost use Rattle.journal.specs.Contents.{IsFile, contents_of};
 ghost use Rattle.journal.specs.Journal.{Clean, IsAsWritten, ShowsCommit, durable, may_leave, written, IsNumbered, IsOpen, IsJournal};
 ghost use Rattle.table_checker.specs.Checked.{Checked};
-ghost use Rattle.store.specs.Renews.{RefusesRenew, Renews};
-ghost use Rattle.durable_store.specs.Durable.{IsDurable, KeepsSettled, OutcomesStay, WritesSince, kinds, events_of_kinds, IsBehind, with_all};
-ghost use Rattle.durable_store.specs.Epochs.{IsAhead, LeavesEpoch, firsts, renewed};
+ghost use Rattle.durable_store.specs.Durable.{IsDurable, KeepsSettled, OutcomesStay, WritesSince, is_prepared, kinds, events_of_kinds, IsBehind, with_all};
+ghost use Rattle.durable_store.specs.Held.{ArePrepared, prepared_numbers};
+ghost use Rattle.durable_store.specs.Epochs.{IsAhead, LeavesAhead, firsts, renewed, renewed_with, with_all_prepared};
 ghost use Rattle.serial_order.specs.History.{begins, is_open, summary};
-ghost use Rattle.serial_order.specs.Replay.{call_at};
-ghost use Rattle.store_laws.specs.Stored.{MayStep, objects, Steps};
-ghost use Rattle.store.specs.Calls.{NotesAnswer};
-ghost use Rattle.serial_order.specs.Operations.{is_among};
-ghost use Rattle.store.specs.Ends.{closing, closing_but};
+ghost use Rattle.store_laws.specs.Stored.{MayStep};
+ghost use Rattle.store.specs.Ends.{closing_but};
 ghost use Rattle.attempts.specs.Commands.{attempt_commands, asked_calls, is_memory_refused_at, commands_replayed};
 ghost use Rattle.attempts.specs.Answers.{AttemptAnswers};
 ghost use Rattle.durable_store.specs.Names.{find_named};
-ghost use Rattle.durable_store.specs.Recovered.{Recovers, recovered_but};
+ghost use Rattle.durable_store.specs.Recovered.{Recovers, recovered};
 ghost use Rattle.serial_order.specs.declared.command.Command.TheVariants as command;
 
+use crate::held_list::{has_transaction, numbers_of};
 use crate::object_names::ObjectNames;
+use crate::prepared::prepare_all;
 use attempts::{Attempt, AttemptCall, attempt};
-use journal::{FirstState, Header, Journal, JournalError, TypeText};
-use object_calls::Answer;
+use journal::{FirstState, Header, Journal, JournalError, Prepared, TypeText};
 use object_name::ObjectName;
 use object_trait::{Event, EventKind};
 use objects::Object;
 use serial_order::Refusal;
 use sqlite_trees::store::Alter;
 use std::alloc::{AllocError, Global};
-use store::{RenewRefusal, Store, steps_are_followed};
+use store::{Store, steps_are_retraced};
 use store_text::ObjectLine;
 
 // the most objects whose states a journal writes anew
@@ -44,6 +42,8 @@ pub struct Durable<S: Alter> {
     pub(crate) store: Store<Object>,
     pub(crate) journal: Journal<S>,
     pub(crate) names: ObjectNames,
+    // Those that aren't decided, in the order in which they were prepared.
+    pub(crate) prepared: Vec<Prepared>,
 }
 
 impl<S: Alter> Durable<S> {
@@ -88,6 +88,20 @@ impl<S: Alter> Durable<S> {
         }
     }
 
+    /// The transactions that are prepared and not decided, in the order in which they were prepared.
+    pub fn prepared(&self) -> &[Prepared]
+        ensures { result.now ≡ self.now.prepared.items }
+    {
+        self.prepared.as_slice()
+    }
+
+    /// Whether transaction t is prepared and not decided.
+    pub fn is_prepared(&self, t: u32) -> bool
+        ensures { result ≡ is_prepared self.now t }
+    {
+        has_transaction(&self.prepared, t)
+    }
+
     /// Begins a transaction, as the store's `begin`. Its event is written, and a crash may still take it away.
     ///
     /// # Errors
@@ -98,113 +112,18 @@ impl<S: Alter> Durable<S> {
         ensures sound { OnOk result (IsDurable S.Store self.new) }
         ensures number { IfOk result (λ r. IfOk r (λ t. t ≡ begins self.old.store.history)) }
         ensures step { IfOk result (λ r. MayStep self.old.store 0 command.Begin r self.new.store) }
+        ensures prepared { OnOk result (self.new.prepared ≡ self.old.prepared) }
         ensures life { self.new.journal.header ≡ self.old.journal.header }
         ensures written { OnOk result (WritesSince S.Store self.old self.new) }
         ensures settled { OnOk result (KeepsSettled S.Store self.old self.new) }
         ensures clean { Clean S.Store self.new.journal → Clean S.Store self.old.journal }
         ensures crash { OutcomesStay S.Store self.old self.new }
     {
-        steps_are_followed();
+        steps_are_retraced();
         let count = self.store.event_count();
         let begun = self.store.begin(0);
         self.write_since(count)?;
         Ok(begun)
-    }
-
-    /// A call of transaction t, as the store's `call`. Its event is written, and a crash may still take it away.
-    ///
-    /// # Errors
-    ///
-    /// As `begin`.
-    pub fn call(
-        &mut self,
-        t: u32,
-        x: u32,
-        name: &[u8],
-    ) -> Result<Result<Answer, Refusal>, JournalError>
-        requires { IsDurable S.Store self.old }
-        ensures sound { OnOk result (IsDurable S.Store self.new) }
-        ensures step { IfOk result (λ r. MayStep self.old.store 0 (command.Call t x name.now) r self.new.store) }
-        ensures answer { IfOk result (λ r. (c : ℕ) → call_at (slice_get (objects self.old.store) x) name.now ≡ Some c → NotesAnswer self.old.store 0 t x c r self.new.store) }
-        ensures life { self.new.journal.header ≡ self.old.journal.header }
-        ensures written { OnOk result (WritesSince S.Store self.old self.new) }
-        ensures settled { OnOk result (KeepsSettled S.Store self.old self.new) }
-        ensures clean { Clean S.Store self.new.journal → Clean S.Store self.old.journal }
-        ensures crash { OutcomesStay S.Store self.old self.new }
-    {
-        steps_are_followed();
-        let count = self.store.event_count();
-        let answered = self.store.call_bytes(0, t, x, name);
-        self.write_since(count)?;
-        Ok(answered)
-    }
-
-    /// Commits transaction t, as the store's `commit`. Its event is written, and a crash may still take it away:
-    /// the client is answered after `settle` only.
-    ///
-    /// # Errors
-    ///
-    /// As `begin`.
-    pub fn commit(&mut self, t: u32) -> Result<Result<(), Refusal>, JournalError>
-        requires { IsDurable S.Store self.old }
-        ensures sound { OnOk result (IsDurable S.Store self.new) }
-        ensures step { IfOk result (λ r. Steps self.old.store 0 (command.Commit t) r self.new.store) }
-        ensures life { self.new.journal.header ≡ self.old.journal.header }
-        ensures written { OnOk result (WritesSince S.Store self.old self.new) }
-        ensures settled { OnOk result (KeepsSettled S.Store self.old self.new) }
-        ensures clean { Clean S.Store self.new.journal → Clean S.Store self.old.journal }
-        ensures crash { OutcomesStay S.Store self.old self.new }
-    {
-        steps_are_followed();
-        let count = self.store.event_count();
-        let ended = self.store.commit(0, t);
-        self.write_since(count)?;
-        Ok(ended)
-    }
-
-    /// Aborts transaction t, as the store's `abort`. Its event is written, and a crash may still take it away.
-    ///
-    /// # Errors
-    ///
-    /// As `begin`.
-    pub fn abort(&mut self, t: u32) -> Result<Result<(), Refusal>, JournalError>
-        requires { IsDurable S.Store self.old }
-        ensures sound { OnOk result (IsDurable S.Store self.new) }
-        ensures step { IfOk result (λ r. Steps self.old.store 0 (command.Abort t) r self.new.store) }
-        ensures life { self.new.journal.header ≡ self.old.journal.header }
-        ensures written { OnOk result (WritesSince S.Store self.old self.new) }
-        ensures settled { OnOk result (KeepsSettled S.Store self.old self.new) }
-        ensures clean { Clean S.Store self.new.journal → Clean S.Store self.old.journal }
-        ensures crash { OutcomesStay S.Store self.old self.new }
-    {
-        steps_are_followed();
-        let count = self.store.event_count();
-        let ended = self.store.abort(0, t);
-        self.write_since(count)?;
-        Ok(ended)
-    }
-
-    /// Strikes the last n operations of transaction t, as the store's `rollback`. Its event is written, and a
-    /// crash may still take it away.
-    ///
-    /// # Errors
-    ///
-    /// As `begin`.
-    pub fn rollback(&mut self, t: u32, n: u32) -> Result<Result<(), Refusal>, JournalError>
-        requires { IsDurable S.Store self.old }
-        ensures sound { OnOk result (IsDurable S.Store self.new) }
-        ensures step { IfOk result (λ r. MayStep self.old.store 0 (command.Rollback t n) r self.new.store) }
-        ensures life { self.new.journal.header ≡ self.old.journal.header }
-        ensures written { OnOk result (WritesSince S.Store self.old self.new) }
-        ensures settled { OnOk result (KeepsSettled S.Store self.old self.new) }
-        ensures clean { Clean S.Store self.new.journal → Clean S.Store self.old.journal }
-        ensures crash { OutcomesStay S.Store self.old self.new }
-    {
-        steps_are_followed();
-        let count = self.store.event_count();
-        let rolled_back = self.store.rollback(0, t, n);
-        self.write_since(count)?;
-        Ok(rolled_back)
     }
 
     /// A whole transaction, as `attempts::attempt`: it makes these calls in their order and commits, or aborts at the
@@ -219,61 +138,42 @@ impl<S: Alter> Durable<S> {
         ensures sound { OnOk result (IsDurable S.Store self.new) }
         ensures replays { IfOk result (λ came. self.new.store ≡ commands_replayed self.old.store (is_memory_refused_at came) 0 (attempt_commands (begins self.old.store.history) (asked_calls calls.now) came)) }
         ensures answers { IfOk result (λ came. AttemptAnswers self.old.store 0 (asked_calls calls.now) came self.new.store) }
+        ensures prepared { OnOk result (self.new.prepared ≡ self.old.prepared) }
         ensures life { self.new.journal.header ≡ self.old.journal.header }
         ensures written { OnOk result (WritesSince S.Store self.old self.new) }
         ensures settled { OnOk result (KeepsSettled S.Store self.old self.new) }
         ensures clean { Clean S.Store self.new.journal → Clean S.Store self.old.journal }
         ensures crash { OutcomesStay S.Store self.old self.new }
     {
-        steps_are_followed();
+        steps_are_retraced();
         let count = self.store.event_count();
         let came = attempt(&mut self.store, alloc, 0, calls);
         self.write_since(count)?;
         Ok(came)
     }
 
-    /// Aborts each open transaction, in the order in which they began. The events are written, and a crash may still
-    /// take them away.
-    ///
-    /// # Errors
-    ///
-    /// As `begin`.
-    pub fn abort_all(&mut self) -> Result<(), JournalError>
-        requires { IsDurable S.Store self.old }
-        ensures sound { OnOk result (IsDurable S.Store self.new) }
-        ensures store { self.new.store ≡ record self.old.store { history = self.old.store.history ++ closing self.old.store.history } }
-        ensures none { (t : ℕ) → is_open (summary self.new.store.history) t ≡ false }
-        ensures life { self.new.journal.header ≡ self.old.journal.header }
-        ensures written { OnOk result (WritesSince S.Store self.old self.new) }
-        ensures settled { OnOk result (KeepsSettled S.Store self.old self.new) }
-        ensures clean { Clean S.Store self.new.journal → Clean S.Store self.old.journal }
-        ensures crash { OutcomesStay S.Store self.old self.new }
-    {
-        self.abort_all_but(&[])
-    }
-
-    /// Aborts each open transaction but those, in the order in which they began. The events are written, and a crash
+    /// Aborts each open transaction that isn't prepared, in the order in which they began. The events are written, and a crash
     /// may still take them away.
     ///
     /// # Errors
     ///
-    /// As `begin`.
-    pub(crate) fn abort_all_but(&mut self, those: &[u32]) -> Result<(), JournalError>
+    /// As `begin`, or memory was refused.
+    pub fn abort_unprepared(&mut self, alloc: Global) -> Result<(), JournalError>
         requires { IsDurable S.Store self.old }
         ensures sound { OnOk result (IsDurable S.Store self.new) }
-        ensures store { self.new.store ≡ record self.old.store { history = self.old.store.history ++ closing_but those.now self.old.store.history } }
-        ensures left { (t : ℕ) → is_open (summary self.new.store.history) t ≡ (is_among those.now t && is_open (summary self.old.store.history) t) }
+        ensures store { OnOk result (self.new.store ≡ record self.old.store { history = self.old.store.history ++ closing_but (prepared_numbers self.old.prepared.items) self.old.store.history }) }
+        ensures left { OnOk result ((t : ℕ) → is_open (summary self.new.store.history) t ≡ (is_prepared self.old t && is_open (summary self.old.store.history) t)) }
+        ensures prepared { OnOk result (self.new.prepared ≡ self.old.prepared) }
         ensures life { self.new.journal.header ≡ self.old.journal.header }
         ensures written { OnOk result (WritesSince S.Store self.old self.new) }
         ensures settled { OnOk result (KeepsSettled S.Store self.old self.new) }
         ensures clean { Clean S.Store self.new.journal → Clean S.Store self.old.journal }
         ensures crash { OutcomesStay S.Store self.old self.new }
     {
-        steps_are_followed();
-        // (read for its clause that the history is a run)
-        self.store.history();
+        steps_are_retraced();
+        let those = numbers_of(alloc, &self.prepared)?;
         let count = self.store.event_count();
-        self.store.abort_all_but(those);
+        self.store.abort_all_but(&those);
         self.write_since(count)
     }
 
@@ -289,6 +189,7 @@ impl<S: Alter> Durable<S> {
         ensures said { IfOk result (λ types. Clean S.Store self.new.journal → types.items ≡ (written S.Store self.old.journal).types) }
         ensures sound { OnOk result (IsDurable S.Store self.new) }
         ensures store { self.new.store ≡ self.old.store }
+        ensures prepared { self.new.prepared ≡ self.old.prepared }
         ensures life { self.new.journal.header ≡ self.old.journal.header }
         ensures written { OnOk result (Clean S.Store self.new.journal → written S.Store self.new.journal ≡ written S.Store self.old.journal) }
         ensures settled { OnOk result (KeepsSettled S.Store self.old self.new) }
@@ -310,6 +211,7 @@ impl<S: Alter> Durable<S> {
         ensures said { IfOk result (λ objects. Clean S.Store self.new.journal → objects.items ≡ (written S.Store self.old.journal).objects) }
         ensures sound { OnOk result (IsDurable S.Store self.new) }
         ensures store { self.new.store ≡ self.old.store }
+        ensures prepared { self.new.prepared ≡ self.old.prepared }
         ensures life { self.new.journal.header ≡ self.old.journal.header }
         ensures written { OnOk result (Clean S.Store self.new.journal → written S.Store self.new.journal ≡ written S.Store self.old.journal) }
         ensures settled { OnOk result (KeepsSettled S.Store self.old self.new) }
@@ -331,6 +233,7 @@ impl<S: Alter> Durable<S> {
         ensures said { IfOk result (λ states. Clean S.Store self.new.journal → states.items ≡ (written S.Store self.old.journal).states) }
         ensures sound { OnOk result (IsDurable S.Store self.new) }
         ensures store { self.new.store ≡ self.old.store }
+        ensures prepared { self.new.prepared ≡ self.old.prepared }
         ensures life { self.new.journal.header ≡ self.old.journal.header }
         ensures written { OnOk result (Clean S.Store self.new.journal → written S.Store self.new.journal ≡ written S.Store self.old.journal) }
         ensures settled { OnOk result (KeepsSettled S.Store self.old self.new) }
@@ -359,6 +262,7 @@ impl<S: Alter> Durable<S> {
         ensures happened { IfOk result (λ events. Clean S.Store self.new.journal → events.items ≡ take count (drop from (kinds self.old.store.history))) }
         ensures sound { OnOk result (IsDurable S.Store self.new) }
         ensures store { self.new.store ≡ self.old.store }
+        ensures prepared { self.new.prepared ≡ self.old.prepared }
         ensures life { self.new.journal.header ≡ self.old.journal.header }
         ensures written { OnOk result (Clean S.Store self.new.journal → written S.Store self.new.journal ≡ written S.Store self.old.journal) }
         ensures settled { OnOk result (KeepsSettled S.Store self.old self.new) }
@@ -380,6 +284,7 @@ impl<S: Alter> Durable<S> {
         ensures sound { OnOk result (IsDurable S.Store self.new) }
         ensures store { OnOk result (self.new.store ≡ record self.old.store { forgotten = length self.old.store.history }) }
         ensures types { self.new.store.types ≡ self.old.store.types }
+        ensures prepared { self.new.prepared ≡ self.old.prepared }
         ensures life { self.new.journal.header ≡ self.old.journal.header }
         ensures written { OnOk result (Clean S.Store self.new.journal → written S.Store self.new.journal ≡ written S.Store self.old.journal) }
         ensures durable { OnOk result (Clean S.Store self.new.journal → durable S.Store self.new.journal ≡ written S.Store self.old.journal) }
@@ -405,99 +310,93 @@ impl<S: Alter> Durable<S> {
             store,
             journal,
             names: _,
+            prepared: _,
         } = self;
         let _ = store.close();
         journal.into_store()
     }
 
-    /// Aborts each open transaction but the prepared ones, begins the next life, and commits both at once.
+    /// Aborts each open transaction that isn't prepared, begins the next life, and commits both at once.
     ///
     /// # Errors
     ///
-    /// The file failed, or memory was refused for it.
-    pub(crate) fn recover(&mut self, prepared: &[u32]) -> Result<(), JournalError>
+    /// The file failed, or memory was refused.
+    pub(crate) fn recover(&mut self, alloc: Global) -> Result<(), JournalError>
         requires { IsDurable S.Store self.old }
         ensures sound { OnOk result (IsDurable S.Store self.new) }
-        ensures recovers { OnOk result (Recovers S.Store prepared.now self.old self.new) }
+        ensures recovers { OnOk result (Recovers S.Store self.old self.new) }
         ensures crash { (db : Trees) → may_leave S.Store self.new.journal db
-            → (Clean S.Store self.old.journal × IsFile db × (contents_of db ≡ recovered_but prepared.now (written S.Store self.old.journal))) ⊎ may_leave S.Store self.old.journal db }
+            → (Clean S.Store self.old.journal × IsFile db × (contents_of db ≡ recovered (written S.Store self.old.journal))) ⊎ may_leave S.Store self.old.journal db }
     {
-        self.abort_all_but(prepared)?;
+        self.abort_unprepared(alloc)?;
         self.journal.begin_life()?;
         self.settle()
     }
 
-    /// Begins another epoch, in another life: the file has no event any more, and its history begins anew at the
-    /// states that were kept, all of it in one commit. The store has the same types at these states, and no event yet.
-    ///
-    /// # Errors
-    ///
-    /// The file failed, or memory was refused for it. The store's own refusal is inside, and nothing has changed.
-    pub fn renew(
-        self,
-        alloc: Global,
-    ) -> (Durable<S>, Result<Result<(), RenewRefusal>, JournalError>)
-        requires { IsDurable S.Store self }
-        ensures sound { OnOk result.1 (IsDurable S.Store result.0) }
-        ensures store { IfOk result.1 (λ r. OnOk r (Renews self.store result.0.store)) }
-        ensures refused { IfOk result.1 (λ r. IfErr r (λ why. RefusesRenew self.store why × (result.0 ≡ self))) }
-        ensures durable { IfOk result.1 (λ r. OnOk r (Clean S.Store result.0.journal → durable S.Store result.0.journal ≡ renewed (written S.Store self.journal) result.0.store.types)) }
-        ensures shows { IfOk result.1 (λ r. OnOk r (ShowsCommit S.Store result.0.journal)) }
-        ensures last { IfOk result.1 (λ r. OnOk r (Clean S.Store result.0.journal → (written S.Store self.journal).headers ≡ self.journal.header ∷ [])) }
-        ensures clean { Clean S.Store result.0.journal → Clean S.Store self.journal }
-        ensures crash { LeavesEpoch S.Store self result.0 }
-    {
-        let Durable {
-            store,
-            journal,
-            names,
-        } = self;
-        match store.renew(alloc) {
-            Ok((store, _)) => {
-                let mut ahead = Durable {
-                    store,
-                    journal,
-                    names,
-                };
-                match ahead.write_epoch(alloc) {
-                    Ok(()) => (ahead, Ok(Ok(()))),
-                    Err(error) => (ahead, Err(error)),
-                }
-            }
-            Err((store, refusal)) => {
-                let durable = Durable {
-                    store,
-                    journal,
-                    names,
-                };
-                (durable, Ok(Err(refusal)))
-            }
-        }
-    }
-
-    /// Writes the epoch that the store has begun, and commits it.
+    /// Writes the epoch that the store has begun, with what is prepared, and commits it.
     ///
     /// # Errors
     ///
     /// The file failed, or memory was refused for it.
-    fn write_epoch(&mut self, alloc: Global) -> Result<(), JournalError>
+    pub(crate) fn write_epoch(&mut self, alloc: Global) -> Result<(), JournalError>
         requires { IsAhead S.Store self.old }
         ensures sound { OnOk result (IsDurable S.Store self.new) }
         ensures store { OnOk result (self.new.store ≡ record self.old.store { forgotten = length self.old.store.history }) }
         ensures types { self.new.store.types ≡ self.old.store.types }
-        ensures durable { OnOk result (Clean S.Store self.new.journal → durable S.Store self.new.journal ≡ renewed (written S.Store self.old.journal) self.old.store.types) }
+        ensures prepared { self.new.prepared ≡ self.old.prepared }
+        ensures durable { OnOk result (Clean S.Store self.new.journal → durable S.Store self.new.journal ≡ renewed_with (written S.Store self.old.journal) self.old.store.types (kinds self.old.store.history) self.old.prepared.items) }
         ensures shows { OnOk result (ShowsCommit S.Store self.new.journal) }
         ensures last { OnOk result (Clean S.Store self.new.journal → (written S.Store self.old.journal).headers ≡ self.old.journal.header ∷ []) }
         ensures clean { Clean S.Store self.new.journal → Clean S.Store self.old.journal }
-        ensures crash { (db : Trees) → may_leave S.Store self.new.journal db
-            → (Clean S.Store self.old.journal × IsFile db × (contents_of db ≡ renewed (written S.Store self.old.journal) self.old.store.types)
-            × ((written S.Store self.old.journal).headers ≡ self.old.journal.header ∷ [])) ⊎ may_leave S.Store self.old.journal db }
+        ensures crash { LeavesAhead S.Store self.old self.new }
+    {
+        self.begin_epoch(alloc)?;
+        self.write_first()
+    }
+
+    /// Begins the epoch in the file, which has no event of it yet. A crash may still take it away.
+    ///
+    /// # Errors
+    ///
+    /// The file failed, or memory was refused for it.
+    fn begin_epoch(&mut self, alloc: Global) -> Result<(), JournalError>
+        requires { IsAhead S.Store self.old }
+        ensures behind { OnOk result (IsBehind S.Store self.new 0) }
+        ensures store { self.new.store ≡ self.old.store }
+        ensures prepared { self.new.prepared ≡ self.old.prepared }
+        ensures written { OnOk result (Clean S.Store self.new.journal → written S.Store self.new.journal ≡ renewed (written S.Store self.old.journal) self.old.store.types) }
+        ensures last { OnOk result (Clean S.Store self.new.journal → (written S.Store self.old.journal).headers ≡ self.old.journal.header ∷ []) }
+        ensures clean { Clean S.Store self.new.journal → Clean S.Store self.old.journal }
+        ensures crash { OutcomesStay S.Store self.old self.new }
     {
         let states = first_states(alloc, &self.store)?;
         if states.len() > MOST_STATES {
             return Err(JournalError::Full);
         }
         self.journal.begin_epoch(&states)?;
+        Ok(())
+    }
+
+    /// Writes what is prepared in the epoch that the file has begun, and the events of the store, and commits it.
+    ///
+    /// # Errors
+    ///
+    /// The file failed, or memory was refused for it.
+    pub(crate) fn write_first(&mut self) -> Result<(), JournalError>
+        requires behind { IsBehind S.Store self.old 0 }
+        requires prepared { Clean S.Store self.old.journal → ArePrepared self.old.store.history (with_all_prepared (written S.Store self.old.journal) self.old.prepared.items) self.old.prepared.items }
+        ensures sound { OnOk result (IsDurable S.Store self.new) }
+        ensures store { OnOk result (self.new.store ≡ record self.old.store { forgotten = length self.old.store.history }) }
+        ensures types { self.new.store.types ≡ self.old.store.types }
+        ensures prepared { self.new.prepared ≡ self.old.prepared }
+        ensures durable { OnOk result (Clean S.Store self.new.journal → durable S.Store self.new.journal ≡ with_all (with_all_prepared (written S.Store self.old.journal) self.old.prepared.items) self.old.store.history) }
+        ensures shows { OnOk result (ShowsCommit S.Store self.new.journal) }
+        ensures clean { Clean S.Store self.new.journal → Clean S.Store self.old.journal }
+        ensures crash { (db : Trees) → may_leave S.Store self.new.journal db
+            → (Clean S.Store self.old.journal × IsFile db × (contents_of db ≡ with_all (with_all_prepared (written S.Store self.old.journal) self.old.prepared.items) self.old.store.history)) ⊎ may_leave S.Store self.old.journal db }
+    {
+        prepare_all(&mut self.journal, &self.prepared)?;
+        self.write_since(0)?;
         self.settle()
     }
 
@@ -507,9 +406,11 @@ impl<S: Alter> Durable<S> {
     ///
     /// The file failed, or memory was refused for it.
     pub(crate) fn write_since(&mut self, count: u32) -> Result<(), JournalError>
-        requires { IsBehind S.Store self.old count }
+        requires behind { IsBehind S.Store self.old count }
+        requires prepared { Clean S.Store self.old.journal → ArePrepared self.old.store.history (written S.Store self.old.journal) self.old.prepared.items }
         ensures sound { OnOk result (IsDurable S.Store self.new) }
         ensures store { self.new.store ≡ self.old.store }
+        ensures prepared { self.new.prepared ≡ self.old.prepared }
         ensures header { self.new.journal.header ≡ self.old.journal.header }
         ensures written { OnOk result (Clean S.Store self.new.journal → written S.Store self.new.journal ≡ with_all (written S.Store self.old.journal) (drop count self.old.store.history)) }
         ensures settled { OnOk result (KeepsSettled S.Store self.old self.new) }

@@ -6,15 +6,16 @@ ghost use Rattle.table_checker.specs.Checked.{Checked};
 ghost use Rattle.objects.specs.Object.{meaning_of};
 ghost use Rattle.journal.specs.Contents.{IsFile, contents_of};
 ghost use Rattle.journal.specs.Journal.{Clean, ShowsCommit, durable, may_leave, written};
-ghost use Rattle.store.specs.Renews.{Extends};
+ghost use Rattle.durable_store.specs.Epochs.{GoesOver};
 ghost use Rattle.store_laws.specs.Stored.{types_of};
-ghost use Rattle.durable_store.specs.Durable.{IsDurable, KeepsSettled, OutcomesStay};
+ghost use Rattle.durable_store.specs.Durable.{IsBehind, IsDurable, KeepsSettled, OutcomesStay, kinds};
 ghost use Rattle.durable_store.specs.Growth.{AreAdded, Grows, IsAsBefore, IsRefusal, LeavesGrowth, RefusesGrowth, grown};
 ghost use Rattle.durable_store.specs.GrowthParts.{IsAheadBy, LeavesGrown, RefusesObjects};
 ghost use Rattle.durable_store.specs.Names.{IndexesNames, HaveNewNames, SaysTaken};
 
 use crate::durable::{Durable, MOST_STATES, first_states};
 use crate::growth::{Growth, Known, growth_of};
+use crate::held_list::moved_over;
 use crate::object_names::ObjectNames;
 use crate::open_error::OpenError;
 use journal::{JournalError, TypeText};
@@ -24,8 +25,8 @@ use store_text::ObjectLine;
 
 impl<S: Alter> Durable<S> {
     /// Begins another epoch with more objects, in another life: objects of these lines, whose places are those of
-    /// these texts, come after those that there are, at the initial states of their types. All of it is in one commit,
-    /// as `renew` makes it, and no text that the file has is written again. The answer is the number of the first
+    /// these texts, come after those that there are, at the initial states of their types; what is prepared goes over. All of it is
+    /// in one commit, as `renew` makes it, and no text that the file has is written again. The answer is the number of the first
     /// new object.
     ///
     /// # Errors
@@ -43,12 +44,12 @@ impl<S: Alter> Durable<S> {
         requires shows { ShowsCommit S.Store self.journal }
         ensures sound { OnOk result.1 (IsDurable S.Store result.0) }
         ensures first { IfOk result.1 (λ first. first ≡ length self.store.types) }
-        ensures store { OnOk result.1 ((added : List Checked) × AreAdded texts.now lines.now added × Extends self.store added result.0.store) }
-        ensures durable { OnOk result.1 (Clean S.Store result.0.journal → Grows texts.now lines.now self.store result.0.store (written S.Store self.journal) (durable S.Store result.0.journal)) }
+        ensures store { OnOk result.1 ((added : List Checked) × AreAdded texts.now lines.now added × GoesOver added self.store self.prepared.items result.0.store result.0.prepared.items) }
+        ensures durable { OnOk result.1 (Clean S.Store result.0.journal → Grows texts.now lines.now self.store self.prepared.items result.0.store result.0.prepared.items (written S.Store self.journal) (durable S.Store result.0.journal)) }
         ensures shows { OnOk result.1 (ShowsCommit S.Store result.0.journal) }
         ensures last { OnOk result.1 (Clean S.Store result.0.journal → (written S.Store self.journal).headers ≡ self.journal.header ∷ []) }
         ensures refused { IfErr result.1 (λ error. IsRefusal error → IsAsBefore S.Store self result.0) }
-        ensures why { IfErr result.1 (RefusesGrowth texts.now lines.now self.store) }
+        ensures why { IfErr result.1 (RefusesGrowth texts.now lines.now self.store self.prepared.items) }
         ensures named { OnOk result.1 (Clean S.Store result.0.journal → HaveNewNames (written S.Store self.journal).objects lines.now) }
         ensures taken { IfErr result.1 (λ error. Clean S.Store result.0.journal → SaysTaken (written S.Store self.journal).objects lines.now error) }
         ensures clean { Clean S.Store result.0.journal → Clean S.Store self.journal }
@@ -77,6 +78,7 @@ impl<S: Alter> Durable<S> {
         ensures objects { IfOk result (λ known. Clean S.Store self.new.journal → known.objects.items ≡ (written S.Store self.old.journal).objects) }
         ensures sound { OnOk result (IsDurable S.Store self.new) }
         ensures store { self.new.store ≡ self.old.store }
+        ensures prepared { self.new.prepared ≡ self.old.prepared }
         ensures life { self.new.journal.header ≡ self.old.journal.header }
         ensures written { OnOk result (Clean S.Store self.new.journal → written S.Store self.new.journal ≡ written S.Store self.old.journal) }
         ensures settled { OnOk result (KeepsSettled S.Store self.old self.new) }
@@ -108,12 +110,12 @@ impl<S: Alter> Durable<S> {
         requires types { Clean S.Store self.journal → AreAdded ((written S.Store self.journal).types ++ growth.texts.items) growth.lines.items (types_of (map meaning_of growth.objects.items)) }
         ensures sound { OnOk result.1 (IsDurable S.Store result.0) }
         ensures first { IfOk result.1 (λ first. first ≡ length self.store.types) }
-        ensures store { OnOk result.1 (Extends self.store (types_of (map meaning_of growth.objects.items)) result.0.store) }
-        ensures durable { OnOk result.1 (Clean S.Store result.0.journal → durable S.Store result.0.journal ≡ grown (written S.Store self.journal) growth.texts.items growth.lines.items result.0.store.types) }
+        ensures store { OnOk result.1 (GoesOver (types_of (map meaning_of growth.objects.items)) self.store self.prepared.items result.0.store result.0.prepared.items) }
+        ensures durable { OnOk result.1 (Clean S.Store result.0.journal → durable S.Store result.0.journal ≡ grown (written S.Store self.journal) growth.texts.items growth.lines.items result.0.store.types (kinds result.0.store.history) result.0.prepared.items) }
         ensures shows { OnOk result.1 (ShowsCommit S.Store result.0.journal) }
         ensures last { OnOk result.1 (Clean S.Store result.0.journal → (written S.Store self.journal).headers ≡ self.journal.header ∷ []) }
         ensures refused { IfErr result.1 (λ error. IsRefusal error → result.0 ≡ self) }
-        ensures why { IfErr result.1 (RefusesObjects (map meaning_of growth.objects.items) self.store) }
+        ensures why { IfErr result.1 (RefusesObjects (map meaning_of growth.objects.items) self.store self.prepared.items) }
         ensures clean { Clean S.Store result.0.journal → Clean S.Store self.journal }
         ensures crash { LeavesGrown S.Store growth.texts.items growth.lines.items (types_of (map meaning_of growth.objects.items)) self result.0 }
     {
@@ -128,7 +130,7 @@ impl<S: Alter> Durable<S> {
     ///
     /// # Errors
     ///
-    /// `NotExtended`, and nothing has changed; or `Journal`.
+    /// `NotExtended` or `NoMemory`, and nothing has changed; or `Journal`.
     fn grow(
         self,
         alloc: Global,
@@ -144,19 +146,24 @@ impl<S: Alter> Durable<S> {
         requires types { Clean S.Store self.journal → AreAdded ((written S.Store self.journal).types ++ growth.texts.items) growth.lines.items (types_of (map meaning_of growth.objects.items)) }
         ensures sound { OnOk result.1 (IsDurable S.Store result.0) }
         ensures first { IfOk result.1 (λ first. first ≡ length self.store.types) }
-        ensures store { OnOk result.1 (Extends self.store (types_of (map meaning_of growth.objects.items)) result.0.store) }
-        ensures durable { OnOk result.1 (Clean S.Store result.0.journal → durable S.Store result.0.journal ≡ grown (written S.Store self.journal) growth.texts.items growth.lines.items result.0.store.types) }
+        ensures store { OnOk result.1 (GoesOver (types_of (map meaning_of growth.objects.items)) self.store self.prepared.items result.0.store result.0.prepared.items) }
+        ensures durable { OnOk result.1 (Clean S.Store result.0.journal → durable S.Store result.0.journal ≡ grown (written S.Store self.journal) growth.texts.items growth.lines.items result.0.store.types (kinds result.0.store.history) result.0.prepared.items) }
         ensures shows { OnOk result.1 (ShowsCommit S.Store result.0.journal) }
         ensures last { OnOk result.1 (Clean S.Store result.0.journal → (written S.Store self.journal).headers ≡ self.journal.header ∷ []) }
         ensures refused { IfErr result.1 (λ error. IsRefusal error → result.0 ≡ self) }
-        ensures why { IfErr result.1 (RefusesObjects (map meaning_of growth.objects.items) self.store) }
+        ensures why { IfErr result.1 (RefusesObjects (map meaning_of growth.objects.items) self.store self.prepared.items) }
         ensures clean { Clean S.Store result.0.journal → Clean S.Store self.journal }
         ensures crash { LeavesGrown S.Store growth.texts.items growth.lines.items (types_of (map meaning_of growth.objects.items)) self result.0 }
     {
+        let moved = match moved_over(alloc, &self.prepared) {
+            Ok(moved) => moved,
+            Err(_) => return (self, Err(OpenError::NoMemory)),
+        };
         let Durable {
             store,
             journal,
             names: former,
+            prepared,
         } = self;
         let Growth {
             texts,
@@ -164,12 +171,13 @@ impl<S: Alter> Durable<S> {
             objects,
         } = growth;
         let first = store.object_count();
-        match store.renew_with(alloc, objects) {
+        match store.carry(alloc, 0, &moved.those, objects) {
             Ok((store, _)) => {
                 let mut ahead = Durable {
                     store,
                     journal,
                     names,
+                    prepared: moved.prepared,
                 };
                 match ahead.write_growth(alloc, known, &texts, &lines) {
                     Ok(()) => (ahead, Ok(first)),
@@ -181,6 +189,7 @@ impl<S: Alter> Durable<S> {
                     store,
                     journal,
                     names: former,
+                    prepared,
                 };
                 (durable, Err(OpenError::NotExtended(refusal)))
             }
@@ -205,19 +214,47 @@ impl<S: Alter> Durable<S> {
         ensures sound { OnOk result (IsDurable S.Store self.new) }
         ensures store { OnOk result (self.new.store ≡ record self.old.store { forgotten = length self.old.store.history }) }
         ensures types { self.new.store.types ≡ self.old.store.types }
-        ensures durable { OnOk result (Clean S.Store self.new.journal → durable S.Store self.new.journal ≡ grown (written S.Store self.old.journal) texts.now lines.now self.old.store.types) }
+        ensures prepared { self.new.prepared ≡ self.old.prepared }
+        ensures durable { OnOk result (Clean S.Store self.new.journal → durable S.Store self.new.journal ≡ grown (written S.Store self.old.journal) texts.now lines.now self.old.store.types (kinds self.old.store.history) self.old.prepared.items) }
         ensures shows { OnOk result (ShowsCommit S.Store self.new.journal) }
         ensures last { OnOk result (Clean S.Store self.new.journal → (written S.Store self.old.journal).headers ≡ self.old.journal.header ∷ []) }
         ensures clean { Clean S.Store self.new.journal → Clean S.Store self.old.journal }
         ensures crash { (db : Trees) → may_leave S.Store self.new.journal db
-            → (Clean S.Store self.old.journal × IsFile db × (contents_of db ≡ grown (written S.Store self.old.journal) texts.now lines.now self.old.store.types)
+            → (Clean S.Store self.old.journal × IsFile db × (contents_of db ≡ grown (written S.Store self.old.journal) texts.now lines.now self.old.store.types (kinds self.old.store.history) self.old.prepared.items)
             × ((written S.Store self.old.journal).headers ≡ self.old.journal.header ∷ [])) ⊎ may_leave S.Store self.old.journal db }
+    {
+        self.begin_growth(alloc, known, texts, lines)?;
+        self.write_first()
+    }
+
+    /// Begins the epoch with more objects in the file, which has no event of it yet. A crash may still take it away.
+    ///
+    /// # Errors
+    ///
+    /// The file failed, or memory was refused for it.
+    fn begin_growth(
+        &mut self,
+        alloc: Global,
+        known: u64,
+        texts: &[TypeText],
+        lines: &[ObjectLine],
+    ) -> Result<(), JournalError>
+        requires ahead { IsAheadBy S.Store texts.now lines.now self.old }
+        requires few { known + length texts.now ≤ 65536 }
+        requires known { Clean S.Store self.old.journal → known ≡ length (written S.Store self.old.journal).types }
+        ensures behind { OnOk result (IsBehind S.Store self.new 0) }
+        ensures store { self.new.store ≡ self.old.store }
+        ensures prepared { self.new.prepared ≡ self.old.prepared }
+        ensures written { OnOk result (Clean S.Store self.new.journal → written S.Store self.new.journal ≡ grown (written S.Store self.old.journal) texts.now lines.now self.old.store.types [] []) }
+        ensures last { OnOk result (Clean S.Store self.new.journal → (written S.Store self.old.journal).headers ≡ self.old.journal.header ∷ []) }
+        ensures clean { Clean S.Store self.new.journal → Clean S.Store self.old.journal }
+        ensures crash { OutcomesStay S.Store self.old self.new }
     {
         let states = first_states(alloc, &self.store)?;
         if states.len() > MOST_STATES {
             return Err(JournalError::Full);
         }
         self.journal.extend_epoch(known, texts, lines, &states)?;
-        self.settle()
+        Ok(())
     }
 }

@@ -1,12 +1,15 @@
 //! Commits under keys, which are done once.
 
-ghost use Rattle.std.specs.Prelude.{◌≡◌, ◌++◌, IfOk, OnOk, Some};
+ghost use Rattle.std.specs.Prelude.{◌≡◌, ◌++◌, IfOk, None, OnOk, Some};
 ghost use Rattle.journal.specs.Journal.{Clean, written};
 ghost use Rattle.attempts.specs.Commands.{asked_calls};
-ghost use Rattle.durable_store.specs.Durable.{IsDurable, KeepsSettled, OutcomesStay, WritesSince};
+ghost use Rattle.durable_store.specs.Durable.{IsDurable, KeepsSettled, OutcomesStay, WritesSince, is_prepared};
+ghost use Rattle.durable_store.specs.Held.{first_passing, has_place};
 ghost use Rattle.durable_store.specs.Keys.{AttemptsUnder, CommitsUnder, IsInState, IsSuperseded, KnowsKey, WritesUnder, op_of_object, outcome_under, reply_text, reply_word, spaced_word, with_key};
 
+use crate::denial::Denial;
 use crate::durable::Durable;
+use crate::held_list::at_place;
 use attempts::{Attempt, AttemptCall, Ending};
 use journal::{JournalError, KeyedOutcome, Outcome, ReplyText};
 use objects::Object;
@@ -27,18 +30,22 @@ pub enum Keyed<T: Drop> {
     /// The key says what became of its transaction, and nothing was done; a transaction that asked for the commit of work that
     /// was done before was aborted.
     Known(Outcome),
-    /// What is kept at the place of the key is another one's, and nothing was done.
+    /// A transaction is prepared under the key, and nothing was done.
+    Prepared,
+    /// The place of the key is another key's, and nothing was done.
     Taken,
 }
 
 /// What is known of a key.
 #[derive(Drop)]
 pub enum KeyState {
-    /// Nothing is kept at its place.
+    /// Nothing is kept at its place, and nobody is prepared under a key of that place.
     Free,
     /// This became of the transaction that has it.
     Known(Outcome),
-    /// What is kept at its place is another one's.
+    /// A transaction is prepared under it, and isn't decided.
+    Prepared,
+    /// Its place is another key's.
     Taken,
 }
 
@@ -66,6 +73,7 @@ impl<S: Alter> Durable<S> {
         ensures found { IfOk result (λ found. Clean S.Store self.new.journal → found ≡ outcome_under (written S.Store self.old.journal) key.now) }
         ensures sound { OnOk result (IsDurable S.Store self.new) }
         ensures store { self.new.store ≡ self.old.store }
+        ensures prepared { self.new.prepared ≡ self.old.prepared }
         ensures life { self.new.journal.header ≡ self.old.journal.header }
         ensures written { OnOk result (Clean S.Store self.new.journal → written S.Store self.new.journal ≡ written S.Store self.old.journal) }
         ensures settled { OnOk result (KeepsSettled S.Store self.old self.new) }
@@ -79,7 +87,7 @@ impl<S: Alter> Durable<S> {
     }
 
     /// Commits transaction t under a key, as `commit`, where the key is free. Where its transaction has committed, t, whose work
-    /// was so done before, is aborted if it is open. The client is answered after `settle` only, also where the key is known.
+    /// was so done before, is aborted if it is open and isn't prepared. The client is answered after `settle` only, also where the key is known.
     ///
     /// # Errors
     ///
@@ -89,10 +97,11 @@ impl<S: Alter> Durable<S> {
         alloc: Global,
         t: u32,
         key: TransactionKey,
-    ) -> Result<Keyed<Refusal>, JournalError>
+    ) -> Result<Keyed<Denial>, JournalError>
         requires { IsDurable S.Store self.old }
         ensures knows { IfOk result (λ came. Clean S.Store self.new.journal → KnowsKey (written S.Store self.old.journal) key came) }
-        ensures step { IfOk result (λ came. CommitsUnder self.old.store t came self.new.store) }
+        ensures step { IfOk result (λ came. CommitsUnder (is_prepared self.old t) self.old.store t came self.new.store) }
+        ensures prepared { OnOk result (self.new.prepared ≡ self.old.prepared) }
         ensures written { IfOk result (λ came. Clean S.Store self.new.journal → WritesUnder S.Store key came self.old self.new) }
         ensures sound { OnOk result (IsDurable S.Store self.new) }
         ensures life { self.new.journal.header ≡ self.old.journal.header }
@@ -106,10 +115,11 @@ impl<S: Alter> Durable<S> {
                 self.supersede(t, &outcome)?;
                 return Ok(Keyed::Known(outcome));
             }
+            KeyState::Prepared => return Ok(Keyed::Prepared),
             KeyState::Taken => return Ok(Keyed::Taken),
         }
-        if let Err(refusal) = self.commit(t)? {
-            return Ok(Keyed::Undone(refusal));
+        if let Err(denial) = self.commit(t)? {
+            return Ok(Keyed::Undone(denial));
         }
         let none = ReplyText::new(Vec::new(alloc));
         let outcome = self.keep(key, Outcome::Committed(none))?;
@@ -131,6 +141,7 @@ impl<S: Alter> Durable<S> {
         requires { IsDurable S.Store self.old }
         ensures knows { IfOk result (λ came. Clean S.Store self.new.journal → KnowsKey (written S.Store self.old.journal) key came) }
         ensures does { IfOk result (λ came. AttemptsUnder self.old.store (asked_calls calls.now) came self.new.store) }
+        ensures prepared { OnOk result (self.new.prepared ≡ self.old.prepared) }
         ensures written { IfOk result (λ came. Clean S.Store self.new.journal → WritesUnder S.Store key came self.old self.new) }
         ensures sound { OnOk result (IsDurable S.Store self.new) }
         ensures life { self.new.journal.header ≡ self.old.journal.header }
@@ -141,6 +152,7 @@ impl<S: Alter> Durable<S> {
         match self.state_of(alloc, &key)? {
             KeyState::Free => {}
             KeyState::Known(outcome) => return Ok(Keyed::Known(outcome)),
+            KeyState::Prepared => return Ok(Keyed::Prepared),
             KeyState::Taken => return Ok(Keyed::Taken),
         }
         match self.attempt(alloc, calls)? {
@@ -168,12 +180,19 @@ impl<S: Alter> Durable<S> {
         ensures knows { IfOk result (λ state. Clean S.Store self.new.journal → IsInState (written S.Store self.old.journal) key.now state) }
         ensures sound { OnOk result (IsDurable S.Store self.new) }
         ensures store { self.new.store ≡ self.old.store }
+        ensures prepared { self.new.prepared ≡ self.old.prepared }
         ensures life { self.new.journal.header ≡ self.old.journal.header }
         ensures written { OnOk result (Clean S.Store self.new.journal → written S.Store self.new.journal ≡ written S.Store self.old.journal) }
         ensures settled { OnOk result (KeepsSettled S.Store self.old self.new) }
         ensures clean { Clean S.Store self.new.journal → Clean S.Store self.old.journal }
         ensures crash { OutcomesStay S.Store self.old self.new }
     {
+        if let Some(other) = at_place(&self.prepared, key) {
+            if other.key == *key {
+                return Ok(KeyState::Prepared);
+            }
+            return Ok(KeyState::Taken);
+        }
         let Some(kept) = self.journal.outcome(alloc, key)? else {
             return Ok(KeyState::Free);
         };
@@ -183,14 +202,15 @@ impl<S: Alter> Durable<S> {
         Ok(KeyState::Taken)
     }
 
-    /// Aborts transaction t, where it is open and its work was done before.
+    /// Aborts transaction t, where it is open, isn't prepared, and its work was done before.
     ///
     /// # Errors
     ///
     /// As `begin`.
     fn supersede(&mut self, t: u32, before: &Outcome) -> Result<(), JournalError>
         requires { IsDurable S.Store self.old }
-        ensures step { OnOk result (IsSuperseded self.old.store t before.now self.new.store) }
+        ensures step { OnOk result (IsSuperseded (is_prepared self.old t) self.old.store t before.now self.new.store) }
+        ensures prepared { OnOk result (self.new.prepared ≡ self.old.prepared) }
         ensures sound { OnOk result (IsDurable S.Store self.new) }
         ensures life { self.new.journal.header ≡ self.old.journal.header }
         ensures written { OnOk result (WritesSince S.Store self.old self.new) }
@@ -204,16 +224,23 @@ impl<S: Alter> Durable<S> {
         Ok(())
     }
 
-    /// Keeps what became of the transaction that has this key, and gives it back.
+    /// Keeps what became of the transaction that has this key, and gives it back: nothing else is kept at the key's place. A
+    /// crash may still take it away.
     ///
     /// # Errors
     ///
     /// The file failed, or memory was refused for it.
-    fn keep(&mut self, key: TransactionKey, outcome: Outcome) -> Result<Outcome, JournalError>
-        requires { IsDurable S.Store self.old }
+    pub(crate) fn keep(
+        &mut self,
+        key: TransactionKey,
+        outcome: Outcome,
+    ) -> Result<Outcome, JournalError>
+        requires sound { IsDurable S.Store self.old }
+        requires unprepared { Clean S.Store self.old.journal → first_passing (has_place key) self.old.prepared.items ≡ None }
         ensures same { IfOk result (λ kept. kept ≡ outcome) }
         ensures sound { OnOk result (IsDurable S.Store self.new) }
         ensures store { self.new.store ≡ self.old.store }
+        ensures prepared { self.new.prepared ≡ self.old.prepared }
         ensures life { self.new.journal.header ≡ self.old.journal.header }
         ensures written { OnOk result (Clean S.Store self.new.journal → written S.Store self.new.journal ≡ with_key key (Some outcome) (written S.Store self.old.journal)) }
         ensures settled { OnOk result (KeepsSettled S.Store self.old self.new) }

@@ -2,20 +2,28 @@
 #![tactic(auto)]
 
 mod begun_types;
+mod calls;
+mod denial;
 mod durable;
+mod ends;
 mod extension;
 mod format;
 mod growth;
+mod held_list;
 mod keyed;
 mod limits;
 mod new_file;
 mod object_names;
 mod open_error;
 mod outage;
+mod prepared;
 mod recovered_store;
+mod rollbacks;
 mod taken_names;
+mod votes;
 
 pub use begun_types::file_types;
+pub use denial::Denial;
 pub use durable::Durable;
 pub use keyed::{KeyState, Keyed, Unfinished, op_at};
 pub use limits::file_limits;
@@ -24,3 +32,4 @@ pub use object_names::ObjectNames;
 pub use open_error::OpenError;
 pub use outage::{restart, settle_and_restart};
 pub use recovered_store::{open, open_counted, resume};
+pub use votes::{Decision, Verdict, Vote};

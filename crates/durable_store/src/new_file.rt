@@ -74,6 +74,7 @@ fn new_contents(
         objects: lines,
         states,
         events: Vec::new(alloc),
+        prepared: Vec::new(alloc),
     })
 }
 

@@ -4,7 +4,7 @@ use journal::JournalError;
 use line_text::{FaultKind, TextFault};
 use object_types::ObjectFault;
 use std::alloc::{AllocError, AllocFailed};
-use store::{ExtendRefusal, NewRefusal};
+use store::{CarryRefusal, NewRefusal};
 use thiserror::Error;
 
 /// Why a file isn't opened as that of a store.
@@ -28,10 +28,13 @@ pub enum OpenError {
     NoStore(NewRefusal),
     /// The store doesn't begin anew with more objects.
     #[error("{0}")]
-    NotExtended(ExtendRefusal),
+    NotExtended(CarryRefusal),
     /// No command makes an event of the file after those before it.
     #[error("no command makes event {0}")]
     NotMade(usize),
+    /// No transaction is prepared as this row of the file says.
+    #[error("no transaction is prepared as row {0} says")]
+    NotPrepared(usize),
     /// Memory was refused.
     #[error("memory was refused")]
     NoMemory,

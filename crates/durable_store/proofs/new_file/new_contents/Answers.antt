@@ -23,12 +23,13 @@ returns c =
     let are : states ≡ firsts types = c.in_ok-states.ensures ∙ ap (λ ts. firsts (map value_of ts)) c.deref-4.ensures.value in
     let at : BeginAt types states types = subst (λ ss. BeginAt types ss types) (sym are) (at-own types (types_checked declared lines types of)) in
     let as-many : length states ≡ length lines = ap length are ∙ length-map types first-of ∙ of.as_many in
-    let said : Contents = record { events = c.new.result.items; headers = first_header c.args.id ∷ []; types = texts; objects = lines; states = states; outcomes = λ n. None } in
+    let said : Contents = record { events = c.new.result.items; headers = first_header c.args.id ∷ []; types = texts; objects = lines; states = states; prepared = c.new-2.result.items; outcomes = λ n. None } in
     record {
       headers = refl;
       texts = refl;
       objects = refl;
       none = c.new.ensures.items;
+      unprepared = c.new-2.ensures.items;
       keyless = λ n. refl;
       types = types;
       are = are-types said declared types types read of as-many of.as_many at;

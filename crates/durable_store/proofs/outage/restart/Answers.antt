@@ -1,4 +1,4 @@
-use Rattle.std.proofs.Common.{◌≡◌, subst}
+use Rattle.std.proofs.Common.{subst}
 use Rattle.journal.specs.Contents.{Contents}
 use Rattle.durable_store.specs.Recovered.{IsRecovered}
 use Rattle.durable_store.proofs.outage.restart.Goals as goal

@@ -1,6 +1,6 @@
 -- The events so far are made again.
 use Rattle.std.proofs.Common.{◌≡◌, ◌++◌, take}
-use Rattle.store.specs.Replays.{AreMade}
+use Rattle.store.specs.Retraces.{AreRetraced}
 use Rattle.durable_store.specs.Durable.{events_of_kinds}
 use Rattle.durable_store.proofs.recovered_store.follow_all.Given as goal
 
@@ -9,5 +9,5 @@ invariant-loop-place l = record {
   types : l.store.types ≡ l.fn.store.types;
   history : l.store.history ≡ l.fn.store.history ++ events_of_kinds (take l.place l.happened);
   limit : l.store.limits ≡ l.fn.store.limits;
-  made : AreMade l.fn.store (events_of_kinds (take l.place l.happened));
+  made : AreRetraced l.fn.store (events_of_kinds (take l.place l.happened));
 }

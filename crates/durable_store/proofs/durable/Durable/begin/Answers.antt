@@ -1,8 +1,14 @@
 use Rattle.serial_order.specs.declared.command.Command.TheVariants as command
+use Rattle.journal.specs.Journal.{written}
+use Rattle.durable_store.proofs.Spared.{step-prepared}
 use Rattle.durable_store.proofs.Stepped.{step-behind}
 use Rattle.durable_store.proofs.durable.Durable.begin.Goals as goal
 
-pub write_since-requires : goal.write_since-requires
-write_since-requires g c =
-    step-behind g.S.Store c.args.self.now command.Begin c.begin-begun.result c.begin-begun.new.self c.event_count-count.result c.steps_are_followed.ensures.steps c.requires c.event_count-count.ensures.exact
+pub write_since-requires-clause-behind : goal.write_since-requires-clause-behind
+write_since-requires-clause-behind g c =
+    step-behind g.S.Store c.args.self.now command.Begin c.begin-begun.result c.begin-begun.new.self c.event_count-count.result c.steps_are_retraced.ensures.steps c.requires c.event_count-count.ensures.exact
     c.event_count-count.ensures.within c.begin-begun.ensures.step
+
+pub write_since-requires-clause-prepared : goal.write_since-requires-clause-prepared
+write_since-requires-clause-prepared g c = λ clean.
+    step-prepared c.args.self.now.store command.Begin c.begin-begun.result c.begin-begun.new.self (written g.S.Store c.args.self.now.journal) c.args.self.now.prepared.items tt c.begin-begun.ensures.step (c.requires.prepared clean)

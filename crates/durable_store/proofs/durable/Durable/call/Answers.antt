@@ -1,8 +1,14 @@
-use Rattle.serial_order.specs.declared.command.Command.TheVariants as command
-use Rattle.durable_store.proofs.Stepped.{step-behind}
+use Rattle.std.proofs.Common.{◌∙◌, sym, subst}
+use Rattle.store.specs.Calls.{NotesAnswer}
+use Rattle.durable_store.specs.Durable.{is_prepared}
+use Rattle.durable_store.specs.Held.{Unless}
+use Rattle.durable_store.proofs.Gates.{unless-denied}
 use Rattle.durable_store.proofs.durable.Durable.call.Goals as goal
 
-pub write_since-requires : goal.write_since-requires
-write_since-requires g c =
-    step-behind g.S.Store c.args.self.now (command.Call c.args.t c.args.x c.args.name.now) c.call_bytes-answered.result c.call_bytes-answered.new.self c.event_count-count.result c.steps_are_followed.ensures.steps c.requires c.event_count-count.ensures.exact
-    c.event_count-count.ensures.within c.call_bytes-answered.ensures.step
+pub returns-clause-answer : goal.returns-clause-answer
+returns-clause-answer g c = λ k named.
+    let old = c.args.self.now in
+    let new = c.call_now.new.self.store in
+    subst (λ r. Unless (is_prepared old c.args.t) old.store (λ r. NotesAnswer old.store 0 c.args.t c.args.x k r new) r new) (sym c.unless_refused.ensures)
+    (unless-denied (is_prepared old c.args.t) old.store new (λ r. NotesAnswer old.store 0 c.args.t c.args.x k r new) c.in_ok-came.came (sym c.is_prepared.ensures ∙ c.if-is_prepared.false)
+    (c.in_ok-came.ensures.answer k named))

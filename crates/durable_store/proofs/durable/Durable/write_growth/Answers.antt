@@ -1,0 +1,37 @@
+use Rattle.std.proofs.Common.{◌≡◌, ◌∙◌, [], ap, inl, inr, refl}
+use Rattle.std.proofs.lemmas.Result.{on_ok_weaker}
+use Rattle.store_laws.specs.Stored.{Stored}
+use Rattle.journal.specs.Journal.{Clean, written}
+use Rattle.durable_store.specs.Durable.{kinds, with_all}
+use Rattle.durable_store.specs.Epochs.{with_all_prepared}
+use Rattle.durable_store.specs.Growth.{grown}
+use Rattle.durable_store.proofs.EpochWrites.{first-prepared, first-written}
+use Rattle.durable_store.proofs.durable.Durable.write_growth.Given.{Over}
+use Rattle.durable_store.proofs.durable.Durable.write_growth.Goals as goal
+
+pub write_first-requires-clause-prepared : goal.write_first-requires-clause-prepared
+write_first-requires-clause-prepared g c = λ clean.
+    let old = c.args.self.now in
+    let begun = c.begin_growth.new.self in
+    first-prepared old.store.history begun.store.history (written g.S.Store old.journal) (written g.S.Store begun.journal) (grown (written g.S.Store old.journal) c.args.texts.now c.args.lines.now old.store.types [] []) old.prepared.items begun.prepared.items
+    (ap (λ (s : Stored). s.history) c.in_ok-begin_growth.ensures.store) (ap (λ ps. ps.items) c.in_ok-begin_growth.ensures.prepared) (c.in_ok-begin_growth.ensures.written clean) refl refl
+    (c.requires.ahead.prepared (c.begin_growth.ensures.clean clean))
+
+-- all of it is written by the one commit
+all : (g : Over) (c : goal.After-write_first g) → Clean g.S.Store c.begin_growth.new.self.journal
+    → with_all (with_all_prepared (written g.S.Store c.begin_growth.new.self.journal) c.begin_growth.new.self.prepared.items) c.begin_growth.new.self.store.history
+    ≡ grown (written g.S.Store c.args.self.now.journal) c.args.texts.now c.args.lines.now c.args.self.now.store.types (kinds c.args.self.now.store.history) c.args.self.now.prepared.items
+all g c clean =
+    let old = c.args.self.now in
+    let begun = c.begin_growth.new.self in
+    first-written (written g.S.Store begun.journal) (grown (written g.S.Store old.journal) c.args.texts.now c.args.lines.now old.store.types [] []) old.store.history begun.store.history old.prepared.items begun.prepared.items
+    (c.in_ok-begin_growth.ensures.written clean) (ap (λ (s : Stored). s.history) c.in_ok-begin_growth.ensures.store) (ap (λ ps. ps.items) c.in_ok-begin_growth.ensures.prepared)
+
+pub returns-clause-durable : goal.returns-clause-durable
+returns-clause-durable g c = on_ok_weaker c.write_first.result (λ is clean. is clean ∙ all g c (c.write_first.ensures.clean clean)) c.write_first.ensures.durable
+
+pub returns-clause-crash : goal.returns-clause-crash
+returns-clause-crash g c = λ db left. elim (c.write_first.ensures.crash db left) [
+  | inl is ↦ inl (c.begin_growth.ensures.clean is.0, is.1, is.2 ∙ all g c is.0, c.in_ok-begin_growth.ensures.last is.0)
+  | inr before ↦ inr (c.begin_growth.ensures.crash db before)
+]
