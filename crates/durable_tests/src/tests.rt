@@ -6,3 +6,4 @@ mod serving_lines;
 mod stops;
 mod stops_found;
 mod trials;
+mod votes;

@@ -4,13 +4,14 @@ use Rattle.std.specs.List.{list_all, slice_split}
 use Rattle.type_table.specs.Name.{is_name}
 use Rattle.request_text.specs.Shapes.{◌>>=◌, has_words, has_words_from, request_name_at, number_at, object_at, asked_name_at, transaction_at, is_keyed, is_verb, key_at, key_in_front, word_at}
 use Rattle.request_text.specs.Calls.{calls_said, has_calls, has_objects, objects_said}
+use Rattle.request_text.specs.Preparing.{decide_request_of, prepare_request_of}
 use Rattle.request_text.specs.declared.fault.RequestFault.{RequestFault}
 use Rattle.request_text.specs.declared.fault.RequestFault.TheVariants.{TooLong, NotAscii, BadTag, UnknownVerb}
 use Rattle.request_text.specs.declared.request.Asked.{Asked}
 use Rattle.request_text.specs.declared.request.AskedCall.{AskedCall}
 use Rattle.request_text.specs.declared.request.ObjectWord.{ObjectWord}
 use Rattle.request_text.specs.declared.request.Request.{Request}
-use Rattle.request_text.specs.declared.request.Request.TheVariants.{Begin, Call, Would, Commit, CommitUnder, Abort, Rollback, Kept, Peek, Committed, Do, DoUnder, Outcome, Find, Objects, Types, Events, Stats, Extend, End}
+use Rattle.request_text.specs.declared.request.Request.TheVariants.{Begin, Call, Would, Commit, CommitUnder, Abort, Rollback, Kept, Peek, Committed, Do, DoUnder, Outcome, Prepared, Find, Objects, Types, Events, Stats, Extend, End}
 
 -- ---- a request
 
@@ -126,13 +127,14 @@ question_of words =
     else (if is_verb words (codes "peek") then calls_request_of words Peek
     else (if is_verb words (codes "committed") then objects_request_of words
     else (if is_verb words (codes "outcome") then outcome_request_of words
+    else (if is_verb words (codes "prepared") then alone words Prepared
     else (if is_verb words (codes "find") then find_of words
     else (if is_verb words (codes "objects") then alone words Objects
     else (if is_verb words (codes "types") then alone words Types
     else (if is_verb words (codes "events") then events_request_of words
     else (if is_verb words (codes "stats") then alone words Stats
     else (if is_verb words (codes "end") then alone words End
-    else Err UnknownVerb)))))))))
+    else Err UnknownVerb))))))))))
 
 -- by the verb
 unfoldable pub request_of : List (List ℕ) → Result Request RequestFault
@@ -145,7 +147,9 @@ request_of words =
     else (if is_verb words (codes "rollback") then rollback_request_of words
     else (if is_verb words (codes "extend") then extend_request_of words
     else (if is_verb words (codes "do") then do_request_of words
-    else question_of words)))))))
+    else (if is_verb words (codes "prepare") then prepare_request_of words
+    else (if is_verb words (codes "decide") then decide_request_of words
+    else question_of words)))))))))
 
 -- ---- a line
 

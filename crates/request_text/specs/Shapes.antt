@@ -1,5 +1,5 @@
 -- What the words of a request are to be.
-use Rattle.std.specs.Prelude.{ℕ, Bool, true, false, nat_le, List, [], length, ◌∷◌, ◌==◌, if◌then◌else◌, slice_index_or, Option, Some, None, Result, Ok, Err}
+use Rattle.std.specs.Prelude.{ℕ, Bool, false, nat_le, List, [], length, ◌∷◌, ◌==◌, if◌then◌else◌, slice_index_or, Option, Some, None, Result, Ok, Err}
 use Rattle.std.specs.Str.{bytes_eq}
 use Rattle.type_table.specs.Name.{is_name}
 use Rattle.object_name.specs.ObjectName.{is_object_name}

@@ -6,6 +6,7 @@ mod fault;
 mod line;
 mod number;
 mod one_call;
+mod preparing;
 mod reading;
 mod request;
 mod shapes;
@@ -13,7 +14,7 @@ mod shapes;
 pub use fault::RequestFault;
 pub use one_call::call_asked;
 pub use reading::{LONGEST_LINE, calls_asked, file_words, objects_asked, read_line};
-pub use request::{Asked, AskedCall, ObjectWord, Request, TransactionName};
+pub use request::{Asked, AskedCall, Decision, ObjectWord, Request, TransactionName};
 
 pub mod laws;
 pub mod worked;

@@ -5,6 +5,7 @@ ghost use Rattle.request_text.specs.Requests.{request_of, question_of, alone, ca
 
 use crate::calls::{behind_verb, has_calls, has_objects};
 use crate::fault::RequestFault;
+use crate::preparing::{decide_of, prepare_of};
 use crate::request::Request;
 use crate::shapes::{
     asked_name_at, at_least, exactly, is_keyed, is_verb, key_at, key_in_front, name_at, number_at,
@@ -40,6 +41,12 @@ pub fn request_of(words: &[&[u8]]) -> Result<Request, RequestFault>
     if is_verb(words, "do") {
         return do_of(words);
     }
+    if is_verb(words, "prepare") {
+        return prepare_of(words);
+    }
+    if is_verb(words, "decide") {
+        return decide_of(words);
+    }
     question_of(words)
 }
 
@@ -56,6 +63,8 @@ fn question_of(words: &[&[u8]]) -> Result<Request, RequestFault>
         objects_of(words)
     } else if is_verb(words, "outcome") {
         outcome_of(words)
+    } else if is_verb(words, "prepared") {
+        alone(words, Request::Prepared)
     } else if is_verb(words, "find") {
         find_of(words)
     } else if is_verb(words, "objects") {

@@ -25,6 +25,13 @@ pub struct AskedCall {
     pub call: Name,
 }
 
+/// How a prepared transaction is to end.
+#[derive(Clone, Copy)]
+pub enum Decision {
+    Commit,
+    Abort,
+}
+
 /// What a client asks of a store.
 #[derive(Clone, Copy)]
 pub enum Request {
@@ -71,6 +78,19 @@ pub enum Request {
     Outcome {
         key: TransactionKey,
     },
+    /// A transaction is to be prepared under a key. The store keeps `until` and doesn't look at it.
+    Prepare {
+        t: TransactionName,
+        key: TransactionKey,
+        until: u32,
+    },
+    /// The transaction that is prepared under this key is to end.
+    Decide {
+        key: TransactionKey,
+        decision: Decision,
+    },
+    /// The transactions are asked for that are prepared and not decided.
+    Prepared,
     /// The number is asked of the object that has this name.
     Find {
         name: ObjectName,

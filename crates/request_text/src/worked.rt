@@ -4,7 +4,8 @@ ghost use Rattle.std.specs.Prelude.{◌≡◌, ◌∷◌, [], codes, Some, None,
 ghost use Rattle.request_text.specs.Numbers.{request_number, transaction_of};
 ghost use Rattle.request_text.specs.Requests.{asked_by, calls_asked, objects_asked, file_words, untagged, words_between};
 ghost use Rattle.request_text.specs.declared.fault.RequestFault.TheVariants.{NotAscii, BadTag, UnknownVerb, BadWords, BadNumber};
-ghost use Rattle.request_text.specs.declared.request.Request.TheVariants.{Begin, Call, Commit, CommitUnder, Kept, Peek, Committed, Do, DoUnder, Outcome, Find, Extend};
+ghost use Rattle.request_text.specs.declared.request.Decision.TheVariants as decision;
+ghost use Rattle.request_text.specs.declared.request.Request.TheVariants.{Begin, Call, Commit, CommitUnder, Kept, Peek, Committed, Do, DoUnder, Outcome, Prepare, Decide, Prepared, Find, Extend};
 ghost use Rattle.request_text.specs.declared.request.ObjectWord.TheVariants.{Number, Name};
 
 pub fn numbers_are_read()
@@ -69,6 +70,27 @@ pub fn lines_that_have_keys()
     ensures empty_key { asked_by (codes "7 do = 0 inc:1") ≡ record { tag = Some (codes "7"); request = Err BadWords } }
     ensures outcome { asked_by (codes "7 outcome order:4711") ≡ record { tag = Some (codes "7"); request = Ok (Outcome (codes "order:4711")) } }
     ensures calls { calls_asked (codes "7 do =order:4711 0 inc:1") ≡ record { x = Number 0; call = codes "inc:1" } ∷ [] }
+{}
+
+/// A transaction is prepared under a key.
+pub fn lines_that_prepare()
+    ensures prepare { asked_by (codes "7 prepare 3.17 order:4711 1796000000") ≡ record { tag = Some (codes "7"); request = Ok (Prepare (record { life = 3; number = 17 }) (codes "order:4711") 1796000000) } }
+    ensures latest { asked_by (codes "7 prepare 3.17 order:4711 4294967295") ≡ record { tag = Some (codes "7"); request = Ok (Prepare (record { life = 3; number = 17 }) (codes "order:4711") 4294967295) } }
+    ensures too_late { asked_by (codes "7 prepare 3.17 order:4711 4294967296") ≡ record { tag = Some (codes "7"); request = Err BadNumber } }
+    ensures no_end { asked_by (codes "7 prepare 3.17 order:4711") ≡ record { tag = Some (codes "7"); request = Err BadWords } }
+    ensures key_before_numbers { asked_by (codes "7 prepare 317 a/b soon") ≡ record { tag = Some (codes "7"); request = Err BadWords } }
+    ensures bad_number { asked_by (codes "7 prepare 317 order:4711 0") ≡ record { tag = Some (codes "7"); request = Err BadNumber } }
+{}
+
+/// It is decided by its key.
+pub fn lines_that_decide()
+    ensures commit { asked_by (codes "7 decide order:4711 commit") ≡ record { tag = Some (codes "7"); request = Ok (Decide (codes "order:4711") decision.Commit) } }
+    ensures abort { asked_by (codes "7 decide order:4711 abort") ≡ record { tag = Some (codes "7"); request = Ok (Decide (codes "order:4711") decision.Abort) } }
+    ensures neither { asked_by (codes "7 decide order:4711 committed") ≡ record { tag = Some (codes "7"); request = Err BadWords } }
+    ensures nothing { asked_by (codes "7 decide order:4711") ≡ record { tag = Some (codes "7"); request = Err BadWords } }
+    ensures no_key { asked_by (codes "7 decide a/b abort") ≡ record { tag = Some (codes "7"); request = Err BadWords } }
+    ensures prepared { asked_by (codes "7 prepared") ≡ record { tag = Some (codes "7"); request = Ok Prepared } }
+    ensures under_a_key { asked_by (codes "7 prepared order:4711") ≡ record { tag = Some (codes "7"); request = Err BadWords } }
 {}
 
 /// An object is said by its number, or by `@` and its name.

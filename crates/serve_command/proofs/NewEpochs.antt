@@ -2,13 +2,15 @@
 use Rattle.std.proofs.Common.{◌≡◌, ◌∙◌, ℕ, suc, Option, None, Some, List, [], ◌∷◌, ◌++◌, map, refl, sym, ap, subst}
 use Rattle.sqlite_trees.specs.declared.store.Store.{Ghosts}
 use Rattle.sqlite_trees.specs.Tree.{Trees}
-use Rattle.store.specs.Ends.{closing}
+use Rattle.store.specs.Ends.{closing_but}
+use Rattle.journal.specs.declared.prepared_row.Prepared.{Prepared}
+use Rattle.durable_store.specs.Held.{prepared_numbers}
 use Rattle.store_laws.specs.Stored.{Stored}
 use Rattle.journal.specs.declared.header.Header.{Header}
 use Rattle.journal.specs.Contents.{Contents, contents_of, newest_format}
 use Rattle.journal.specs.Journal.{Clean, ShowsCommit, written, durable}
 use Rattle.durable_store.specs.declared.durable.Durable.{Durable}
-use Rattle.durable_store.specs.Durable.{IsDurable, with_all}
+use Rattle.durable_store.specs.Durable.{IsDurable, kinds, prepared_in, with_all}
 use Rattle.durable_store.specs.Epochs.{firsts}
 use Rattle.durable_store.specs.Recovered.{next_life}
 use Rattle.serving.specs.declared.extension.Extension.{Extension}
@@ -25,40 +27,44 @@ raised-ids : (life : ℕ) (hs : List Header) → map (λ (h : Header). h.id) (ma
 raised-ids life [] = refl
 raised-ids life (h ∷ hs) = ap (λ ids. h.id ∷ ids) (raised-ids life hs)
 
-next-ids : (waits : Option Extension) (old new : Stored) (c now : Contents) → IsNextFile waits old new c now → ids_in now ≡ ids_in c
-next-ids waits old new c now next = ap (λ hs. map (λ (h : Header). h.id) hs) (next-headers waits old new c now next) ∙ raised-ids (next_life c.headers) c.headers
+next-ids : (waits : Option Extension) (ps : List Prepared) (old new : Stored) (qs : List Prepared) (c now : Contents) → IsNextFile waits ps old new qs c now → ids_in now ≡ ids_in c
+next-ids waits ps old new qs c now next = ap (λ hs. map (λ (h : Header). h.id) hs) (next-headers waits ps old new qs c now next) ∙ raised-ids (next_life c.headers) c.headers
 
 -- whatever it comes to
 reached-ids : {c : Contents} {ended : List Contents} {d : Contents} → Reaches c ended d → ids_in d ≡ ids_in c
 reached-ids Reaches.none = refl
 reached-ids (Reaches.events ended mid new before more) = ap ids_in more.others ∙ reached-ids before
-reached-ids (Reaches.epoch ended mid now waits old new before is next) = next-ids waits old new mid now next ∙ reached-ids before
+reached-ids (Reaches.epoch ended mid now waits old new qs before is next) = next-ids waits (prepared_in mid) old new qs mid now next ∙ reached-ids before
 
--- it has no event
-next-events : (waits : Option Extension) (old new : Stored) (c now : Contents) → IsNextFile waits old new c now → now.events ≡ []
-next-events None old new c now next = ap (λ (x : Contents). x.events) next.1
-next-events (Some e) old new c now next = ap (λ (x : Contents). x.events) next.is
+-- it has the events of its store
+next-events : (waits : Option Extension) (ps : List Prepared) (old new : Stored) (qs : List Prepared) (c now : Contents) → IsNextFile waits ps old new qs c now → now.events ≡ kinds new.history
+next-events None ps old new qs c now next = ap (λ (x : Contents). x.events) next.1
+next-events (Some e) ps old new qs c now next = ap (λ (x : Contents). x.events) next.is
 
 -- and begins at the states of its store
-next-states : (waits : Option Extension) (old new : Stored) (c now : Contents) → IsNextFile waits old new c now → now.states ≡ firsts new.types
-next-states None old new c now next = ap (λ (x : Contents). x.states) next.1
-next-states (Some e) old new c now next = ap (λ (x : Contents). x.states) next.is
+next-states : (waits : Option Extension) (ps : List Prepared) (old new : Stored) (qs : List Prepared) (c now : Contents) → IsNextFile waits ps old new qs c now → now.states ≡ firsts new.types
+next-states None ps old new qs c now next = ap (λ (x : Contents). x.states) next.1
+next-states (Some e) ps old new qs c now next = ap (λ (x : Contents). x.states) next.is
 
 -- ---- the new epoch
 
 pub begins-epoch : {S : Type 0} (g : Ghosts S) (file said : Contents) (waits : Option Extension) (ended : List Contents) (last now : Durable S) (life : ℕ) → Reaches file ended (written g last.journal) → SaysSame said (written g last.journal)
     → IsDurable g now → ShowsCommit g now.journal → Clean g now.journal
-    → IsNextFile waits (aborted last.store) now.store (with_all (written g last.journal) (closing last.store.history)) (durable g now.journal) → life_of now ≡ suc life
-    → BeginsEpoch file said waits life (g.view now.journal.store).committed now.store
+    → IsNextFile waits last.prepared.items (aborted last.prepared.items last.store) now.store now.prepared.items
+    (with_all (written g last.journal) (closing_but (prepared_numbers last.prepared.items) last.store.history)) (durable g now.journal) → life_of now ≡ suc life
+    → BeginsEpoch file said waits life (g.view now.journal.store).committed now.store now.prepared.items
 begins-epoch g file said waits ended last now life reached says sound shows clean is lives =
-    let c = with_all (written g last.journal) (closing last.store.history) in
+    let c = with_all (written g last.journal) (closing_but (prepared_numbers last.prepared.items) last.store.history) in
+    let old = aborted last.prepared.items last.store in
+    let ps = last.prepared.items in
+    let qs = now.prepared.items in
     let d = durable g now.journal in
     let headers : d.headers ≡ now.journal.header ∷ [] =
     sym (ap (λ (x : Contents). x.headers) (ap contents_of (shows clean).0.clean)) ∙ (sound.journal clean).0.header_is (shows clean).0.sound in
     record {
-      events = next-events waits (aborted last.store) now.store c d is;
-      states = next-states waits (aborted last.store) now.store c d is;
-      says = says-next-then waits said c d (says.0, says.1, says.2) (next-says waits (aborted last.store) now.store c d is);
-      id = next-ids waits (aborted last.store) now.store c d is ∙ reached-ids reached;
+      events = next-events waits ps old now.store qs c d is;
+      states = next-states waits ps old now.store qs c d is;
+      says = says-next-then waits qs said c d says (next-says waits ps old now.store qs c d is);
+      id = next-ids waits ps old now.store qs c d is ∙ reached-ids reached;
       life = (now.journal.header, headers, lives);
     }

@@ -12,9 +12,11 @@ use Rattle.store_laws.specs.Stored.{Stored}
 use Rattle.journal.specs.Contents.{Contents, contents_of}
 use Rattle.journal.specs.Journal.{Clean, ShowsCommit, written}
 use Rattle.durable_store.specs.declared.durable.Durable.{Durable}
-use Rattle.store.specs.Ends.{closing}
+use Rattle.store.specs.Ends.{closing_but}
+use Rattle.durable_store.specs.Held.{prepared_numbers}
+use Rattle.durable_store.specs.Durable as durable
 use Rattle.durable_store.specs.Durable.{IsDurable, events_of_kinds, with_all}
-use Rattle.durable_store.specs.Epochs.{firsts, renewed}
+use Rattle.durable_store.specs.Epochs.{firsts}
 use Rattle.durable_store.specs.Recovered.{IsRecovered}
 use Rattle.request_text.specs.declared.request.Asked.{Asked}
 use Rattle.table_checker.specs.Checked.{Checked}
@@ -26,6 +28,7 @@ use Rattle.serving.specs.Served.{Serves}
 use Rattle.serving.specs.Told.{AppendsPart, answers_text, greeting}
 use Rattle.serving.specs.Server.{life_of}
 use Rattle.serving.proofs.Premises.{serves-weaker}
+use Rattle.serving.proofs.HeldSaid.{held-said}
 use Rattle.command_files.specs.Answers.{IsEarlyFault}
 use Rattle.command_files.specs.Status.{is_input}
 use Rattle.command_files.specs.declared.fault.Fault.{Fault}
@@ -71,9 +74,12 @@ served-under {clean} {clean'} {held} {db} {given} {given_now} {text} left sure s
   asked = s.asked;
   all = s.all;
   told = s.told;
+  prepared = s.prepared;
+  are = λ c. s.are (sure c);
   now = s.now;
+  goes_on = s.goes_on;
   renews = s.renews;
-  left_is = λ c. at-path db (λ x. BeginsEpoch s.work.file s.work.said s.work.waits s.work.last x s.now) left (same c) (s.left_is (sure c));
+  left_is = λ c. at-path db (λ x. BeginsEpoch s.work.file s.work.said s.work.waits s.work.last x s.now s.goes_on) left (same c) (s.left_is (sure c));
 }
 
 -- where what is held at a path may be left, and is this
@@ -170,7 +176,10 @@ served-at {S} {g} {given} {taken} {given_now} {taken_now} {trees} db began held 
         asked = has.served.asked;
         all = λ none. (has.all none, sc.asked none);
         told = refl;
+        prepared = sc.served.session.store.prepared.items;
+        are = λ c. held-said g has.served.said sc.served.session.store has.served.lasts.sound (sc.clean c) (has.served.says (sc.clean c));
         now = s.now.store;
+        goes_on = s.now.prepared.items;
         renews = sc.renews.store;
         left_is = λ c.
             let (ended, reached, _) = has.served.lasts.reaches (sc.clean c) in
@@ -196,7 +205,7 @@ cut-at {S} {g} {given} {taken} {given_now} {taken_now} {trees} db began held sou
       record { work = work; told = refl; read = stops.read; leaves = λ clean. record { left = s.left clean; found = s.found clean } },
       elim stops.told [
         | inl part ↦ part-more taken taken_now (greeting (life_of began) ++ answers_text stops.answers) (answers_text (last_answers (late_answer stops.waits stops.reached) stops.ended)) part
-        | inr part ↦ part.1
+        | inr part ↦ part.3
       ],
     ))
 
@@ -241,7 +250,7 @@ found-at g db began held clean count aborted time path err err_now sure same fou
   finds = λ c.
       let begins : Clean g began.journal = sure c in
       let file = (contents_of db).events in
-      let all = ap length (found begins).history ∙ length-append (events_of_kinds file) (closing (events_of_kinds file)) in
+      let all = ap length (found begins).history ∙ length-append (events_of_kinds file) (closing_but (prepared_numbers (durable.prepared_in (contents_of db))) (events_of_kinds file)) in
       let many : length (events_of_kinds file) ≡ length file = length-map file _ in
       at-path db (λ x. Finds (contents_of x) count aborted) held (same begins)
       (record { happened = counted begins; were_open = omega (arith, rest, all, many, counted begins) });

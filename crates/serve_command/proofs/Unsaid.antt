@@ -3,14 +3,16 @@ use Rattle.std.proofs.Common.{zero, ℕ, List, [], length, Option, Some, None, a
 use Rattle.std.specs.Prelude.{IfSome}
 use Rattle.std.specs.Io.KnownBytes.{Appends}
 use Rattle.sqlite_trees.specs.Tree.{Trees}
-use Rattle.store.specs.Ends.{closing}
+use Rattle.store.specs.Ends.{closing_but}
+use Rattle.durable_store.specs.Held.{prepared_numbers}
+use Rattle.durable_store.specs.Durable as durable
 use Rattle.journal.specs.Contents.{contents_of}
 use Rattle.durable_store.specs.Durable.{events_of_kinds}
 use Rattle.serve_command.specs.Found.{Finds, SaysFound}
 
 -- what is held has some number of events and of open transactions
 found : (held : Option Trees) → (count : ℕ) × (aborted : ℕ) × IfSome held (λ db. Finds (contents_of db) count aborted)
-found (Some db) = (length (contents_of db).events, length (closing (events_of_kinds (contents_of db).events)), record { happened = refl; were_open = refl })
+found (Some db) = (length (contents_of db).events, length (closing_but (prepared_numbers (durable.prepared_in (contents_of db))) (events_of_kinds (contents_of db).events)), record { happened = refl; were_open = refl })
 found None = (zero, zero, tt)
 
 -- known bytes grow by nothing

@@ -10,12 +10,15 @@ use Rattle.sqlite_trees.specs.declared.store.Store.{Ghosts}
 use Rattle.sqlite_trees.specs.Tree.{Trees}
 use Rattle.sqlite_trees.specs.View.{IsClean, View}
 use Rattle.store_laws.specs.Stored.{Stored}
-use Rattle.store.specs.Ends.{closing}
+use Rattle.store.specs.Ends.{closing_but}
+use Rattle.journal.specs.declared.prepared_row.Prepared.{Prepared}
 use Rattle.journal.specs.Contents.{Contents, IsFile, contents_of}
 use Rattle.journal.specs.Journal.{Clean, ShowsCommit}
 use Rattle.journal.specs.declared.header.Header.{Header}
 use Rattle.durable_store.specs.declared.durable.Durable.{Durable}
-use Rattle.durable_store.specs.Durable.{IsDurable, events_of_kinds}
+use Rattle.durable_store.specs.Durable.{IsDurable, events_of_kinds, kinds}
+use Rattle.durable_store.specs.Durable as durable
+use Rattle.durable_store.specs.Held.{prepared_numbers}
 use Rattle.durable_store.specs.Epochs.{firsts}
 use Rattle.durable_store.specs.Recovered.{recovered}
 use Rattle.durable_store.specs.Types.{HasTypes}
@@ -31,6 +34,7 @@ use Rattle.serving.specs.Group.{AreFirstLines}
 use Rattle.serving.specs.Left.{Began, IsInLife, IsLeftAfter, Survives, began_at}
 use Rattle.serving.specs.Lines.{AreLines}
 use Rattle.serving.specs.NextEpoch.{IsNextStore, SaysNext, late_answer}
+use Rattle.serving.specs.Prepared.{now_says}
 use Rattle.serving.specs.Served.{Serves}
 use Rattle.serving.specs.Told.{AppendsPart, answers_text, greeting}
 use Rattle.serving.specs.Whole.{ServesClient, StopsServing, session_of}
@@ -42,7 +46,7 @@ epoch_events = 980000
 -- the store that was opened of what a file said, and the file as it was left then
 pub record IsOpened (said file : Contents) (began : Stored) : Type 0 where
   pub types : HasTypes said began.types
-  pub history : began.history ≡ events_of_kinds said.events ++ closing (events_of_kinds said.events)
+  pub history : began.history ≡ events_of_kinds said.events ++ closing_but (prepared_numbers (durable.prepared_in said)) (events_of_kinds said.events)
   pub left : file ≡ recovered said
 
 -- lines of a client that were done, in their order, by a store, and so they were answered, epoch after epoch; if no wrong answer of a disk was
@@ -70,17 +74,18 @@ told_text w = (greeting w.life ++ answers_text w.told) ++ answers_text (last_ans
 abbrev pub ids_in : Contents → List (List ℕ)
 ids_in c = map (λ (h : Header). h.id) c.headers
 
--- a file that came from this one begins a new epoch at the states of this store, after this life: with the texts and objects that it said last, and
--- those of an extension that waited, of the store with the same id, in the next life
-pub record BeginsEpoch (file said : Contents) (waits : Option Extension) (last : ℕ) (db : Trees) (s : Stored) : Type 0 where
-  pub events : (contents_of db).events ≡ []
+-- a file that came from this one begins a new epoch at the states of this store, after this life, with its events and with these transactions prepared: with the
+-- texts and objects that it said last, and those of an extension that waited, of the store with the same id, in the next life
+pub record BeginsEpoch (file said : Contents) (waits : Option Extension) (last : ℕ) (db : Trees) (s : Stored) (ps : List Prepared) : Type 0 where
+  pub events : (contents_of db).events ≡ kinds s.history
   pub states : (contents_of db).states ≡ firsts s.types
-  pub says : SaysNext waits said (contents_of db)
+  pub says : SaysNext waits ps said (contents_of db)
   pub id : ids_in (contents_of db) ≡ ids_in file
   pub life : IsInLife (contents_of db) (suc last)
 
 -- a text that a client gets: the greeting, the answers and that of the end; of the input these bytes were taken, which are those lines and
--- after them a half one, or what comes after the end; what was open is aborted, and the file begins a new epoch
+-- after them a half one, or what comes after the end; what was open and wasn't prepared is aborted, and the file begins a new epoch, in which what was
+-- prepared goes on
 pub record IsServed (clean : Type 0) (held left : Option Trees) (given given_now : Option (List ℕ)) (text : List ℕ) : Type 0 where
   pub work : ClientWork clean held
   pub seen : List ℕ
@@ -90,9 +95,12 @@ pub record IsServed (clean : Type 0) (held left : Option Trees) (given given_now
   pub asked : AreLines seen work.lines half
   pub all : work.ended ≡ None → (rest ≡ []) × IsAtEnd given_now
   pub told : text ≡ told_text work
+  pub prepared : List Prepared
+  pub are : clean → prepared ≡ durable.prepared_in (now_says work.said work.reached)
   pub now : Stored
-  pub renews : IsNextStore work.waits (aborted work.reached) now
-  pub left_is : clean → IfSome left (λ db. BeginsEpoch work.file work.said work.waits work.last db now)
+  pub goes_on : List Prepared
+  pub renews : IsNextStore work.waits prepared (aborted prepared work.reached) now goes_on
+  pub left_is : clean → IfSome left (λ db. BeginsEpoch work.file work.said work.waits work.last db now goes_on)
 
 -- what serving answers: never no
 abbrev pub ServesDatabase : Type 0 → Option Trees → Option Trees → Option (List ℕ) → Option (List ℕ) → Answers

@@ -149,7 +149,7 @@ fn serve_in<'a, C: Clock, S: Alter, N: Additions, A: Archive, I: Read, W: Out, E
         → OnOk result.0 (ArchivesEpochs (IsClean (S.Store.view result.1)) held (Some (S.Store.view result.1).committed) (A.kept archive.old) (A.kept archive.new)) }
 {
     let began = Instant::now(clock).ok();
-    match open_counted(alloc, trees, &[]) {
+    match open_counted(alloc, trees) {
         Ok((store, events)) => {
             let found = Found {
                 events,

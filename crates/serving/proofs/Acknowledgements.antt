@@ -97,7 +97,7 @@ pub tells-group : {S : Type 0} {g : Ghosts S} {began : Session S} {given taken g
     → (Clean g new.session.store.journal → written g new.session.store.journal ≡ written g mid.session.store.journal) → LeavesWritten g mid.session.store new.session.store
     → new.line ≡ mid.line → new.end ≡ mid.end → new.answers.items ≡ [] → TellsSafely g began given taken new given_new taken_new
 tells-group mid new given_new taken_new bytes none so_far serves left consumed appended first second waits lets settled same crash line ended clear = record {
-  tells = group-told mid new given_new taken_new bytes none so_far.tells serves consumed appended second waits lets line ended clear (λ now. ap (λ (x : Contents). x.outcomes) (same now));
+  tells = group-told mid new given_new taken_new bytes none so_far.tells serves consumed appended second waits lets line ended clear (λ now. (ap (λ (x : Contents). x.outcomes) (same now), ap (λ (x : Contents). x.prepared) (same now)));
   safe = λ shows clean. group-lines mid new.session bytes none so_far serves left first second settled same crash shows clean;
 }
 

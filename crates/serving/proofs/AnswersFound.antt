@@ -13,6 +13,7 @@ use Rattle.attempts.specs.declared.outcome.Ending.{Ending}
 use Rattle.attempts.specs.declared.outcome.Ending.TheVariants as ending
 use Rattle.attempts.specs.Commands.{CallAt}
 use Rattle.attempts.specs.Answers.{AttemptAnswers, operation_events}
+use Rattle.journal.specs.declared.prepared_row.Prepared.{Prepared}
 use Rattle.journal.specs.Contents.{Contents}
 use Rattle.durable_store.specs.declared.durable.Durable.{Durable}
 use Rattle.durable_store.specs.Durable.{events_of_kinds, kinds}
@@ -70,28 +71,28 @@ completed-lasts (Completed replies) it = refl
 completed-lasts (CompletedOne reply) it = refl
 completed-lasts answer it = absurd cc
 
-ended-isnt : (life at : ℕ) (how : Ending) → is_completed (ended_answer life at how) ≡ false
-ended-isnt life at (ending.Busy u) = refl
-ended-isnt life at ending.None = refl
-ended-isnt life at (ending.Refused refusal) = refl
+ended-isnt : (life : ℕ) (ps : List Prepared) (at : ℕ) (how : Ending) → is_completed (ended_answer life ps at how) ≡ false
+ended-isnt life ps at (ending.Busy u) = refl
+ended-isnt life ps at ending.None = refl
+ended-isnt life ps at (ending.Refused refusal) = refl
 
 -- the commit is the last event
-attempt-commits : (old new : Stored) (life : ℕ) (calls : List CallAt) (came : Attempt) (answer : AnswerLine) → AttemptAnswers old 0 calls came new → TellsAttempt new life calls came answer → is_completed answer ≡ true
+attempt-commits : (old new : Stored) (life : ℕ) (ps : List Prepared) (calls : List CallAt) (came : Attempt) (answer : AnswerLine) → AttemptAnswers old 0 calls came new → TellsAttempt new life ps calls came answer → is_completed answer ≡ true
     → Contains (kinds new.history) (Commit (begins old.history))
-attempt-commits old new life calls (attempt.Done ks) answer done tells completed =
+attempt-commits old new life ps calls (attempt.Done ks) answer done tells completed =
     let n = begins old.history in
     let happened : List EventKind = Begin n ∷ (operation_events n calls ks.items ++ Commit n ∷ []) in
     subst (λ (s : Stored). Contains (kinds s.history) (Commit n)) (sym done.events)
     (subst (λ xs. Contains xs (Commit n)) (sym (kinds-append old.history (events_of_kinds happened) ∙ ap (λ xs. kinds old.history ++ xs) (kinds-events happened)))
     (Contains-append_right (kinds old.history) happened (Commit n) (Contains-push (Begin n ∷ operation_events n calls ks.items) (Commit n))))
-attempt-commits old new life calls (attempt.Ended at how) answer ended tells completed = absurd (let it : true ≡ false = sym completed ∙ ap is_completed tells ∙ ended-isnt life at how in cc)
-attempt-commits old new life calls (attempt.NotBegun refusal) answer none tells completed = absurd (let it : true ≡ false = sym completed ∙ ap is_completed tells in cc)
+attempt-commits old new life ps calls (attempt.Ended at how) answer ended tells completed = absurd (let it : true ≡ false = sym completed ∙ ap is_completed tells ∙ ended-isnt life ps at how in cc)
+attempt-commits old new life ps calls (attempt.NotBegun refusal) answer none tells completed = absurd (let it : true ≡ false = sym completed ∙ ap is_completed tells in cc)
 
-done-does : (most life : ℕ) (c : Contents) (line : List ℕ) (old : Stored) (a : Answered) (new : Stored) → AnswersDone line a → IsAnswered (Unit {0}) most life c line old a new
-    → Attempts (Unit {0}) life c.objects old (calls_asked line) a.answer new
+done-does : (most life : ℕ) (c : Contents) (line : List ℕ) (old : Stored) (a : Answered) (new : Stored) → AnswersDone line a → (answered : IsAnswered (Unit {0}) most life c line old a new)
+    → Attempts (Unit {0}) life answered.prepared c.objects old (calls_asked line) a.answer new
 done-does most life c line old a new asks answered =
-    let does : DoesRequest (Unit {0}) most life c line old request.Do a.answer new =
-    subst (λ (q : Result Request RequestFault). MatchResult q (λ r. DoesRequest (Unit {0}) most life c line old r a.answer new) (λ fault. (a.answer ≡ Fault fault) × (new ≡ old))) asks.0 answered.request in
+    let does : DoesRequest (Unit {0}) most life c answered.prepared line old request.Do a.answer new =
+    subst (λ (q : Result Request RequestFault). MatchResult q (λ r. DoesRequest (Unit {0}) most life c answered.prepared line old r a.answer new) (λ fault. (a.answer ≡ Fault fault) × (new ≡ old))) asks.0 answered.request in
     either (is_epoch_full most old) does (λ p. absurd (let it : true ≡ false = sym asks.1 ∙ ap is_completed p.0 in cc)) (λ it. it)
 
 pub transactions-found : {S : Type 0} (g : Ghosts S) (b : Began) (last : List (List ℕ) → Type 0) (seen rest half : List ℕ) (lines : List (List ℕ)) (answers : List Answered) (now : Durable S) → AreLines seen lines half
@@ -102,5 +103,5 @@ transactions-found g b last seen rest half lines answers now asked survives line
     record {
       found = found;
       did = did;
-      committed = attempt-commits found.old found.new found.born did.made did.came a.answer did.answers did.tells asks.1;
+      committed = attempt-commits found.old found.new found.born found.answered.prepared did.made did.came a.answer did.answers did.tells asks.1;
     }

@@ -1,5 +1,5 @@
 -- An epoch is closed: what is open is aborted, and its history is kept.
-use Rattle.std.proofs.Common.{◌≡◌, ◌∙◌, inl, inr, ℕ, ◌≤◌, Option, Some, List, [], ◌∷◌, length, take, drop, sym, ap, ap₂, subst, arith}
+use Rattle.std.proofs.Common.{◌≡◌, ◌∙◌, inl, inr, ℕ, ◌≤◌, Option, None, Some, List, [], ◌∷◌, length, take, drop, sym, ap, ap₂, subst, arith}
 use Rattle.std.proofs.Math.Seq.{drop-append_seam}
 use Rattle.std.proofs.lemmas.List.{length-map, take_all}
 use Rattle.sqlite_trees.specs.declared.store.Store.{Ghosts}
@@ -8,17 +8,23 @@ use Rattle.object_trait.specs.declared.event.EventKind.{EventKind}
 use Rattle.store_text.specs.declared.line.ObjectLine.{ObjectLine}
 use Rattle.history_text.specs.Canonical.{canonical_text}
 use Rattle.store_laws.specs.Stored.{Stored}
-use Rattle.store.specs.Ends.{closing}
+use Rattle.store.specs.Ends.{closing_but}
+use Rattle.journal.specs.declared.prepared_row.Prepared.{Prepared}
+use Rattle.durable_store.specs.Held.{prepared_numbers}
 use Rattle.journal.specs.declared.header.Header.{Header}
 use Rattle.journal.specs.Contents.{Contents, contents_of}
 use Rattle.journal.specs.Journal.{Clean, IsJournal, ShowsCommit, written}
 use Rattle.durable_store.specs.declared.durable.Durable.{Durable}
 use Rattle.durable_store.specs.Durable.{IsDurable, OutcomesStay, WritesSince, events_of_kinds, with_all}
+use Rattle.durable_store.specs.Epochs.{LeavesEpoch}
 use Rattle.durable_store.specs.Growth.{LeavesGrowth}
 use Rattle.durable_store.specs.Recovered.{IsStoreOf}
 use Rattle.serving.specs.Archives.{KeepsAtLeast, KeepsEpochs, KeepsText, KeptHistory, text_of_epoch, with_kept}
+use Rattle.std.specs.declared.vec.Vec.{Vec}
+use Rattle.std.specs.declared.alloc.Global.{Global}
 use Rattle.serving.specs.declared.extension.Extension.{Extension}
 use Rattle.serving.specs.EpochEnd.{LeavesClosed, LeavesEnd, LeavesNext}
+use Rattle.serving.specs.NextEpoch.{IsNextFile}
 use Rattle.serving.specs.Server.{KeepsAll}
 use Rattle.serving.specs.Epochs.{LeavesEpochs, Reaches, aborted}
 use Rattle.serving.specs.Follows.{LeavesWritten}
@@ -79,12 +85,12 @@ pub written-stays : {S : Type 0} (g : Ghosts S) (old mid new : Durable S) → Le
 written-stays g old mid new crash stay db left = crash db (stay db left)
 
 -- what was open is aborted, and then all of it may become durable
-pub closed-left : {S : Type 0} (g : Ghosts S) (old mid new : Durable S) → mid.store ≡ aborted old.store → mid.journal.header ≡ old.journal.header → IsDurable g mid → (Clean g mid.journal → Clean g old.journal)
+pub closed-left : {S : Type 0} (g : Ghosts S) (old mid new : Durable S) → mid.store ≡ aborted old.prepared.items old.store → mid.journal.header ≡ old.journal.header → IsDurable g mid → (Clean g mid.journal → Clean g old.journal)
     → KeepsAll g old mid → OutcomesStay g old mid → LeavesWritten g mid new → LeavesClosed g old new
 closed-left g old mid new aborts header sound clean keeps stay crash db left = elim (crash db left) [
   | inl it ↦
       let store : IsStoreOf (contents_of db) mid.store = subst (λ (c : Contents). IsStoreOf c mid.store) (sym it.2) (is-store-of g mid sound it.0) in
-      inl (clean it.0, it.1, (subst (λ (s : Stored). IsStoreOf (contents_of db) s) aborts store, it.3 ∙ ap (λ (h : Header). h ∷ []) header, ap (λ (c : Contents). c.outcomes) it.2 ∙ keeps it.0))
+      inl (clean it.0, it.1, (subst (λ (s : Stored). IsStoreOf (contents_of db) s) aborts store, it.3 ∙ ap (λ (h : Header). h ∷ []) header, ap (λ (c : Contents). c.outcomes) it.2 ∙ (keeps it.0).0, ap (λ (c : Contents). c.prepared) it.2 ∙ (keeps it.0).1))
   | inr before ↦ inr (stay db before)
 ]
 
@@ -98,19 +104,22 @@ store-as s t c lets is =
     record { types = it.types; history = it.history; limit = it.limit }
 
 -- and then the file may begin anew
-pub end-left : {S : Type 0} (g : Ghosts S) (waits : Option Extension) (old mid new : Durable S) → LetsGo (aborted old.store) mid.store → mid.journal.header ≡ old.journal.header → IsDurable g mid → (Clean g mid.journal → Clean g old.journal)
+pub end-left : {S : Type 0} (g : Ghosts S) (waits : Option Extension) (old mid new : Durable S) → LetsGo (aborted old.prepared.items old.store) mid.store → mid.prepared ≡ old.prepared → mid.journal.header ≡ old.journal.header → IsDurable g mid → (Clean g mid.journal → Clean g old.journal)
     → KeepsAll g old mid → LeavesClosed g old mid → LeavesNext g waits mid new → LeavesEnd g waits old new
-end-left g waits old mid new lets header sound clean keeps crash anew db left = elim (anew db left) [
+end-left {S} g waits old mid new lets same header sound clean keeps crash anew db left = elim (anew db left) [
   | inl it ↦
-      let (s, next) = it.2 in
+      let (s, ps, next) = it.2 in
+      let closed = aborted old.prepared.items old.store in
       inl (
         clean it.0,
         it.1,
         inr (record {
           before = written g mid.journal;
           next = s;
-          over = (store-as (aborted old.store) mid.store (written g mid.journal) lets (is-store-of g mid sound it.0), it.3 ∙ ap (λ (h : Header). h ∷ []) header, keeps it.0);
-          is = next-file-as waits (aborted old.store) mid.store s (written g mid.journal) (contents_of db) lets next;
+          prepared = ps;
+          over = (store-as closed mid.store (written g mid.journal) lets (is-store-of g mid sound it.0), it.3 ∙ ap (λ (h : Header). h ∷ []) header, (keeps it.0).0, (keeps it.0).1);
+          is = next-file-as waits old.prepared.items closed mid.store s ps (written g mid.journal) (contents_of db) lets
+              (subst (λ (all : Vec Prepared Global). IsNextFile waits all.items mid.store s ps (written g mid.journal) (contents_of db)) same next);
         }),
       )
   | inr before ↦ closed-end g waits old mid crash db before
@@ -119,11 +128,11 @@ end-left g waits old mid new lets header sound clean keeps crash anew db left = 
 -- ---- what was written
 
 -- with an abort of each transaction that was open
-pub closed-written : {S : Type 0} (g : Ghosts S) (old mid : Durable S) → mid.store ≡ aborted old.store → WritesSince g old mid → Clean g mid.journal
-    → written g mid.journal ≡ with_all (written g old.journal) (closing old.store.history)
+pub closed-written : {S : Type 0} (g : Ghosts S) (old mid : Durable S) → mid.store ≡ aborted old.prepared.items old.store → WritesSince g old mid → Clean g mid.journal
+    → written g mid.journal ≡ with_all (written g old.journal) (closing_but (prepared_numbers old.prepared.items) old.store.history)
 closed-written g old mid aborts since now =
     since now ∙ ap (λ es. with_all (written g old.journal) es)
-    (ap (λ (s : Stored). drop (length old.store.history) s.history) aborts ∙ drop-append_seam old.store.history (closing old.store.history))
+    (ap (λ (s : Stored). drop (length old.store.history) s.history) aborts ∙ drop-append_seam old.store.history (closing_but (prepared_numbers old.prepared.items) old.store.history))
 
 -- ---- a store that gets more objects
 
@@ -131,3 +140,10 @@ pub leaves-grown : {S : Type 0} (g : Ghosts S) (e : Extension) (texts : List (Li
     → LeavesGrowth g texts lines old new → LeavesNext g (Some e) old new
 leaves-grown g e texts lines old new same_texts same_lines crash =
     subst (λ ts. LeavesGrowth g ts e.added.lines.items old new) same_texts (subst (λ ls. LeavesGrowth g texts ls old new) same_lines crash)
+
+-- or goes on with those that it has
+pub leaves-renewed : {S : Type 0} (g : Ghosts S) (old new : Durable S) → LeavesEpoch g old new → LeavesNext g None old new
+leaves-renewed g old new crash db left = elim (crash db left) [
+  | inl it ↦ (let (s, ps, over, is) = it.2 in inl (it.0, it.1, (s, ps, (over, is)), it.3))
+  | inr before ↦ inr before
+]

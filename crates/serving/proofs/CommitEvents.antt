@@ -3,7 +3,7 @@ use Rattle.serving.specs.AnswersFound.{GoesFurther}
 use Rattle.serving.specs.CommitsFound.{TellsCommit}
 use Rattle.serving.proofs.Places.{Lasts}
 use Rattle.serving.proofs.Moments.{file-goes, kinds-append, serves-moment, tells-left}
-use Rattle.std.proofs.Common.{◌≡◌, ◌∙◌, ℕ, ◌+◌, Bool, true, false, Result, Ok, Err, List, [], ◌∷◌, ◌++◌, refl, sym, ap, subst}
+use Rattle.std.proofs.Common.{◌≡◌, ◌∙◌, ℕ, Bool, true, false, Option, None, Some, Result, Ok, Err, List, [], ◌∷◌, ◌++◌, refl, sym, ap, subst}
 use Rattle.std.proofs.lemmas.Bool.{eqb-true}
 use Rattle.std.proofs.lemmas.List.Elements.{Contains-append_left, Contains-push}
 use Rattle.std.specs.Prelude.{◌==◌, Contains, MatchBool, MatchResult, if◌then◌else◌, is_some}
@@ -12,19 +12,24 @@ use Rattle.object_trait.specs.declared.event.Event.{Event}
 use Rattle.object_trait.specs.declared.event.EventKind.TheVariants as kind
 use Rattle.serial_order.specs.declared.command.Command.TheVariants as command
 use Rattle.serial_order.specs.declared.refusal.Refusal.{Refusal}
-use Rattle.serial_order.specs.declared.refusal.Refusal.TheVariants.{NotOpen}
+use Rattle.serial_order.specs.Operations.{is_among}
 use Rattle.store_laws.specs.Stored.{Steps, Stored, refusal_of}
 use Rattle.journal.specs.Contents.{Contents}
 use Rattle.durable_store.specs.declared.durable.Durable.{Durable}
 use Rattle.durable_store.specs.Durable.{kinds}
+use Rattle.durable_store.specs.Held.{Unless, first_passing, prepared_numbers}
+use Rattle.durable_store.specs.declared.denial.Denial.{Denial}
+use Rattle.durable_store.specs.declared.denial.Denial.TheVariants as denied
+use Rattle.journal.specs.declared.prepared_row.Prepared.{Prepared}
 use Rattle.request_text.specs.declared.fault.RequestFault.{RequestFault}
 use Rattle.request_text.specs.declared.request.Request.{Request}
 use Rattle.request_text.specs.declared.request.TransactionName.{TransactionName}
 use Rattle.serving.specs.declared.answer_line.AnswerLine.{AnswerLine}
-use Rattle.serving.specs.declared.answer_line.AnswerLine.TheVariants.{Committed, Fault, Refused}
+use Rattle.serving.specs.declared.answer_line.AnswerLine.TheVariants.{Committed, Fault, IsPrepared, Refused}
 use Rattle.serving.specs.declared.answer_line.Answered.{Answered}
 use Rattle.serving.specs.CommitsFound.{AnswersCommit, CommitsAreFound, KeepsCommit}
-use Rattle.serving.specs.Does.{DoesCommit, done_or}
+use Rattle.serving.specs.Does.{DoesCommit, UnlessPrepared, done_or}
+use Rattle.serving.specs.Prepared.{foreign, foreign_answer, is_given}
 use Rattle.serving.specs.Left.{Began, Survives}
 use Rattle.serving.specs.Lines.{AreLines}
 use Rattle.serving.specs.Requests.{DoesRequest}
@@ -35,31 +40,37 @@ use Rattle.serving.specs.Told.{is_lasting}
 abbrev commit_of : ℕ → Event
 commit_of n = record { worker = 0; kind = kind.Commit n }
 
-commit-step : (old : Stored) (n : ℕ) (r : Result (Unit {0}) Refusal) (answer : AnswerLine) (new : Stored) → answer ≡ Committed → Steps old 0 (command.Commit n) r new → answer ≡ done_or Committed r
+commit-step : (prepared : Bool) (old : Stored) (n : ℕ) (r : Result (Unit {0}) Denial) (answer : AnswerLine) (new : Stored) → answer ≡ Committed → Unless prepared old (λ (x : Result (Unit {0}) Refusal). Steps old 0 (command.Commit n) x new) r new → answer ≡ done_or Committed r
     → new.history ≡ old.history ++ commit_of n ∷ []
-commit-step old n (Ok u) answer new told steps said =
-    ap (λ (s : Stored). s.history) steps.1 ∙ ap (λ (b : Bool). if b then old.history else old.history ++ commit_of n ∷ []) (let none : is_some (refusal_of old (command.Commit n)) ≡ false = ap is_some (sym steps.0) in none)
-commit-step old n (Err e) answer new told steps said = absurd (let it : Refused e ≡ Committed = sym said ∙ told in cc)
+commit-step prepared old n (Ok u) answer new told did said =
+    ap (λ (s : Stored). s.history) did.1.1 ∙ ap (λ (b : Bool). if b then old.history else old.history ++ commit_of n ∷ []) (let none : is_some (refusal_of old (command.Commit n)) ≡ false = ap is_some (sym did.1.0) in none)
+commit-step prepared old n (Err denied.Prepared) answer new told did said = absurd (let it : IsPrepared ≡ Committed = sym said ∙ told in cc)
+commit-step prepared old n (Err (denied.Refused e)) answer new told did said = absurd (let it : Refused e ≡ Committed = sym said ∙ told in cc)
 
-commit-done : (life : ℕ) (old : Stored) (t : TransactionName) (answer : AnswerLine) (new : Stored) → answer ≡ Committed → DoesCommit life old t answer new
+-- one of another life isn't committed
+foreign-isnt : (found : Option Prepared) → foreign_answer found ≡ Committed → ⊥
+foreign-isnt None is = absurd (cc)
+foreign-isnt (Some p) is = absurd (cc)
+
+commit-done : (life : ℕ) (ps : List Prepared) (old : Stored) (t : TransactionName) (answer : AnswerLine) (new : Stored) → answer ≡ Committed → DoesCommit life ps old t answer new
     → (t.life ≡ life) × (new.history ≡ old.history ++ commit_of t.number ∷ [])
-commit-done life old t answer new told does =
-    elim (t.life == life) as (λ v. (t.life == life) ≡ v → MatchBool v ((r : Result (Unit {0}) Refusal) × Steps old 0 (command.Commit t.number) r new × (answer ≡ done_or Committed r)) ((answer ≡ Refused NotOpen) × (new ≡ old))
+commit-done life ps old t answer new told does =
+    elim (t.life == life) as (λ v. (t.life == life) ≡ v → MatchBool v ((r : Result (Unit {0}) Denial) × UnlessPrepared ps t old (λ (x : Result (Unit {0}) Refusal). Steps old 0 (command.Commit t.number) x new) r new × (answer ≡ done_or Committed r)) ((answer ≡ foreign ps t) × (new ≡ old))
     → (t.life ≡ life) × (new.history ≡ old.history ++ commit_of t.number ∷ [])) [
-      | true ↦ λ same it. (eqb-true t.life life same, commit-step old t.number it.0 answer new told it.1 it.2)
-      | false ↦ λ other it. absurd (let no : Refused NotOpen ≡ Committed = sym it.0 ∙ told in cc)
+      | true ↦ λ same it. (eqb-true t.life life same, commit-step (is_among (prepared_numbers ps) t.number) old t.number it.0 answer new told it.1 it.2)
+      | false ↦ λ other it. absurd (foreign-isnt (first_passing (is_given t) ps) (sym it.0 ∙ told))
     ] refl does
 
 commit-answered : (clean : Type 0) (most life : ℕ) (c : Contents) (line : List ℕ) (old : Stored) (a : Answered) (new : Stored) (t : TransactionName) → AnswersCommit line a t → IsAnswered clean most life c line old a new
     → (t.life ≡ life) × (new.history ≡ old.history ++ commit_of t.number ∷ [])
 commit-answered clean most life c line old a new t commits answered =
-    commit-done life old t a.answer new commits.1
-    (subst (λ (q : Result Request RequestFault). MatchResult q (λ r. DoesRequest clean most life c line old r a.answer new) (λ fault. (a.answer ≡ Fault fault) × (new ≡ old))) commits.0 answered.request)
+    commit-done life answered.prepared old t a.answer new commits.1
+    (subst (λ (q : Result Request RequestFault). MatchResult q (λ r. DoesRequest clean most life c answered.prepared line old r a.answer new) (λ fault. (a.answer ≡ Fault fault) × (new ≡ old))) commits.0 answered.request)
 
 -- so it stays
 goes-keep : {t : TransactionName} {moment : Stored} {life : ℕ} {now : Stored} → Contains (kinds moment.history) (kind.Commit t.number) → GoesFurther t.life moment life now → KeepsCommit t life now
 goes-keep {t} {moment} there (GoesFurther.same now more is) = KeepsCommit.event now (subst (λ ks. Contains ks (kind.Commit t.number)) (sym is) (Contains-append_left (kinds moment.history) more (kind.Commit t.number) there))
-goes-keep there (GoesFurther.epoch life waits old first now before renews begins) = KeepsCommit.epoch life waits old first now (goes-keep there before) renews begins
+goes-keep there (GoesFurther.epoch life waits ps next old first now before renews begins) = KeepsCommit.epoch life waits ps next old first now (goes-keep there before) renews begins
 
 commit-lasts : (t : TransactionName) → Lasts (λ line a. AnswersCommit line a t)
 commit-lasts t line a commits = ap is_lasting commits.1

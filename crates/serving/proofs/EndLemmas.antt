@@ -23,6 +23,7 @@ use Rattle.serving.specs.Served.{Serves}
 use Rattle.serving.specs.Told.{AppendsPart, answers_text, greeting}
 use Rattle.serving.specs.Server.{life_of}
 use Rattle.serving.specs.Whole.{ServesClient, StopsServing, session_of}
+use Rattle.serving.proofs.HeldSaid.{held-said}
 use Rattle.serving.proofs.LaterEpochs.{left-then, writes-on}
 use Rattle.serving.proofs.Premises.{serves-weaker}
 use Rattle.serving.proofs.TextParts.{part-of-whole, part-then}
@@ -156,7 +157,12 @@ stops-ending {S} {g} {most} {given} {given_now} {taken} {greeted} {answered} {ta
       told = elim part [
         | inl same ↦ inl (subst (λ now. AppendsPart taken now (greeting (life_of began) ++ answers_text has.told)) (sym same)
             (part-of-whole taken answered answered (greeting (life_of began) ++ answers_text has.told) whole (Keeps-refl answered)))
-        | inr ends ↦ inr (ends.0.store, part-then taken answered taken_now (greeting (life_of began) ++ answers_text has.told) (answers_text (last_answers (late_answer served.session.waiting served.session.store.store) served.end)) whole ends.1)
+        | inr ends ↦ inr (
+          served.session.store.prepared.items,
+          (λ known. held-said g has.served.said served.session.store has.served.lasts.sound (clean known) (has.served.says (clean known))),
+          ends.0.store,
+          part-then taken answered taken_now (greeting (life_of began) ++ answers_text has.told) (answers_text (last_answers (late_answer served.session.waiting served.session.store.store) served.end)) whole ends.1,
+        )
       ];
     }
 

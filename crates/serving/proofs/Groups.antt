@@ -119,7 +119,7 @@ group-told {S} {g} {began} {given} {taken} {given_now} {taken_now} {old} mid new
         kept = ap (λ v. v.items) line ∙ served.kept;
         lasts = lasts-stays served.lasts stays;
         said = served.said;
-        says = λ now. says-then served.said (written g mid.session.store.journal) (written g new.session.store.journal) (served.says (stays.clean now)) (more-same (stays.follows now) (keyless now));
+        says = λ now. says-then served.said (written g mid.session.store.journal) (written g new.session.store.journal) (served.says (stays.clean now)) (more-same (stays.follows now) (keyless now).0 (keyless now).1);
         serves =
             let so_far = serves-weaker stays.clean served.serves in
             rw (lets, ended, stays.life, waits, ap (λ xs. (has.told ++ mid.answers.items) ++ xs) clear ∙ append-nil (has.told ++ mid.answers.items))
@@ -145,7 +145,7 @@ told-none {S} {g} given taken s sound fresh = record {
     kept = fresh.line;
     lasts = lasts-nowhere s.session sound fresh.named;
     said = written g s.session.store.journal;
-    says = λ now. (refl, refl, refl);
+    says = λ now. (refl, refl, refl, refl);
     serves = rw (fresh.answers, fresh.end, fresh.none_waits) (Serves.none s.session.store.store);
   };
   appended = Appends-nil taken;

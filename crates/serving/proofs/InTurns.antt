@@ -3,7 +3,7 @@ use Rattle.serving.specs.Places.{comes_late}
 use Rattle.serving.proofs.Places.{in_turn, turn-append, turn-epoch, turn-one}
 use Rattle.std.proofs.Common.{◌≡◌, ◌∙◌, ℕ, ◌≤◌, Bool, true, false, Option, None, Some, Result, Ok, Err, List, [], ◌∷◌, length, refl, sym, ap, arith}
 use Rattle.std.proofs.lemmas.List.{length-append}
-use Rattle.std.specs.Prelude.{◌==◌, MatchBool, MatchOption, MatchResult, slice_get}
+use Rattle.std.specs.Prelude.{◌==◌, if◌then◌else◌, MatchBool, MatchOption, MatchResult, slice_get}
 use Rattle.type_table.specs.declared.op.Op.{Op}
 use Rattle.object_trait.specs.Object.{Object}
 use Rattle.object_calls.specs.declared.answer.Answer as calls
@@ -28,11 +28,21 @@ use Rattle.request_text.specs.declared.request.ObjectWord.{ObjectWord}
 use Rattle.request_text.specs.declared.request.Request.{Request}
 use Rattle.request_text.specs.declared.request.Request.TheVariants as request
 use Rattle.serving.specs.declared.answer_line.AnswerLine.{AnswerLine}
-use Rattle.serving.specs.declared.answer_line.AnswerLine.TheVariants.{Committed, Completed, CompletedOne, Done, Events, Fault, NotAdded, Nothing, NothingSeen, Objects, Refused, Seen, SeenStates, State, Types, Unseen}
+use Rattle.serving.specs.declared.answer_line.AnswerLine.TheVariants.{Committed, Completed, CompletedOne, Done, Events, Fault, Held, IsPrepared, NotAdded, Nothing, NothingSeen, Objects, Refused, Seen, SeenStates, State, Types, Unseen, VotedBefore}
 use Rattle.serving.specs.declared.answer_line.Answered.{Answered}
 use Rattle.serving.specs.declared.extension.Extension.{Extension}
+use Rattle.journal.specs.declared.prepared_row.Prepared.{Prepared}
+use Rattle.serial_order.specs.Operations.{is_among}
 use Rattle.durable_store.specs.Keys.{op_of_object}
-use Rattle.serving.specs.Does.{begin_answer, call_answer, done_or, is_epoch_full, reply_of}
+use Rattle.durable_store.specs.Held.{as_denied, first_passing, has_key, prepared_numbers}
+use Rattle.durable_store.specs.declared.denial.Denial.{Denial}
+use Rattle.durable_store.specs.declared.denial.Denial.TheVariants as denied
+use Rattle.durable_store.specs.declared.votes.Verdict.{Verdict}
+use Rattle.durable_store.specs.declared.votes.Verdict.TheVariants as verdict
+use Rattle.durable_store.specs.declared.votes.Vote.{Vote}
+use Rattle.durable_store.specs.declared.votes.Vote.TheVariants as vote
+use Rattle.serving.specs.Does.{begin_answer, call_answer, denied_answer, done_or, is_epoch_full, reply_of}
+use Rattle.serving.specs.Prepared.{TellsHeld, foreign_answer, foreign_vote_by, is_given, verdict_answer, vote_answer}
 use Rattle.journal.specs.declared.outcome_row.Outcome.{Outcome}
 use Rattle.journal.specs.declared.outcome_row.Outcome.TheVariants as outcome
 use Rattle.durable_store.specs.declared.keyed.Keyed.{Keyed}
@@ -41,7 +51,7 @@ use Rattle.durable_store.specs.declared.keyed.KeyState.{KeyState}
 use Rattle.durable_store.specs.declared.keyed.KeyState.TheVariants as state
 use Rattle.durable_store.specs.declared.keyed.Unfinished.{Unfinished}
 use Rattle.durable_store.specs.declared.keyed.Unfinished.TheVariants as unfinished
-use Rattle.serving.specs.Keys.{commit_under_answer, committed_before, do_under_answer, done_before, draining_under, not_open_under}
+use Rattle.serving.specs.Keys.{commit_under_answer, committed_before, do_under_answer, done_before, draining_under, foreign_under, outcome_answer}
 use Rattle.serving.specs.NextEpoch.{MayWait, is_not_added, limit_while}
 use Rattle.serving.specs.Requests.{DoesRequest, found_answer, TellsEvents, TellsObjects, TellsTypes, events_from}
 use Rattle.serving.specs.Served.{IsAnswered, Serves}
@@ -59,19 +69,27 @@ turn-reply : (op : Option Op) → comes_late (reply_of op) ≡ false
 turn-reply None = refl
 turn-reply (Some op) = refl
 
-turn-call : (s : Stored) (life x : ℕ) (r : Result calls.Answer Refusal) → comes_late (call_answer s life x r) ≡ false
-turn-call s life x (Ok (call.Reply k)) = turn-reply (op_of_object s x k)
-turn-call s life x (Ok (call.Busy u)) = refl
-turn-call s life x (Ok call.None) = refl
-turn-call s life x (Err e) = refl
+turn-denied : (why : Denial) → comes_late (denied_answer why) ≡ false
+turn-denied denied.Prepared = refl
+turn-denied (denied.Refused refusal) = refl
 
-turn-done : (r : Result (Unit {0}) Refusal) → comes_late (done_or Done r) ≡ false
+turn-foreign : (found : Option Prepared) → comes_late (foreign_answer found) ≡ false
+turn-foreign None = refl
+turn-foreign (Some p) = refl
+
+turn-call : (s : Stored) (life : ℕ) (ps : List Prepared) (x : ℕ) (r : Result calls.Answer Denial) → comes_late (call_answer s life ps x r) ≡ false
+turn-call s life ps x (Ok (call.Reply k)) = turn-reply (op_of_object s x k)
+turn-call s life ps x (Ok (call.Busy u)) = refl
+turn-call s life ps x (Ok call.None) = refl
+turn-call s life ps x (Err why) = turn-denied why
+
+turn-done : (r : Result (Unit {0}) Denial) → comes_late (done_or Done r) ≡ false
 turn-done (Ok u) = refl
-turn-done (Err e) = refl
+turn-done (Err why) = turn-denied why
 
-turn-committed : (r : Result (Unit {0}) Refusal) → comes_late (done_or Committed r) ≡ false
+turn-committed : (r : Result (Unit {0}) Denial) → comes_late (done_or Committed r) ≡ false
 turn-committed (Ok u) = refl
-turn-committed (Err e) = refl
+turn-committed (Err why) = turn-denied why
 
 turn-kept : (o : Option Object) (old : Stored) (x : ℕ) (answer : AnswerLine) → MatchOption o (answer ≡ Refused NoObject) (λ o. (state : ℕ) × IsKeptState old x state × (answer ≡ State state)) → comes_late answer ≡ false
 turn-kept None old x answer it = ap comes_late it
@@ -110,15 +128,15 @@ turn-replies replies (CompletedOne told) tells = refl
 turn-replies replies Nothing tells = refl
 turn-replies replies answer tells = absurd tells
 
-turn-ended : (life at : ℕ) (how : Ending) → comes_late (ended_answer life at how) ≡ false
-turn-ended life at (ending.Busy u) = refl
-turn-ended life at ending.None = refl
-turn-ended life at (ending.Refused refusal) = refl
+turn-ended : (life : ℕ) (ps : List Prepared) (at : ℕ) (how : Ending) → comes_late (ended_answer life ps at how) ≡ false
+turn-ended life ps at (ending.Busy u) = refl
+turn-ended life ps at ending.None = refl
+turn-ended life ps at (ending.Refused refusal) = refl
 
-turn-attempt : (s : Stored) (life : ℕ) (calls : List CallAt) (came : Attempt) (answer : AnswerLine) → TellsAttempt s life calls came answer → comes_late answer ≡ false
-turn-attempt s life calls (attempt.Done ks) answer tells = turn-replies (replies_of s calls ks.items) answer tells
-turn-attempt s life calls (attempt.Ended at how) answer tells = ap comes_late tells ∙ turn-ended life at how
-turn-attempt s life calls (attempt.NotBegun refusal) answer tells = ap comes_late tells
+turn-attempt : (s : Stored) (life : ℕ) (ps : List Prepared) (calls : List CallAt) (came : Attempt) (answer : AnswerLine) → TellsAttempt s life ps calls came answer → comes_late answer ≡ false
+turn-attempt s life ps calls (attempt.Done ks) answer tells = turn-replies (replies_of s calls ks.items) answer tells
+turn-attempt s life ps calls (attempt.Ended at how) answer tells = ap comes_late tells ∙ turn-ended life ps at how
+turn-attempt s life ps calls (attempt.NotBegun refusal) answer tells = ap comes_late tells
 
 turn-committed-before : (known : Outcome) → comes_late (committed_before known) ≡ false
 turn-committed-before (outcome.Committed replies) = refl
@@ -128,55 +146,100 @@ turn-done-before : (known : Outcome) → comes_late (done_before known) ≡ fals
 turn-done-before (outcome.Committed replies) = refl
 turn-done-before outcome.Aborted = refl
 
-turn-commit-under : (came : Keyed Refusal) → comes_late (commit_under_answer came) ≡ false
+turn-commit-under : (came : Keyed Denial) → comes_late (commit_under_answer came) ≡ false
 turn-commit-under (keyed.Done kept) = refl
-turn-commit-under (keyed.Undone refusal) = refl
+turn-commit-under (keyed.Undone why) = turn-denied why
 turn-commit-under (keyed.Known known) = turn-committed-before known
+turn-commit-under keyed.Prepared = refl
 turn-commit-under keyed.Taken = refl
 
-turn-not-open : (known : KeyState) → comes_late (not_open_under known) ≡ false
-turn-not-open state.Free = refl
-turn-not-open (state.Known known) = turn-committed-before known
-turn-not-open state.Taken = refl
+turn-foreign-under : (found : Option Prepared) (known : KeyState) → comes_late (foreign_under (foreign_answer found) known) ≡ false
+turn-foreign-under found state.Free = turn-foreign found
+turn-foreign-under found (state.Known known) = turn-committed-before known
+turn-foreign-under found state.Prepared = refl
+turn-foreign-under found state.Taken = refl
 
-turn-do-under : (life : ℕ) (came : Keyed Unfinished) → comes_late (do_under_answer life came) ≡ false
-turn-do-under life (keyed.Done kept) = turn-done-before kept
-turn-do-under life (keyed.Undone (unfinished.Ended at how)) = turn-ended life at how
-turn-do-under life (keyed.Undone (unfinished.NotBegun refusal)) = refl
-turn-do-under life (keyed.Known known) = turn-done-before known
-turn-do-under life keyed.Taken = refl
+turn-do-under : (life : ℕ) (ps : List Prepared) (came : Keyed Unfinished) → comes_late (do_under_answer life ps came) ≡ false
+turn-do-under life ps (keyed.Done kept) = turn-done-before kept
+turn-do-under life ps (keyed.Undone (unfinished.Ended at how)) = turn-ended life ps at how
+turn-do-under life ps (keyed.Undone (unfinished.NotBegun refusal)) = refl
+turn-do-under life ps (keyed.Known known) = turn-done-before known
+turn-do-under life ps keyed.Prepared = refl
+turn-do-under life ps keyed.Taken = refl
 
 turn-draining : (known : KeyState) → comes_late (draining_under known) ≡ false
 turn-draining state.Free = refl
 turn-draining (state.Known known) = turn-done-before known
+turn-draining state.Prepared = refl
 turn-draining state.Taken = refl
 
-does-turn : (clean : Type 0) (most life : ℕ) (c : Contents) (line : List ℕ) (old : Stored) (r : Request) (answer : AnswerLine) (new : Stored) → DoesRequest clean most life c line old r answer new → comes_late answer ≡ false
-does-turn clean most life c line old request.Begin answer new does = either (is_epoch_full most old) does (λ p. ap comes_late p.0) (λ p. ap comes_late p.2 ∙ turn-begin life p.0)
-does-turn clean most life c line old (request.Call t x name) answer new does = either (t.life == life) does.2 (λ p. ap comes_late p.2 ∙ turn-call new life does.0 p.0) (λ p. ap comes_late p.0)
-does-turn clean most life c line old (request.Would t x name) answer new does = either (t.life == life) does.2 (λ p. ap comes_late p.2 ∙ turn-call old life does.0 p.0) (λ p. ap comes_late p.0)
-does-turn clean most life c line old (request.Commit t) answer new does = either (t.life == life) does (λ p. ap comes_late p.2 ∙ turn-committed p.0) (λ p. ap comes_late p.0)
-does-turn clean most life c line old (request.CommitUnder t key) answer new does = either (t.life == life) does (λ p. ap comes_late p.3 ∙ turn-commit-under p.0) (λ p. ap comes_late p.2 ∙ turn-not-open p.0)
-does-turn clean most life c line old (request.Abort t) answer new does = either (t.life == life) does (λ p. ap comes_late p.2 ∙ turn-done p.0) (λ p. ap comes_late p.0)
-does-turn clean most life c line old (request.Rollback t count) answer new does = either (t.life == life) does (λ p. ap comes_late p.2 ∙ turn-done p.0) (λ p. ap comes_late p.0)
-does-turn clean most life c line old (request.Kept x) answer new does = turn-kept (slice_get (objects old) does.0) old does.0 answer does.2.1
-does-turn clean most life c line old request.Peek answer new does = turn-peek clean answer life c.objects old (calls_asked line) new does
-does-turn clean most life c line old request.Committed answer new does = turn-states clean answer life c.objects old (objects_asked line) new does
-does-turn clean most life c line old request.Do answer new does = either (is_epoch_full most old) does (λ p. ap comes_late p.0) (λ it. turn-attempt new life it.made it.came answer it.tells)
-does-turn clean most life c line old (request.DoUnder key) answer new does = either (is_epoch_full most old) does (λ p. ap comes_late p.2 ∙ turn-draining p.0) (λ p. ap comes_late p.5 ∙ turn-do-under life p.2)
-does-turn clean most life c line old (request.Outcome key) answer new does = ap comes_late does.1
-does-turn clean most life c line old (request.Find name) answer new does = ap comes_late does.2 ∙ turn-found does.1
-does-turn clean most life c line old request.Objects answer new does = turn-objects clean answer c.objects does.0
-does-turn clean most life c line old request.Types answer new does = turn-types clean answer c.types does.0
-does-turn clean most life c line old (request.Events from count) answer new does = turn-events clean answer (events_from old from count) does.0
-does-turn clean most life c line old request.Stats answer new does = ap comes_late does.0
-does-turn clean most life c line old request.Extend answer new does = ap comes_late does.0
-does-turn clean most life c line old request.End answer new does = ap comes_late does.0
+turn-outcome : (known : KeyState) → comes_late (outcome_answer known) ≡ false
+turn-outcome state.Free = refl
+turn-outcome (state.Known known) = refl
+turn-outcome state.Prepared = refl
+turn-outcome state.Taken = refl
+
+turn-vote : (came : Vote) → comes_late (vote_answer came) ≡ false
+turn-vote vote.Prepared = refl
+turn-vote vote.Again = refl
+turn-vote vote.NotOpen = refl
+turn-vote vote.Otherwise = refl
+turn-vote vote.KeyInUse = refl
+turn-vote (vote.Known (outcome.Committed replies)) = refl
+turn-vote (vote.Known outcome.Aborted) = refl
+turn-vote vote.Taken = refl
+
+turn-foreign-vote : (key : List ℕ) (found : Option Prepared) → comes_late (foreign_vote_by key found) ≡ false
+turn-foreign-vote key None = refl
+turn-foreign-vote key (Some p) = elim (has_key key p) as (λ b. comes_late (if b then VotedBefore else IsPrepared) ≡ false) [ true ↦ refl | false ↦ refl ]
+
+turn-verdict : (came : Verdict) → comes_late (verdict_answer came) ≡ false
+turn-verdict verdict.Decided = refl
+turn-verdict (verdict.Otherwise known) = refl
+turn-verdict verdict.Unknown = refl
+turn-verdict verdict.Taken = refl
+
+turn-held : (answer : AnswerLine) (ps : List Prepared) → TellsHeld answer ps → comes_late answer ≡ false
+turn-held (Held told) ps tells = refl
+turn-held answer ps tells = absurd tells
+
+does-turn : (clean : Type 0) (most life : ℕ) (c : Contents) (ps : List Prepared) (line : List ℕ) (old : Stored) (r : Request) (answer : AnswerLine) (new : Stored) → DoesRequest clean most life c ps line old r answer new → comes_late answer ≡ false
+does-turn clean most life c ps line old request.Begin answer new does = either (is_epoch_full most old) does (λ p. ap comes_late p.0) (λ p. ap comes_late p.2 ∙ turn-begin life p.0)
+does-turn clean most life c ps line old (request.Call t x name) answer new does =
+    either (t.life == life) does.2 (λ p. ap comes_late p.2 ∙ turn-call new life ps does.0 p.0) (λ p. ap comes_late p.0 ∙ turn-foreign (first_passing (is_given t) ps))
+does-turn clean most life c ps line old (request.Would t x name) answer new does =
+    either (t.life == life) does.2 (λ p. either (is_among (prepared_numbers ps) t.number) p.1 (λ told. ap comes_late told) (λ q. ap comes_late q.2 ∙ turn-call old life ps does.0 (as_denied q.0)))
+    (λ p. ap comes_late p.0 ∙ turn-foreign (first_passing (is_given t) ps))
+does-turn clean most life c ps line old (request.Commit t) answer new does =
+    either (t.life == life) does (λ p. ap comes_late p.2 ∙ turn-committed p.0) (λ p. ap comes_late p.0 ∙ turn-foreign (first_passing (is_given t) ps))
+does-turn clean most life c ps line old (request.CommitUnder t key) answer new does =
+    either (t.life == life) does (λ p. ap comes_late p.3 ∙ turn-commit-under p.0) (λ p. ap comes_late p.2 ∙ turn-foreign-under (first_passing (is_given t) ps) p.0)
+does-turn clean most life c ps line old (request.Abort t) answer new does =
+    either (t.life == life) does (λ p. ap comes_late p.2 ∙ turn-done p.0) (λ p. ap comes_late p.0 ∙ turn-foreign (first_passing (is_given t) ps))
+does-turn clean most life c ps line old (request.Rollback t count) answer new does =
+    either (t.life == life) does (λ p. ap comes_late p.2 ∙ turn-done p.0) (λ p. ap comes_late p.0 ∙ turn-foreign (first_passing (is_given t) ps))
+does-turn clean most life c ps line old (request.Kept x) answer new does = turn-kept (slice_get (objects old) does.0) old does.0 answer does.2.1
+does-turn clean most life c ps line old request.Peek answer new does = turn-peek clean answer life c.objects old (calls_asked line) new does
+does-turn clean most life c ps line old request.Committed answer new does = turn-states clean answer life c.objects old (objects_asked line) new does
+does-turn clean most life c ps line old request.Do answer new does = either (is_epoch_full most old) does (λ p. ap comes_late p.0) (λ it. turn-attempt new life ps it.made it.came answer it.tells)
+does-turn clean most life c ps line old (request.DoUnder key) answer new does = either (is_epoch_full most old) does (λ p. ap comes_late p.2 ∙ turn-draining p.0) (λ p. ap comes_late p.5 ∙ turn-do-under life ps p.2)
+does-turn clean most life c ps line old (request.Outcome key) answer new does = ap comes_late does.2 ∙ turn-outcome does.0
+does-turn clean most life c ps line old (request.Prepare t key until) answer new does =
+    either (t.life == life) does.1 (λ p. ap comes_late p.2 ∙ turn-vote p.0) (λ told. ap comes_late told ∙ turn-foreign-vote key (first_passing (is_given t) ps))
+does-turn clean most life c ps line old (request.Decide key d) answer new does = ap comes_late does.2 ∙ turn-verdict does.0
+does-turn clean most life c ps line old request.Prepared answer new does = turn-held answer ps does.0
+does-turn clean most life c ps line old (request.Find name) answer new does = ap comes_late does.2 ∙ turn-found does.1
+does-turn clean most life c ps line old request.Objects answer new does = turn-objects clean answer c.objects does.0
+does-turn clean most life c ps line old request.Types answer new does = turn-types clean answer c.types does.0
+does-turn clean most life c ps line old (request.Events from count) answer new does = turn-events clean answer (events_from old from count) does.0
+does-turn clean most life c ps line old request.Stats answer new does = ap comes_late does.0
+does-turn clean most life c ps line old request.Extend answer new does = ap comes_late does.0
+does-turn clean most life c ps line old request.End answer new does = ap comes_late does.0
 
 pub answered-turn : (clean : Type 0) (most life : ℕ) (c : Contents) (line : List ℕ) (old : Stored) (a : Answered) (new : Stored) → IsAnswered clean most life c line old a new → comes_late a.answer ≡ false
 answered-turn clean most life c line old a new answered =
-    elim (asked_by line).request as (λ (q : Result Request RequestFault). MatchResult q (λ r. DoesRequest clean most life c line old r a.answer new) (λ fault. (a.answer ≡ Fault fault) × (new ≡ old)) → comes_late a.answer ≡ false) [
-      | Ok r ↦ λ does. does-turn clean most life c line old r a.answer new does
+    elim (asked_by line).request as (λ (q : Result Request RequestFault). MatchResult q (λ r. DoesRequest clean most life c answered.prepared line old r a.answer new) (λ fault. (a.answer ≡ Fault fault) × (new ≡ old)) → comes_late a.answer ≡ false) [
+      | Ok r ↦ λ does. does-turn clean most life c answered.prepared line old r a.answer new does
       | Err fault ↦ λ told. ap comes_late told.0
     ] answered.request
 
@@ -204,6 +267,6 @@ serves-count (Serves.end lines asked old new answers life said waits before ends
     let so_far = (serves-count before).1 refl in
     (omega (arith, length-append lines (asked ∷ []), so_far), λ e. absurd cc)
 serves-count (Serves.forget lines old mid answers life n said ended waits before) = serves-count before
-serves-count (Serves.epoch lines old mid new answers life next said now waits before full renews follows says) =
+serves-count (Serves.epoch lines old mid new answers life next said now waits ps new_ps before full renews are follows says) =
     let so_far = serves-count before in
     (omega (arith, turn-epoch waits mid answers, so_far.0), λ e. so_far.1 refl ∙ sym (turn-epoch waits mid answers))

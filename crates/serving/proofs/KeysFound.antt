@@ -1,21 +1,24 @@
 -- What was answered under keys stays so.
-use Rattle.std.proofs.Common.{◌≡◌, ◌∙◌, inl, inr, ℕ, true, false, List, [], ◌∷◌, ◌++◌, Option, Some, None, Result, Ok, Err, refl, sym, ap, subst, append-nil, cond}
+use Rattle.std.proofs.Common.{◌≡◌, ◌∙◌, inl, inr, ℕ, true, false, List, [], ◌∷◌, ◌++◌, Option, Some, None, Result, Ok, Err, refl, sym, ap, subst, append-nil}
 use Rattle.std.proofs.lemmas.Bool.{cases_eq, eq-eqb, ne_eqb}
 use Rattle.std.proofs.lemmas.Slice.Eq.{bytes_eq-Decides}
-use Rattle.std.specs.Prelude.{◌==◌, MatchBool, MatchResult}
-use Rattle.std.specs.Str.{bytes_eq}
+use Rattle.std.specs.Prelude.{◌==◌, MatchResult}
 use Rattle.sqlite_trees.specs.declared.store.Store.{Ghosts}
 use Rattle.transaction_key.specs.TransactionKey.{key_place}
 use Rattle.store_laws.specs.Stored.{Stored}
 use Rattle.attempts.specs.declared.outcome.Ending.{Ending}
 use Rattle.attempts.specs.declared.outcome.Ending.TheVariants as ending
-use Rattle.serial_order.specs.declared.refusal.Refusal.{Refusal}
 use Rattle.journal.specs.declared.outcome_row.KeyedOutcome.{KeyedOutcome}
 use Rattle.journal.specs.declared.outcome_row.Outcome.{Outcome}
 use Rattle.journal.specs.declared.outcome_row.Outcome.TheVariants.{Aborted, Committed}
 use Rattle.journal.specs.Contents.{Contents, contents_of}
 use Rattle.durable_store.specs.declared.durable.Durable.{Durable}
-use Rattle.durable_store.specs.Keys.{IsFree, IsInState, KnowsKey, outcome_for, outcome_under}
+use Rattle.durable_store.specs.Durable.{prepared_in}
+use Rattle.durable_store.specs.Held.{first_passing}
+use Rattle.durable_store.specs.Keys.{IsInState, KnowsKey, outcome_for, outcome_under}
+use Rattle.durable_store.specs.declared.denial.Denial.{Denial}
+use Rattle.durable_store.specs.declared.denial.Denial.TheVariants as denied
+use Rattle.journal.specs.declared.prepared_row.Prepared.{Prepared}
 use Rattle.durable_store.specs.declared.keyed.Keyed.{Keyed}
 use Rattle.durable_store.specs.declared.keyed.Keyed.TheVariants as keyed
 use Rattle.durable_store.specs.declared.keyed.KeyState.{KeyState}
@@ -27,19 +30,20 @@ use Rattle.request_text.specs.declared.request.Asked.{Asked}
 use Rattle.request_text.specs.declared.request.Request.{Request}
 use Rattle.request_text.specs.declared.request.Request.TheVariants as request
 use Rattle.request_text.specs.declared.request.TransactionName.{TransactionName}
-use Rattle.request_text.specs.Requests.{asked_by, calls_asked}
+use Rattle.request_text.specs.Requests.{asked_by}
 use Rattle.serving.specs.declared.answer_line.AnswerLine.{AnswerLine}
 use Rattle.serving.specs.declared.answer_line.AnswerLine.TheVariants as answer
 use Rattle.serving.specs.declared.answer_line.Answered.{Answered}
 use Rattle.serving.specs.declared.extension.Extension.{Extension}
 use Rattle.serving.specs.AnswersFound.{IsIt}
 use Rattle.serving.specs.Does.{is_epoch_full}
-use Rattle.serving.specs.Keys.{commit_under_answer, do_under_answer, draining_under, kept_answered, kept_by, not_open_under, outcomes_after, outcomes_where_free, said_after}
+use Rattle.serving.specs.Keys.{commit_under_answer, do_under_answer, draining_under, kept_answered, foreign_under, kept_by, outcomes_after, outcomes_where_free, said_after}
 use Rattle.serving.specs.KeysFound.{KeysAreFound, LinePromises, Promises}
-use Rattle.serving.specs.Left.{Began, IsStoreFile, Survives}
+use Rattle.serving.specs.Left.{Began, IsStoreFile, Survives, closed_store}
 use Rattle.serving.specs.Lines.{AreLines}
-use Rattle.serving.specs.NextEpoch.{IsNextFile, SaysNext, limit_while}
+use Rattle.serving.specs.NextEpoch.{SaysNext, limit_while}
 use Rattle.serving.specs.Places.{TellsSuch}
+use Rattle.serving.specs.Prepared.{foreign, foreign_answer, is_given, now_says, prepared_after, prepared_answered}
 use Rattle.serving.specs.Requests.{DoesRequest}
 use Rattle.serving.specs.Served.{IsAnswered, Serves}
 use Rattle.serving.specs.Several.{ended_answer}
@@ -77,7 +81,7 @@ known-stays c d key known stays is =
     ap (outcome_for key) (stays (key_place key) kept there) ∙ sym (ap (outcome_for key) there) ∙ is
 
 -- and what is kept where the key was free is known
-known-now : (c : Contents) (key : List ℕ) (known : Outcome) → IsFree c key → outcome_under (record c { outcomes = outcomes_after (Some (record { key = key; outcome = known })) c.outcomes }) key ≡ Some known
+known-now : (c : Contents) (key : List ℕ) (known : Outcome) → c.outcomes (key_place key) ≡ None → outcome_under (record c { outcomes = outcomes_after (Some (record { key = key; outcome = known })) c.outcomes }) key ≡ Some known
 known-now c key known free =
     ap (λ there. outcome_for key (outcomes_where_free there (record { key = key; outcome = known }) c.outcomes (key_place key))) free
     ∙ rw (eq-eqb (key_place key) (key_place key) refl, (bytes_eq-Decides key key).1 refl) refl
@@ -92,73 +96,83 @@ promises-stay q a c d stays it = it
 
 -- a file after a request that was so answered
 abbrev after : Contents → Request → AnswerLine → Contents
-after c r a = record c { outcomes = outcomes_after (kept_by r a) c.outcomes }
+after c r a = record c { outcomes = outcomes_after (kept_by r a) c.outcomes; prepared = prepared_after r a c.prepared }
 
 -- is true of a commit
-commit-promises : (c : Contents) (t : TransactionName) (key : List ℕ) (came : Keyed Refusal) → KnowsKey c key came
+commit-promises : (c : Contents) (s : Stored) (t : TransactionName) (key : List ℕ) (came : Keyed Denial) → KnowsKey (now_says c s) key came
     → Promises (request.CommitUnder t key) (commit_under_answer came) (after c (request.CommitUnder t key) (commit_under_answer came))
-commit-promises c t key (keyed.Done kept) knows = ([], known-now c key (Committed []) knows)
-commit-promises c t key (keyed.Undone refusal) knows = tt
-commit-promises c t key (keyed.Known (Committed replies)) knows = (replies, known-stays c (after c (request.CommitUnder t key) answer.Committed) key (Committed replies) (after-stays (kept_by (request.CommitUnder t key) answer.Committed) c.outcomes) knows)
-commit-promises c t key (keyed.Known Aborted) knows = tt
-commit-promises c t key keyed.Taken knows = tt
+commit-promises c s t key (keyed.Done kept) knows = ([], known-now c key (Committed []) knows.0)
+commit-promises c s t key (keyed.Undone denied.Prepared) knows = tt
+commit-promises c s t key (keyed.Undone (denied.Refused refusal)) knows = tt
+commit-promises c s t key (keyed.Known (Committed replies)) knows = (replies, known-stays c (after c (request.CommitUnder t key) answer.Committed) key (Committed replies) (after-stays (kept_by (request.CommitUnder t key) answer.Committed) c.outcomes) knows)
+commit-promises c s t key (keyed.Known Aborted) knows = tt
+commit-promises c s t key keyed.Prepared knows = tt
+commit-promises c s t key keyed.Taken knows = tt
 
-not-open-promises : (c : Contents) (t : TransactionName) (key : List ℕ) (known : KeyState) → IsInState c key known
-    → Promises (request.CommitUnder t key) (not_open_under known) (after c (request.CommitUnder t key) (not_open_under known))
-not-open-promises c t key state.Free knows = tt
-not-open-promises c t key (state.Known (Committed replies)) knows = (replies, known-stays c (after c (request.CommitUnder t key) answer.Committed) key (Committed replies) (after-stays (kept_by (request.CommitUnder t key) answer.Committed) c.outcomes) knows)
-not-open-promises c t key (state.Known Aborted) knows = tt
-not-open-promises c t key state.Taken knows = tt
+another-promises : (c : Contents) (t : TransactionName) (key : List ℕ) (found : Option Prepared) → Promises (request.CommitUnder t key) (foreign_answer found) c
+another-promises c t key None = tt
+another-promises c t key (Some p) = tt
+
+foreign-promises : (c : Contents) (s : Stored) (ps : List Prepared) (t : TransactionName) (key : List ℕ) (known : KeyState) → IsInState (now_says c s) key known
+    → Promises (request.CommitUnder t key) (foreign_under (foreign ps t) known) (after c (request.CommitUnder t key) (foreign_under (foreign ps t) known))
+foreign-promises c s ps t key state.Free knows = another-promises (after c (request.CommitUnder t key) (foreign ps t)) t key (first_passing (is_given t) ps)
+foreign-promises c s ps t key (state.Known (Committed replies)) knows = (replies, known-stays c (after c (request.CommitUnder t key) answer.Committed) key (Committed replies) (after-stays (kept_by (request.CommitUnder t key) answer.Committed) c.outcomes) knows)
+foreign-promises c s ps t key (state.Known Aborted) knows = tt
+foreign-promises c s ps t key state.Prepared knows = tt
+foreign-promises c s ps t key state.Taken knows = tt
 
 -- and of a whole transaction
 replied-promises : (c : Contents) (key replies : List ℕ) → outcome_under c key ≡ Some (Committed replies) → Promises (request.DoUnder key) (answer.Replied replies) (after c (request.DoUnder key) (answer.Replied replies))
 replied-promises c key replies knows = known-stays c (after c (request.DoUnder key) (answer.Replied replies)) key (Committed replies) (after-stays (kept_by (request.DoUnder key) (answer.Replied replies)) c.outcomes) knows
 
-ended-promises : (c d : Contents) (key : List ℕ) (life at : ℕ) (how : Ending) → Promises (request.DoUnder key) (ended_answer life at how) d
-ended-promises c d key life at (ending.Busy u) = tt
-ended-promises c d key life at ending.None = tt
-ended-promises c d key life at (ending.Refused refusal) = tt
+ended-promises : (d : Contents) (key : List ℕ) (life : ℕ) (ps : List Prepared) (at : ℕ) (how : Ending) → Promises (request.DoUnder key) (ended_answer life ps at how) d
+ended-promises d key life ps at (ending.Busy u) = tt
+ended-promises d key life ps at ending.None = tt
+ended-promises d key life ps at (ending.Refused refusal) = tt
 
-do-promises : (c : Contents) (key : List ℕ) (life : ℕ) (came : Keyed Unfinished) → KnowsKey c key came → Promises (request.DoUnder key) (do_under_answer life came) (after c (request.DoUnder key) (do_under_answer life came))
-do-promises c key life (keyed.Done (Committed replies)) knows = known-now c key (Committed replies) knows
-do-promises c key life (keyed.Done Aborted) knows = tt
-do-promises c key life (keyed.Undone (unfinished.Ended at how)) knows = ended-promises c (after c (request.DoUnder key) (ended_answer life at how)) key life at how
-do-promises c key life (keyed.Undone (unfinished.NotBegun refusal)) knows = tt
-do-promises c key life (keyed.Known (Committed replies)) knows = replied-promises c key replies knows
-do-promises c key life (keyed.Known Aborted) knows = tt
-do-promises c key life keyed.Taken knows = tt
+do-promises : (c : Contents) (s : Stored) (key : List ℕ) (life : ℕ) (ps : List Prepared) (came : Keyed Unfinished) → KnowsKey (now_says c s) key came
+    → Promises (request.DoUnder key) (do_under_answer life ps came) (after c (request.DoUnder key) (do_under_answer life ps came))
+do-promises c s key life ps (keyed.Done (Committed replies)) knows = known-now c key (Committed replies) knows.0
+do-promises c s key life ps (keyed.Done Aborted) knows = tt
+do-promises c s key life ps (keyed.Undone (unfinished.Ended at how)) knows = ended-promises (after c (request.DoUnder key) (ended_answer life ps at how)) key life ps at how
+do-promises c s key life ps (keyed.Undone (unfinished.NotBegun refusal)) knows = tt
+do-promises c s key life ps (keyed.Known (Committed replies)) knows = replied-promises c key replies knows
+do-promises c s key life ps (keyed.Known Aborted) knows = tt
+do-promises c s key life ps keyed.Prepared knows = tt
+do-promises c s key life ps keyed.Taken knows = tt
 
-draining-promises : (c : Contents) (key : List ℕ) (known : KeyState) → IsInState c key known → Promises (request.DoUnder key) (draining_under known) (after c (request.DoUnder key) (draining_under known))
-draining-promises c key state.Free knows = tt
-draining-promises c key (state.Known (Committed replies)) knows = replied-promises c key replies knows
-draining-promises c key (state.Known Aborted) knows = tt
-draining-promises c key state.Taken knows = tt
+draining-promises : (c : Contents) (s : Stored) (key : List ℕ) (known : KeyState) → IsInState (now_says c s) key known → Promises (request.DoUnder key) (draining_under known) (after c (request.DoUnder key) (draining_under known))
+draining-promises c s key state.Free knows = tt
+draining-promises c s key (state.Known (Committed replies)) knows = replied-promises c key replies knows
+draining-promises c s key (state.Known Aborted) knows = tt
+draining-promises c s key state.Prepared knows = tt
+draining-promises c s key state.Taken knows = tt
 
 -- it is true once it is given
-request-promises : (most life : ℕ) (c : Contents) (line : List ℕ) (old : Stored) (r : Request) (a : AnswerLine) (new : Stored) → DoesRequest (Unit {0}) most life c line old r a new → Promises r a (after c r a)
-request-promises most life c line old (request.CommitUnder t key) a new does =
+request-promises : (most life : ℕ) (c : Contents) (ps : List Prepared) (line : List ℕ) (old : Stored) (r : Request) (a : AnswerLine) (new : Stored) → DoesRequest (Unit {0}) most life c ps line old r a new → Promises r a (after c r a)
+request-promises most life c ps line old (request.CommitUnder t key) a new does =
     either (t.life == life) does
-    (λ p. subst (λ x. Promises (request.CommitUnder t key) x (after c (request.CommitUnder t key) x)) (sym p.3) (commit-promises c t key p.0 (p.1 tt)))
-    (λ p. subst (λ x. Promises (request.CommitUnder t key) x (after c (request.CommitUnder t key) x)) (sym p.2) (not-open-promises c t key p.0 (p.1 tt)))
-request-promises most life c line old (request.DoUnder key) a new does =
+    (λ p. subst (λ x. Promises (request.CommitUnder t key) x (after c (request.CommitUnder t key) x)) (sym p.3) (commit-promises c old t key p.0 (p.1 tt)))
+    (λ p. subst (λ x. Promises (request.CommitUnder t key) x (after c (request.CommitUnder t key) x)) (sym p.2) (foreign-promises c old ps t key p.0 (p.1 tt)))
+request-promises most life c ps line old (request.DoUnder key) a new does =
     either (is_epoch_full most old) does
-    (λ p. subst (λ x. Promises (request.DoUnder key) x (after c (request.DoUnder key) x)) (sym p.2) (draining-promises c key p.0 (p.1 tt)))
-    (λ p. subst (λ x. Promises (request.DoUnder key) x (after c (request.DoUnder key) x)) (sym p.5) (do-promises c key life p.2 (p.3 tt)))
-request-promises most life c line old r a new does = tt
+    (λ p. subst (λ x. Promises (request.DoUnder key) x (after c (request.DoUnder key) x)) (sym p.2) (draining-promises c old key p.0 (p.1 tt)))
+    (λ p. subst (λ x. Promises (request.DoUnder key) x (after c (request.DoUnder key) x)) (sym p.5) (do-promises c old key life ps p.2 (p.3 tt)))
+request-promises most life c ps line old r a new does = tt
 
 answer-promises : (most life : ℕ) (c : Contents) (line : List ℕ) (old : Stored) (a : Answered) (new : Stored) → IsAnswered (Unit {0}) most life c line old a new → LinePromises (asked_by line).request a.answer (said_after c line a.answer)
 answer-promises most life c line old a new answered =
-    elim (asked_by line).request as (λ (q : Result Request RequestFault). MatchResult q (λ r. DoesRequest (Unit {0}) most life c line old r a.answer new) (λ fault. (a.answer ≡ answer.Fault fault) × (new ≡ old))
-    → LinePromises q a.answer (record c { outcomes = outcomes_after (kept_answered q a.answer) c.outcomes })) [
-      | Ok r ↦ λ does. request-promises most life c line old r a.answer new does
+    elim (asked_by line).request as (λ (q : Result Request RequestFault). MatchResult q (λ r. DoesRequest (Unit {0}) most life c answered.prepared line old r a.answer new) (λ fault. (a.answer ≡ answer.Fault fault) × (new ≡ old))
+    → LinePromises q a.answer (record c { outcomes = outcomes_after (kept_answered q a.answer) c.outcomes; prepared = prepared_answered q a.answer c.prepared })) [
+      | Ok r ↦ λ does. request-promises most life c answered.prepared line old r a.answer new does
       | Err fault ↦ λ told. tt
     ] answered.request
 
 -- ---- lines
 
-next-outcomes : (waits : Option Extension) (c now : Contents) → SaysNext waits c now → now.outcomes ≡ c.outcomes
-next-outcomes None c now says = says.2
-next-outcomes (Some e) c now says = says.outcomes
+next-outcomes : (waits : Option Extension) (ps : List Prepared) (c now : Contents) → SaysNext waits ps c now → now.outcomes ≡ c.outcomes
+next-outcomes None ps c now says = says.2
+next-outcomes (Some e) ps c now says = says.0.outcomes
 
 pub serves-promises : {most : ℕ} {c : Contents} {begins : ℕ} {lines : List (List ℕ)} {old : Stored} {answers : List Answered} {life : ℕ} {said : Contents} {new : Stored} {ended : Option Asked} {waits : Option Extension}
     → Serves (Unit {0}) most c begins lines old answers life said new ended waits → (line : List ℕ) (a : Answered) → is_lasting a.answer ≡ true → TellsSuch lines answers (IsIt line a)
@@ -182,17 +196,17 @@ serves-promises (Serves.end lines asked old new answers life said waits before e
     serves-promises before line a lasting
     (told-first lines (asked ∷ []) answers [] (IsIt line a) (it-lasts line a lasting) (serves-count before).0 refl (subst (λ xs. TellsSuch (lines ++ asked ∷ []) xs (IsIt line a)) (sym (append-nil answers)) told))
 serves-promises (Serves.forget lines old mid answers life n said ended waits before) line a lasting told = serves-promises before line a lasting told
-serves-promises (Serves.epoch lines old mid new answers life next said file waits before full renews follows says) line a lasting told =
-    promises-stay (asked_by line).request a.answer said file (λ n kept has. ap (λ outcomes. outcomes n) (next-outcomes waits said file (says tt)) ∙ has)
+serves-promises (Serves.epoch lines old mid new answers life next said file waits ps new_ps before full renews are follows says) line a lasting told =
+    promises-stay (asked_by line).request a.answer said file (λ n kept has. ap (λ outcomes. outcomes n) (next-outcomes waits new_ps said file (says tt)) ∙ has)
     (serves-promises before line a lasting (told-epoch waits mid lines answers (IsIt line a) told))
 
 -- ---- a file
 
 file-knows : {over : Type 0} {waits : Option Extension} {life : ℕ} {said : Contents} {s : Stored} {c : Contents} → IsStoreFile over waits life said s c → (n : ℕ) (kept : KeyedOutcome) → said.outcomes n ≡ Some kept → c.outcomes n ≡ Some kept
-file-knows (IsStoreFile.present c is lives knows) n kept has = ap (λ outcomes. outcomes n) knows ∙ has
-file-knows (IsStoreFile.closed c so is lives knows) n kept has = ap (λ outcomes. outcomes n) knows ∙ has
-file-knows {waits = waits} (IsStoreFile.anew c now next so is lives knows begins) n kept has =
-    ap (λ outcomes. outcomes n) (next-outcomes waits c now (next-says waits _ next c now begins)) ∙ ap (λ outcomes. outcomes n) knows ∙ has
+file-knows (IsStoreFile.present c is lives knows) n kept has = ap (λ outcomes. outcomes n) knows.0 ∙ has
+file-knows (IsStoreFile.closed c so is lives knows) n kept has = ap (λ outcomes. outcomes n) knows.0 ∙ has
+file-knows {waits = waits} {said = said} {s = s} (IsStoreFile.anew c now next ps so is lives knows begins) n kept has =
+    ap (λ outcomes. outcomes n) (next-outcomes waits ps c now (next-says waits (prepared_in (now_says said s)) (closed_store said s) next ps c now begins)) ∙ ap (λ outcomes. outcomes n) knows.0 ∙ has
 
 pub keys-found : {S : Type 0} (g : Ghosts S) (b : Began) (last : List (List ℕ) → Type 0) (seen rest half : List ℕ) (lines : List (List ℕ)) (answers : List Answered) (now : Durable S) → AreLines seen lines half
     → Survives g b last (seen ++ rest) answers now → KeysAreFound g lines answers now

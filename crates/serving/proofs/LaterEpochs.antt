@@ -2,6 +2,8 @@
 use Rattle.std.proofs.Common.{◌≡◌, ◌∙◌, inl, inr, ℕ, suc, true, Option, None, Result, Ok, Err, List, [], ◌∷◌, ◌++◌, refl, sym, ap, subst}
 use Rattle.std.proofs.lemmas.List.{append_assoc, append-nil}
 use Rattle.std.specs.Prelude.{OnOk}
+use Rattle.std.specs.declared.vec.Vec.{Vec}
+use Rattle.std.specs.declared.alloc.Global.{Global}
 use Rattle.std.specs.Io.KnownBytes.{Appends}
 use Rattle.std.proofs.KnownBytes.{Appends-trans}
 use Rattle.sqlite_trees.specs.declared.store.Store.{Ghosts}
@@ -11,9 +13,11 @@ use Rattle.journal.proofs.Writes.{none-pending}
 use Rattle.journal.specs.Journal.{Clean, IsJournal, ShowsCommit, durable, written}
 use Rattle.store_laws.specs.Stored.{Stored}
 use Rattle.durable_store.specs.declared.durable.Durable.{Durable}
-use Rattle.durable_store.specs.Durable.{IsDurable, with_all}
+use Rattle.durable_store.specs.Durable.{IsDurable, prepared_in, with_all}
 use Rattle.durable_store.specs.Recovered.{IsStoreOf}
-use Rattle.store.specs.Ends.{closing}
+use Rattle.store.specs.Ends.{closing_but}
+use Rattle.journal.specs.declared.prepared_row.Prepared.{Prepared}
+use Rattle.durable_store.specs.Held.{prepared_numbers}
 use Rattle.serving.specs.declared.answer_line.Answered.{Answered}
 use Rattle.serving.specs.declared.extension.Extension.{Extension}
 use Rattle.serving.specs.declared.session.Session.{Session}
@@ -25,10 +29,12 @@ use Rattle.serving.specs.Epochs.{LeavesEpochs, Reaches, WritesEpochs, aborted}
 use Rattle.serving.specs.Follows.{HasMore, LeavesMore}
 use Rattle.serving.specs.Group.{HasTold}
 use Rattle.serving.specs.NextEpoch.{IsNextFile, IsNextStore, SaysNext, SaysSame, answers_in, late_answer, limit_while}
+use Rattle.serving.specs.Prepared.{now_says}
 use Rattle.serving.specs.Requests.{LetsGo}
 use Rattle.serving.specs.Served.{Serves}
 use Rattle.serving.specs.Server.{StaysInEpoch, HasServed, Lasts, life_of}
 use Rattle.serving.specs.Told.{answers_text}
+use Rattle.serving.proofs.HeldSaid.{held-said, held-written}
 use Rattle.serving.proofs.MoreEvents.{follows-with_all}
 use Rattle.serving.proofs.NextEpochs.{next-file-as, next-headers, next-says, next-store-as, raised, says-next-then}
 use Rattle.serving.proofs.Premises.{serves-weaker}
@@ -40,8 +46,8 @@ use Rattle.serving.proofs.KeptEpochs.{keeps-none, keeps-then, least-more, least-
 pub reaches-then : {a b c : Contents} {later : List Contents} (ended : List Contents) → Reaches a ended b → Reaches b later c → Reaches a (ended ++ later) c
 reaches-then {a} {b} ended first Reaches.none = subst (λ es. Reaches a es b) (sym (append-nil ended)) first
 reaches-then ended first (Reaches.events later mid new before follows) = Reaches.events (ended ++ later) mid new (reaches-then ended first before) follows
-reaches-then {a} ended first (Reaches.epoch later mid now waits old new before is next) =
-    subst (λ es. Reaches a es now) (append_assoc ended later (mid ∷ [])) (Reaches.epoch (ended ++ later) mid now waits old new (reaches-then ended first before) is next)
+reaches-then {a} ended first (Reaches.epoch later mid now waits old new ps before is next) =
+    subst (λ es. Reaches a es now) (append_assoc ended later (mid ∷ [])) (Reaches.epoch (ended ++ later) mid now waits old new ps (reaches-then ended first before) is next)
 
 pub reaches-more : {a b : Contents} → HasMore a b → Reaches a [] b
 reaches-more {a} {b} follows = Reaches.events [] a b Reaches.none follows
@@ -100,21 +106,22 @@ pub is-store-of : {S : Type 0} (g : Ghosts S) (d : Durable S) → IsDurable g d 
 is-store-of g d sound clean = record { types = sound.types clean; history = sound.history clean; limit = sound.limit }
 
 -- the new epoch of what was written with an abort of each transaction that was open
-next-reached : {S : Type 0} (g : Ghosts S) (waits : Option Extension) (old mid : Durable S) (new : Stored) (now : Contents) → IsDurable g mid → Clean g mid.journal
-    → written g mid.journal ≡ with_all (written g old.journal) (closing old.store.history) → IsNextFile waits mid.store new (written g mid.journal) now → Reaches (written g old.journal) (written g mid.journal ∷ []) now
-next-reached g waits old mid new now sound clean wrote next =
-    Reaches.epoch [] (written g mid.journal) now waits mid.store new
-    (subst (λ c. Reaches (written g old.journal) [] c) (sym wrote) (reaches-more (follows-with_all (written g old.journal) (closing old.store.history)))) (is-store-of g mid sound clean) next
+next-reached : {S : Type 0} (g : Ghosts S) (waits : Option Extension) (old mid : Durable S) (new : Stored) (ps : List Prepared) (now : Contents) → IsDurable g mid → Clean g mid.journal
+    → written g mid.journal ≡ with_all (written g old.journal) (closing_but (prepared_numbers old.prepared.items) old.store.history) → IsNextFile waits mid.prepared.items mid.store new ps (written g mid.journal) now → Reaches (written g old.journal) (written g mid.journal ∷ []) now
+next-reached g waits old mid new ps now sound clean wrote next =
+    Reaches.epoch [] (written g mid.journal) now waits mid.store new ps
+    (subst (λ c. Reaches (written g old.journal) [] c) (sym wrote) (reaches-more (follows-with_all (written g old.journal) (closing_but (prepared_numbers old.prepared.items) old.store.history)))) (is-store-of g mid sound clean)
+    (subst (λ all. IsNextFile waits all mid.store new ps (written g mid.journal) now) (held-written g mid sound clean) next)
 
 -- the epoch was closed and its history kept, and then the file began anew
 pub left-renewed : {S : Type 0} (g : Ghosts S) (waits : Option Extension) (old mid new : Durable S) (kept kept_now : Option (List KeptHistory)) → IsDurable g mid → (Clean g mid.journal → Clean g old.journal)
-    → (Clean g mid.journal → written g mid.journal ≡ with_all (written g old.journal) (closing old.store.history)) → (Clean g mid.journal → KeepsEpochs kept kept_now (written g mid.journal ∷ []))
+    → (Clean g mid.journal → written g mid.journal ≡ with_all (written g old.journal) (closing_but (prepared_numbers old.prepared.items) old.store.history)) → (Clean g mid.journal → KeepsEpochs kept kept_now (written g mid.journal ∷ []))
     → LeavesEpochs g old mid kept kept_now → LeavesNext g waits mid new → LeavesEpochs g old new kept kept_now
 left-renewed g waits old mid new kept kept_now sound clean wrote keeps first crash db left = elim (crash db left) [
   | inl now ↦ (
-      let (s, next) = now.2 in
+      let (s, ps, next) = now.2 in
       let ended = written g mid.journal ∷ [] in
-      inl (clean now.0, now.1, (ended, next-reached g waits old mid s (contents_of db) sound now.0 (wrote now.0) next, least-these kept kept_now ended (keeps now.0))))
+      inl (clean now.0, now.1, (ended, next-reached g waits old mid s ps (contents_of db) sound now.0 (wrote now.0) next, least-these kept kept_now ended (keeps now.0))))
   | inr before ↦ first db before
 ]
 
@@ -126,38 +133,41 @@ shown-durable g d shows now =
 
 -- the file of a new epoch, and its life
 module _ {S : Type 0} {g : Ghosts S} (waits : Option Extension) (old mid new : Durable S) (sound : IsDurable g mid) (clean : Clean g new.journal → Clean g mid.journal)
-    (wrote : Clean g mid.journal → written g mid.journal ≡ with_all (written g old.journal) (closing old.store.history)) (now : Clean g new.journal) (shows : ShowsCommit g new.journal)
-    (is : Clean g new.journal → IsNextFile waits mid.store new.store (written g mid.journal) (durable g new.journal)) where
-  written-now : IsNextFile waits mid.store new.store (written g mid.journal) (written g new.journal)
-  written-now = subst (λ c. IsNextFile waits mid.store new.store (written g mid.journal) c) (shown-durable g new shows now) (is now)
+    (wrote : Clean g mid.journal → written g mid.journal ≡ with_all (written g old.journal) (closing_but (prepared_numbers old.prepared.items) old.store.history)) (now : Clean g new.journal) (shows : ShowsCommit g new.journal)
+    (is : Clean g new.journal → IsNextFile waits mid.prepared.items mid.store new.store new.prepared.items (written g mid.journal) (durable g new.journal)) where
+  written-now : IsNextFile waits mid.prepared.items mid.store new.store new.prepared.items (written g mid.journal) (written g new.journal)
+  written-now = subst (λ c. IsNextFile waits mid.prepared.items mid.store new.store new.prepared.items (written g mid.journal) c) (shown-durable g new shows now) (is now)
 
   reached : Reaches (written g old.journal) (written g mid.journal ∷ []) (written g new.journal)
-  reached = next-reached g waits old mid new.store (written g new.journal) sound (clean now) (wrote (clean now)) written-now
+  reached = next-reached g waits old mid new.store new.prepared.items (written g new.journal) sound (clean now) (wrote (clean now)) written-now
 
   next-life : IsJournal g new.journal → (written g mid.journal).headers ≡ mid.journal.header ∷ [] → life_of new ≡ suc (life_of mid)
   next-life journal last =
       let all : new.journal.header ∷ [] ≡ raised (mid.journal.header ∷ []) =
-      sym ((journal now).0.header_is (shows now).0.sound) ∙ next-headers waits mid.store new.store (written g mid.journal) (written g new.journal) written-now ∙ ap raised last in
+      sym ((journal now).0.header_is (shows now).0.sound) ∙ next-headers waits mid.prepared.items mid.store new.store new.prepared.items (written g mid.journal) (written g new.journal) written-now ∙ ap raised last in
       ap life_in all
 
 -- ---- the end of an epoch
 
 -- what ends an epoch, of how it ended
-pub ends-epoch : {S E T : Type 0} {g : Ghosts S} (waits : Option Extension) (old mid new : Durable S) (r : Result T E) → IsDurable g mid → LetsGo (aborted old.store) mid.store → mid.journal.header ≡ old.journal.header
-    → (Clean g new.journal → Clean g mid.journal) → (Clean g mid.journal → written g mid.journal ≡ with_all (written g old.journal) (closing old.store.history))
-    → OnOk r (IsNextStore waits mid.store new.store) → OnOk r (IsDurable g new) → OnOk r (ShowsCommit g new.journal) → OnOk r (Clean g new.journal → (written g mid.journal).headers ≡ mid.journal.header ∷ [])
-    → OnOk r (Clean g new.journal → IsNextFile waits mid.store new.store (written g mid.journal) (durable g new.journal)) → OnOk r (EndsEpoch g waits old new)
-ends-epoch {S} {E} {T} {g} waits old mid new (Ok u) sound aborts header clean wrote begins is_durable shows last is = record {
-  store = next-store-as waits (aborted old.store) mid.store new.store aborts begins;
-  durable = λ now. next-file-as waits (aborted old.store) mid.store new.store (with_all (written g old.journal) (closing old.store.history)) (durable g new.journal) aborts
-      (subst (λ c. IsNextFile waits mid.store new.store c (durable g new.journal)) (wrote (clean now)) (is now));
+pub ends-epoch : {S E T : Type 0} {g : Ghosts S} (waits : Option Extension) (old mid new : Durable S) (r : Result T E) → IsDurable g mid → LetsGo (aborted old.prepared.items old.store) mid.store → mid.prepared ≡ old.prepared → mid.journal.header ≡ old.journal.header
+    → (Clean g new.journal → Clean g mid.journal) → (Clean g mid.journal → written g mid.journal ≡ with_all (written g old.journal) (closing_but (prepared_numbers old.prepared.items) old.store.history))
+    → OnOk r (IsNextStore waits mid.prepared.items mid.store new.store new.prepared.items) → OnOk r (IsDurable g new) → OnOk r (ShowsCommit g new.journal) → OnOk r (Clean g new.journal → (written g mid.journal).headers ≡ mid.journal.header ∷ [])
+    → OnOk r (Clean g new.journal → IsNextFile waits mid.prepared.items mid.store new.store new.prepared.items (written g mid.journal) (durable g new.journal)) → OnOk r (EndsEpoch g waits old new)
+ends-epoch {S} {E} {T} {g} waits old mid new (Ok u) sound aborts same header clean wrote begins is_durable shows last is = record {
+  store = next-store-as waits old.prepared.items (aborted old.prepared.items old.store) mid.store new.store new.prepared.items aborts
+      (subst (λ (all : Vec Prepared Global). IsNextStore waits all.items mid.store new.store new.prepared.items) same begins);
+  durable = λ now. next-file-as waits old.prepared.items (aborted old.prepared.items old.store) mid.store new.store new.prepared.items
+      (with_all (written g old.journal) (closing_but (prepared_numbers old.prepared.items) old.store.history)) (durable g new.journal) aborts
+      (subst (λ (all : Vec Prepared Global). IsNextFile waits all.items mid.store new.store new.prepared.items (with_all (written g old.journal) (closing_but (prepared_numbers old.prepared.items) old.store.history)) (durable g new.journal)) same
+      (subst (λ c. IsNextFile waits mid.prepared.items mid.store new.store new.prepared.items c (durable g new.journal)) (wrote (clean now)) (is now)));
   life = λ now. next-life waits old mid new sound clean wrote now shows is is_durable.journal (last now) ∙ ap (λ (h : Header). suc h.life) header;
 }
-ends-epoch waits old mid new (Err e) sound aborts header clean wrote next is_durable shows last is = tt
+ends-epoch waits old mid new (Err e) sound aborts same header clean wrote next is_durable shows last is = tt
 
 pub writes-epoch : {S E T : Type 0} {g : Ghosts S} (waits : Option Extension) (old mid new : Durable S) (kept kept_now : Option (List KeptHistory)) (r : Result T E) → IsDurable g mid → (Clean g new.journal → Clean g mid.journal)
-    → (Clean g mid.journal → written g mid.journal ≡ with_all (written g old.journal) (closing old.store.history)) → (Clean g mid.journal → KeepsEpochs kept kept_now (written g mid.journal ∷ []))
-    → OnOk r (ShowsCommit g new.journal) → OnOk r (Clean g new.journal → IsNextFile waits mid.store new.store (written g mid.journal) (durable g new.journal))
+    → (Clean g mid.journal → written g mid.journal ≡ with_all (written g old.journal) (closing_but (prepared_numbers old.prepared.items) old.store.history)) → (Clean g mid.journal → KeepsEpochs kept kept_now (written g mid.journal ∷ []))
+    → OnOk r (ShowsCommit g new.journal) → OnOk r (Clean g new.journal → IsNextFile waits mid.prepared.items mid.store new.store new.prepared.items (written g mid.journal) (durable g new.journal))
     → OnOk r (WritesEpochs g old new kept kept_now)
 writes-epoch {S} {E} {T} {g} waits old mid new kept kept_now (Ok u) sound clean wrote keeps shows is =
     λ now. (written g mid.journal ∷ [], reached waits old mid new sound clean wrote now shows is, keeps (clean now))
@@ -231,23 +241,29 @@ served-epoch {S} {g} {began} {told} {bytes} {old} new kept kept_now none empty f
   kept = ap (λ v. v.items) line ∙ served.kept;
   lasts = lasts-epoch new.session kept kept_now served.lasts sound named most writes clean crash;
   said = written g new.session.store.journal;
-  says = λ now. (refl, refl, refl);
+  says = λ now. (refl, refl, refl, refl);
   serves =
       let file = written g began.store.journal in
       let waits = old.session.waiting in
       let late = answers_in (late_answer waits old.session.store.store) in
-      let closed = with_all (written g old.session.store.journal) (closing old.session.store.store.history) in
+      let ps = old.session.store.prepared.items in
+      let new_ps = new.session.store.prepared.items in
+      let over = aborted ps old.session.store.store in
+      let closed = with_all (written g old.session.store.journal) (closing_but (prepared_numbers ps) old.session.store.store.history) in
+      let are : Clean g new.session.store.journal → ps ≡ prepared_in (now_says served.said old.session.store.store) =
+      λ now. held-said g served.said old.session.store served.lasts.sound (clean now) (served.says (clean now)) in
       let so_far : Serves (Clean g new.session.store.journal) began.most_events file began.life served.lines began.store.store (told ++ old.answers.items) old.session.life served.said old.session.store.store None waits =
       serves-weaker clean
       (subst (λ e. Serves (Clean g old.session.store.journal) began.most_events file began.life served.lines began.store.store (told ++ old.answers.items) old.session.life served.said old.session.store.store e waits) none served.serves) in
       let life : Clean g new.session.store.journal → new.session.life ≡ suc old.session.life = λ now. named ∙ ends.life now ∙ ap suc (sym served.lasts.named) in
-      let says : Clean g new.session.store.journal → SaysNext waits served.said (written g new.session.store.journal) =
-      λ now. says-next-then waits served.said closed (written g new.session.store.journal) ((served.says (clean now)).0, (served.says (clean now)).1, (served.says (clean now)).2)
-      (next-says waits (aborted old.session.store.store) new.session.store.store closed (written g new.session.store.journal)
-      (subst (λ c. IsNextFile waits (aborted old.session.store.store) new.session.store.store closed c) (shown-durable g new.session.store shows now) (ends.durable now))) in
+      let says : Clean g new.session.store.journal → SaysNext waits new_ps served.said (written g new.session.store.journal) =
+      λ now. let it = served.says (clean now) in
+      says-next-then waits new_ps served.said closed (written g new.session.store.journal) (it.0, it.1, it.2, it.3)
+      (next-says waits ps over new.session.store.store new_ps closed (written g new.session.store.journal)
+      (subst (λ c. IsNextFile waits ps over new.session.store.store new_ps closed c) (shown-durable g new.session.store shows now) (ends.durable now))) in
       rw (ended ∙ none, no_more, epoch-told told old.answers.items new.answers.items late empty (ap (λ v. v.items) answers))
-      (Serves.epoch served.lines began.store.store old.session.store.store new.session.store.store (told ++ old.answers.items) old.session.life new.session.life served.said (written g new.session.store.journal) waits so_far
-      (subst (λ n. is_epoch_full (limit_while waits n) old.session.store.store ≡ true) served.lasts.most full) ends.store life says);
+      (Serves.epoch served.lines began.store.store old.session.store.store new.session.store.store (told ++ old.answers.items) old.session.life new.session.life served.said (written g new.session.store.journal) waits ps new_ps so_far
+      (subst (λ n. is_epoch_full (limit_while waits n) old.session.store.store ≡ true) served.lasts.most full) ends.store are life says);
 }
 
 -- what it has answered

@@ -21,12 +21,16 @@ use Rattle.serving.specs.declared.server.Server.{Server}
 use Rattle.serving.specs.Does.{is_epoch_full}
 use Rattle.serving.specs.EpochEnd.{BeginsAnew, IsEpochOver, LeavesEnd}
 use Rattle.serving.specs.Follows.{LeavesWritten}
-use Rattle.serving.specs.Left.{AreFirstAnswers, IsStoreFile, IsLeftAfter, LeavesLines, Survives, Began, began_at}
+use Rattle.serving.specs.Left.{AreFirstAnswers, IsStoreFile, closed_store, IsLeftAfter, LeavesLines, Survives, Began, began_at}
 use Rattle.serving.specs.Lines.{AreLines, asks_end}
-use Rattle.serving.specs.NextEpoch.{SaysSame, limit_while}
+use Rattle.durable_store.specs.Durable.{prepared_in}
+use Rattle.serving.specs.Epochs.{aborted}
+use Rattle.serving.specs.NextEpoch.{IsNextFile, SaysSame, limit_while}
+use Rattle.serving.specs.Prepared.{now_says}
 use Rattle.serving.specs.Served.{Serves}
 use Rattle.serving.specs.Server.{AnswersLine, DoesLine, HasServed, KeepsByte, StaysInEpoch, TakesByte, TakesEnd, life_of}
 use Rattle.serving.specs.Told.{has_lasting, is_lasting}
+use Rattle.serving.proofs.HeldSaid.{held-said}
 use Rattle.serving.proofs.LaterEpochs.{is-store-of, shown-durable}
 use Rattle.serving.proofs.Premises.{serves-weaker}
 
@@ -77,7 +81,7 @@ rest-read seen bytes i = append_assoc seen (take i bytes) (drop i bytes) ∙ ap 
 file-last : {over others : Type 0} {waits : Option Extension} {life : ℕ} {said : Contents} {s : Stored} {c : Contents} → (over → others) → IsStoreFile over waits life said s c → IsStoreFile others waits life said s c
 file-last turn (IsStoreFile.present c is lives knows) = IsStoreFile.present c is lives knows
 file-last turn (IsStoreFile.closed c so is lives knows) = IsStoreFile.closed c (turn so) is lives knows
-file-last turn (IsStoreFile.anew c now next so is lives knows begins) = IsStoreFile.anew c now next (turn so) is lives knows begins
+file-last turn (IsStoreFile.anew c now next ps so is lives knows begins) = IsStoreFile.anew c now next ps (turn so) is lives knows begins
 
 module _ {b : Began} where
   -- of more bytes
@@ -190,7 +194,7 @@ module _ {S : Type 0} {g : Ghosts S} where
       → c ≡ written g s.session.store.journal → c.headers ≡ s.session.store.journal.header ∷ [] → IsStoreFile over waits s.session.life said s.session.store.store c
   file-written s said c says sound named clean is headers =
       IsStoreFile.present c (subst (λ (x : Contents). IsStoreOf x s.session.store.store) (sym is) (is-store-of g s.session.store sound clean)) (s.session.store.journal.header, headers, sym named)
-      (ap (λ (x : Contents). x.outcomes) is ∙ says.2)
+      (ap (λ (x : Contents). x.outcomes) is ∙ says.2, ap (λ (x : Contents). x.prepared) is ∙ says.3)
 
   -- where one is to a commit, all that was written is durable
   pub lines-group : (b : Began) {last : List (List ℕ) → Type 0} {all : List (List ℕ)} {half seen : List ℕ} {told : List Answered} (mid new : Session S) (rest : List ℕ) (answers : List Answered) (said : Contents) (ended : Option Asked)
@@ -208,7 +212,7 @@ module _ {S : Type 0} {g : Ghosts S} where
             let store : IsStoreOf (contents_of db) mid.store.store = subst (λ (x : Contents). IsStoreOf x mid.store.store) (sym (is ∙ same clean)) (is-store-of g mid.store sound was) in (
               (so_far db left).0,
               left-of seen rest all half (contents_of db) (told ++ answers) [] (told ++ answers) mid.life said mid.store.store ended mid.waiting asked (append-nil (told ++ answers)) (serves-weaker (λ known. was) serves)
-                  (IsStoreFile.present (contents_of db) store (new.store.journal.header, header, stays.same ∙ sym named) (ap (λ (x : Contents). x.outcomes) (is ∙ same clean) ∙ (says was).2)),
+                  (IsStoreFile.present (contents_of db) store (new.store.journal.header, header, stays.same ∙ sym named) (ap (λ (x : Contents). x.outcomes) (is ∙ same clean) ∙ (says was).2, ap (λ (x : Contents). x.prepared) (is ∙ same clean) ∙ (says was).3)),
             )
         | false ↦ λ none. lines-first g b new.store (λ done first. first-told none first) so_far
       ] refl
@@ -224,16 +228,22 @@ module _ {S : Type 0} {g : Ghosts S} where
       let store : IsStoreOf (contents_of db) began.store.store = subst (λ (x : Contents). IsStoreOf x began.store.store) (sym is) (is-store-of g began.store sound clean) in (
         subst IsFile (sym (last_commit db it.is_open left)) (file.kept it.is_open),
         left-of [] [] [] [] (contents_of db) [] [] [] began.life (written g began.store.journal) began.store.store None None (record { text = refl; whole = tt; within = refl }) refl (Serves.none began.store.store)
-            (IsStoreFile.present (contents_of db) store (began.store.journal.header, ap (λ (c : Contents). c.headers) is ∙ file.header_is it.sound, sym named) (ap (λ (c : Contents). c.outcomes) is)),
+            (IsStoreFile.present (contents_of db) store (began.store.journal.header, ap (λ (c : Contents). c.headers) is ∙ file.header_is it.sound, sym named) (ap (λ (c : Contents). c.outcomes) is, ap (λ (c : Contents). c.prepared) is)),
       )
 
 -- the file of an epoch that is over
 file-ended : {S : Type 0} (g : Ghosts S) {over : Type 0} (waits : Option Extension) (s : Server S) (said c : Contents) → SaysSame said (written g s.session.store.journal) → over → s.session.life ≡ life_of s.session.store
+    → IsDurable g s.session.store → Clean g s.session.store.journal
     → (IsEpochOver g s.session.store c ⊎ BeginsAnew g waits s.session.store c) → IsStoreFile over waits s.session.life said s.session.store.store c
-file-ended g waits s said c says so named ended = elim ended [
-  | inl it ↦ IsStoreFile.closed c so it.0 (s.session.store.journal.header, it.1, sym named) (it.2 ∙ says.2)
-  | inr it ↦ IsStoreFile.anew it.before c it.next so it.over.0 (s.session.store.journal.header, it.over.1, sym named) (it.over.2 ∙ says.2) it.is
-]
+file-ended g waits s said c says so named sound clean ended =
+    let store = s.session.store.store in
+    let are : s.session.store.prepared.items ≡ prepared_in (now_says said store) = held-said g said s.session.store sound clean says in
+    let closed : (c : Contents) → IsStoreOf c (aborted s.session.store.prepared.items store) → IsStoreOf c (closed_store said store) = λ c it. subst (λ ps. IsStoreOf c (aborted ps store)) are it in
+    elim ended [
+      | inl it ↦ IsStoreFile.closed c so (closed c it.0) (s.session.store.journal.header, it.1, sym named) (it.2 ∙ says.2, it.3 ∙ says.3)
+      | inr it ↦ IsStoreFile.anew it.before c it.next it.prepared so (closed it.before it.over.0) (s.session.store.journal.header, it.over.1, sym named) (it.over.2 ∙ says.2, it.over.3 ∙ says.3)
+          (subst (λ ps. IsNextFile waits ps (aborted ps store) it.next it.prepared it.before c) are it.is)
+    ]
 
 module _ {S : Type 0} {g : Ghosts S} {began : Session S} where
   -- after all lines so far
@@ -285,7 +295,7 @@ module _ {S : Type 0} {g : Ghosts S} {began : Session S} where
       → (served : HasServed g began told seen s) → ((is_epoch_full (limit_while s.session.waiting began.most_events) s.session.store.store ≡ true) ⊎ last served.lines)
       → LeavesEnd g s.session.waiting s.session.store new → LeavesLines g (began_at g began) last (seen ++ rest) told s.answers.items s.session.store → LeavesLines g (began_at g began) last (seen ++ rest) told s.answers.items new
   lines-ended s new rest served so crash so_far db left = elim (crash db left) [
-    | inl it ↦ (it.1, left-now s rest (contents_of db) served it.0 (file-ended g s.session.waiting s served.said (contents_of db) (served.says it.0) so served.lasts.named it.2))
+    | inl it ↦ (it.1, left-now s rest (contents_of db) served it.0 (file-ended g s.session.waiting s served.said (contents_of db) (served.says it.0) so served.lasts.named served.lasts.sound it.0 it.2))
     | inr before ↦ so_far db before
   ]
 

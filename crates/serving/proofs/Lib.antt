@@ -2,9 +2,13 @@ pub mod Results
 pub mod InTurn
 pub mod Peeked
 pub mod ToldReplies
+pub mod HeldSaid
+pub mod GivenNames
 pub mod MoreEvents
 pub mod Staying
 pub mod UnderKeys
+pub mod KeptNow
+pub mod SameSaid
 pub mod Premises
 pub mod Attempts
 pub mod ByteByByte

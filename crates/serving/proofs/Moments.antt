@@ -4,9 +4,11 @@ use Rattle.std.proofs.lemmas.List.{append-nil, append_assoc, map-append, take-ap
 use Rattle.object_trait.specs.declared.event.Event.{Event}
 use Rattle.object_trait.specs.declared.event.EventKind.{EventKind}
 use Rattle.store_laws.specs.Stored.{Stored}
-use Rattle.store.specs.Ends.{closing}
+use Rattle.store.specs.Ends.{closing_but}
+use Rattle.journal.specs.declared.prepared_row.Prepared.{Prepared}
 use Rattle.journal.specs.Contents.{Contents}
-use Rattle.durable_store.specs.Durable.{events_of_kinds, kinds}
+use Rattle.durable_store.specs.Durable.{events_of_kinds, prepared_in, kinds}
+use Rattle.durable_store.specs.Held.{prepared_numbers}
 use Rattle.durable_store.specs.Recovered.{IsStoreOf}
 use Rattle.request_text.specs.declared.request.Asked.{Asked}
 use Rattle.serving.specs.declared.answer_line.AnswerLine.{AnswerLine}
@@ -16,10 +18,11 @@ use Rattle.serving.specs.declared.extension.Extension.{Extension}
 use Rattle.serving.specs.AnswersFound.{GoesFurther}
 use Rattle.serving.specs.Archives.{life_in}
 use Rattle.serving.specs.Epochs.{aborted}
-use Rattle.serving.specs.Left.{Began, IsInLife, IsLeftAfter, IsStoreFile}
+use Rattle.serving.specs.Left.{Began, IsInLife, IsLeftAfter, IsStoreFile, closed_store}
 use Rattle.serving.specs.Lines.{AreLines}
 use Rattle.serving.specs.NextEpoch.{MayWait, is_not_added, limit_while}
 use Rattle.serving.specs.Places.{TellsSuch}
+use Rattle.serving.specs.Prepared.{now_says}
 use Rattle.serving.specs.Served.{IsAnswered, Serves}
 use Rattle.serving.specs.Told.{is_lasting}
 use Rattle.serving.proofs.FirstLines.{either-lines}
@@ -40,7 +43,11 @@ kinds-events (k ∷ ks) = ap (λ xs. k ∷ xs) (kinds-events ks)
 goes-grow : {born : ℕ} {moment : Stored} {life : ℕ} {old : Stored} (new : Stored) → GoesFurther born moment life old → Grows old new → GoesFurther born moment life new
 goes-grow {moment = moment} new (GoesFurther.same old more is) (events, grown, same) =
     GoesFurther.same new (more ++ kinds events) (ap kinds grown ∙ kinds-append old.history events ∙ ap (λ ks. ks ++ kinds events) is ∙ append_assoc (kinds moment.history) more (kinds events))
-goes-grow new (GoesFurther.epoch life waits before first old goes renews begins) (events, grown, same) = GoesFurther.epoch life waits before first new goes renews (same ∙ begins)
+goes-grow new (GoesFurther.epoch life waits ps next before first old goes renews begins) (events, grown, same) = GoesFurther.epoch life waits ps next before first new goes renews (same ∙ begins)
+
+-- an epoch is closed
+goes-close : {born : ℕ} {moment : Stored} {life : ℕ} {old : Stored} (ps : List Prepared) → GoesFurther born moment life old → GoesFurther born moment life (aborted ps old)
+goes-close {old = old} ps goes = goes-grow (aborted ps old) goes (closing_but (prepared_numbers ps) old.history, refl, refl)
 
 -- at some moment a line of this kind was done and so answered; a store in this life goes on from there
 pub record AnsweredAt (clean : Type 0) (P : List ℕ → Answered → Type 0) (life : ℕ) (now : Stored) : Type 0 where
@@ -74,7 +81,7 @@ serves-moment now (Serves.none s) P lasts told = absurd told
 serves-moment {clean} {most} now (Serves.line lines asked old mid new answers a life said waits before other may answered) P lasts told =
     let limit = limit_while waits most in
     elim (told-last lines answers asked a P ((serves-count before).1 refl) (answered-turn clean limit life said asked mid a new answered) told) [
-      | inl earlier ↦ moment-grows new (serves-moment now before P lasts earlier) (answered-grows clean limit life said asked mid a new answered)
+      | inl earlier ↦ moment-grows new (serves-moment now before P lasts earlier) (answered-grows clean now limit life said asked mid a new answered)
       | inr here ↦ record { line = asked; a = a; claims = here; most = limit; born = life; said = said; old = mid; new = new; answered = answered; goes_on = GoesFurther.same new [] (sym (append-nil (kinds new.history))) }
     ]
 serves-moment now (Serves.more lines asked old new answers a life said waits before may more) P lasts told =
@@ -87,8 +94,8 @@ serves-moment now (Serves.end lines asked old new answers life said waits before
     (told-first lines (asked ∷ []) answers [] P lasts (serves-count before).0 refl (subst (λ xs. TellsSuch (lines ++ asked ∷ []) xs P) (sym (append-nil answers)) told))
 serves-moment now (Serves.forget lines old mid answers life n said ended waits before) P lasts told =
     moment-grows (record mid { forgotten = n }) (serves-moment now before P lasts told) ([], sym (append-nil mid.history), refl)
-serves-moment {clean} now (Serves.epoch lines old mid new answers life next said file waits before full renews follows says) P lasts told =
-    let m = moment-grows (aborted mid) (serves-moment now before P lasts (told-epoch waits mid lines answers P told)) (closing mid.history, refl, refl) in
+serves-moment {clean} now (Serves.epoch lines old mid new answers life next said file waits ps new_ps before full renews are follows says) P lasts told =
+    let m = moment-grows (aborted ps mid) (serves-moment now before P lasts (told-epoch waits mid lines answers P told)) (closing_but (prepared_numbers ps) mid.history, refl, refl) in
     subst (λ n. AnsweredAt clean P n new) (sym (follows now))
     (record {
       line = m.line;
@@ -100,7 +107,7 @@ serves-moment {clean} now (Serves.epoch lines old mid new answers life next said
       old = m.old;
       new = m.new;
       answered = m.answered;
-      goes_on = GoesFurther.epoch life waits (aborted mid) new new m.goes_on renews refl;
+      goes_on = GoesFurther.epoch life waits ps new_ps (aborted ps mid) new new m.goes_on renews refl;
     })
 
 -- ---- of a file
@@ -111,7 +118,7 @@ IsGone born moment life happened = (born < life) ⊎ ((born ≡ life) × ((more 
 
 goes-gone : {born : ℕ} {moment : Stored} {life : ℕ} {now : Stored} → GoesFurther born moment life now → IsGone born moment life (kinds now.history)
 goes-gone (GoesFurther.same now more is) = inr (refl, (more, is))
-goes-gone (GoesFurther.epoch life waits old first now before renews begins) = elim (goes-gone before) [ inl over ↦ inl (omega (arith, over)) | inr it ↦ inl (omega (arith, it.0)) ]
+goes-gone (GoesFurther.epoch life waits ps next old first now before renews begins) = elim (goes-gone before) [ inl over ↦ inl (omega (arith, over)) | inr it ↦ inl (omega (arith, it.0)) ]
 
 store-gone : (c : Contents) (s : Stored) (life : ℕ) {born : ℕ} {moment : Stored} → IsStoreOf c s → GoesFurther born moment life s → IsGone born moment life c.events
 store-gone c s life {born} {moment} is goes = subst (λ ks. IsGone born moment life ks) (ap kinds is.history ∙ kinds-events c.events) (goes-gone goes)
@@ -130,10 +137,10 @@ gone-in c life born moment (h, said, lives) gone =
 pub file-goes : {over : Type 0} {waits : Option Extension} {life : ℕ} {said : Contents} {s : Stored} {c : Contents} (born : ℕ) (moment : Stored) → IsStoreFile over waits life said s c → GoesFurther born moment life s → FileGoesOn c born moment
 file-goes {over} {waits} {life} {said} {s} born moment (IsStoreFile.present c is lives knows) goes = gone-in c life born moment lives (store-gone c s life is goes)
 file-goes {over} {waits} {life} {said} {s} born moment (IsStoreFile.closed c so is lives knows) goes =
-    gone-in c life born moment lives (store-gone c (aborted s) life is (goes-grow (aborted s) goes (closing s.history, refl, refl)))
-file-goes {over} {waits} {life} {said} {s} born moment (IsStoreFile.anew c now next so is (h, headers, lives) knows begins) goes =
-    let gone = store-gone c (aborted s) life is (goes-grow (aborted s) goes (closing s.history, refl, refl)) in
-    let later : life_in now.headers ≡ suc life = ap life_in (next-headers waits (aborted s) next c now begins) ∙ ap (λ hs. life_in (raised hs)) headers ∙ ap suc lives in (
+    gone-in c life born moment lives (store-gone c (closed_store said s) life is (goes-close (prepared_in (now_says said s)) goes))
+file-goes {over} {waits} {life} {said} {s} born moment (IsStoreFile.anew c now next ps so is (h, headers, lives) knows begins) goes =
+    let gone = store-gone c (closed_store said s) life is (goes-close (prepared_in (now_says said s)) goes) in
+    let later : life_in now.headers ≡ suc life = ap life_in (next-headers waits (prepared_in (now_says said s)) (closed_store said s) next ps c now begins) ∙ ap (λ hs. life_in (raised hs)) headers ∙ ap suc lives in (
       elim gone [ inl over ↦ omega (arith, over, later) | inr it ↦ omega (arith, it.0, later) ],
       λ same. elim gone [ inl over ↦ absurd (omega (arith, over, later, same)) | inr it ↦ absurd (omega (arith, it.0, later, same)) ],
     )

@@ -1,7 +1,6 @@
 -- What was answered holds under a stronger premise too.
 use Rattle.std.proofs.Common.{◌≡◌, ◌∙◌, inl, inr, ℕ, Bool, true, false, List, [], ◌∷◌, take, Option, Some, None, Result, Ok, Err, refl, sym, ap, subst}
 use Rattle.std.specs.Prelude.{◌==◌, MatchBool, MatchResult}
-use Rattle.std.specs.Str.{bytes_eq}
 use Rattle.object_trait.specs.declared.event.EventKind.{EventKind}
 use Rattle.store_laws.specs.Stored.{Stored}
 use Rattle.store_text.specs.declared.line.ObjectLine.{ObjectLine}
@@ -19,7 +18,7 @@ use Rattle.serving.specs.declared.answer_line.AnswerLine.{AnswerLine}
 use Rattle.serving.specs.declared.answer_line.AnswerLine.TheVariants.{Fault, Objects, Types, Events, Draining, Seen, SeenStates, NothingSeen, Unseen, Refused}
 use Rattle.serving.specs.declared.answer_line.Answered.{Answered}
 use Rattle.serving.specs.declared.extension.Extension.{Extension}
-use Rattle.serving.specs.NextEpoch.{limit_while}
+use Rattle.serving.specs.NextEpoch.{SaysSame, limit_while}
 use Rattle.std.specs.Prelude.{length, unwrap_or}
 use Rattle.durable_store.specs.Names.{find_named}
 use Rattle.request_text.specs.declared.request.ObjectWord.{ObjectWord}
@@ -27,16 +26,14 @@ use Rattle.request_text.specs.declared.request.ObjectWord.TheVariants.{Number, N
 use Rattle.serving.specs.Does.{is_epoch_full}
 use Rattle.serving.specs.Means.{Means}
 use Rattle.serving.specs.Several.{IsCallAt, Attempts, DoesCommitted, DoesPeek, InTurn, IsAnsweredThere, IsFirstWithout, IsRepliedThere}
-use Rattle.transaction_key.specs.TransactionKey.{key_place}
-use Rattle.journal.specs.declared.outcome_row.KeyedOutcome.{KeyedOutcome}
-use Rattle.durable_store.specs.Keys.{IsInState, KnowsKey, outcome_for}
-use Rattle.durable_store.specs.declared.keyed.Keyed.{Keyed}
-use Rattle.durable_store.specs.declared.keyed.Keyed.TheVariants as keyed
-use Rattle.durable_store.specs.declared.keyed.KeyState.{KeyState}
-use Rattle.durable_store.specs.declared.keyed.KeyState.TheVariants as state
+use Rattle.journal.specs.declared.prepared_row.Prepared.{Prepared}
+use Rattle.durable_store.specs.Durable.{events_of_kinds, kinds}
+use Rattle.durable_store.specs.Held.{undecided}
 use Rattle.serving.specs.Requests.{DoesRequest, TellsEvents, TellsObjects, TellsTypes}
 use Rattle.serving.specs.Served.{IsAnswered, Serves}
+use Rattle.serving.specs.Prepared.{decision_of, prepared_as}
 use Rattle.serving.proofs.ByteByByte.{AskSame}
+use Rattle.serving.proofs.SameSaid.{decides-as, knows-as, state-as, votes-as}
 
 module _ {clean clean' : Type 0} (sure : clean' → clean) where
   -- ---- what is read of a file that says the same
@@ -95,8 +92,8 @@ module _ {clean clean' : Type 0} (sure : clean' → clean) where
   pub called-before : (was now : List ObjectLine) → (clean' → was ≡ now) → (calls : List AskedCall) (made : List CallAt) → InTurn (IsCallAt clean was) calls made → InTurn (IsCallAt clean' now) calls made
   called-before was now same calls made = in-turn (λ call at is. (means-before call.x at.0 was now same is.0, is.1)) calls made
 
-  pub attempts-before : (answer : AnswerLine) (life : ℕ) (was now : List ObjectLine) (old : Stored) (calls : List AskedCall) (new : Stored) → (clean' → was ≡ now) → Attempts clean life was old calls answer new → Attempts clean' life now old calls answer new
-  attempts-before answer life was now old calls new same it = record {
+  pub attempts-before : (answer : AnswerLine) (life : ℕ) (ps : List Prepared) (was now : List ObjectLine) (old : Stored) (calls : List AskedCall) (new : Stored) → (clean' → was ≡ now) → Attempts clean life ps was old calls answer new → Attempts clean' life ps now old calls answer new
+  attempts-before answer life ps was now old calls new same it = record {
     made = it.made;
     are_made = called-before was now same calls it.made it.are_made;
     came = it.came;
@@ -105,85 +102,82 @@ module _ {clean clean' : Type 0} (sure : clean' → clean) where
     tells = it.tells;
   }
 
-  whole-before : (full : Bool) (answer : AnswerLine) (life : ℕ) (was now : List ObjectLine) (old : Stored) (calls : List AskedCall) (new : Stored) → (clean' → was ≡ now)
-      → MatchBool full ((answer ≡ Draining) × (new ≡ old)) (Attempts clean life was old calls answer new) → MatchBool full ((answer ≡ Draining) × (new ≡ old)) (Attempts clean' life now old calls answer new)
-  whole-before true answer life was now old calls new same does = does
-  whole-before false answer life was now old calls new same does = attempts-before answer life was now old calls new same does
+  whole-before : (full : Bool) (answer : AnswerLine) (life : ℕ) (ps : List Prepared) (was now : List ObjectLine) (old : Stored) (calls : List AskedCall) (new : Stored) → (clean' → was ≡ now)
+      → MatchBool full ((answer ≡ Draining) × (new ≡ old)) (Attempts clean life ps was old calls answer new) → MatchBool full ((answer ≡ Draining) × (new ≡ old)) (Attempts clean' life ps now old calls answer new)
+  whole-before true answer life ps was now old calls new same does = does
+  whole-before false answer life ps was now old calls new same does = attempts-before answer life ps was now old calls new same does
 
-  -- ---- keys
-
-  key-before : {T : Type 0} (key : List ℕ) (came : Keyed T) (d c : Contents) → (clean' → d.outcomes ≡ c.outcomes) → (clean → KnowsKey d key came) → clean' → KnowsKey c key came
-  key-before key (keyed.Done kept) d c same knows now = subst (λ (outcomes : ℕ → Option KeyedOutcome). outcomes (key_place key) ≡ None) (same now) (knows (sure now))
-  key-before key (keyed.Undone why) d c same knows now = subst (λ (outcomes : ℕ → Option KeyedOutcome). outcomes (key_place key) ≡ None) (same now) (knows (sure now))
-  key-before key (keyed.Known known) d c same knows now = subst (λ (outcomes : ℕ → Option KeyedOutcome). outcome_for key (outcomes (key_place key)) ≡ Some known) (same now) (knows (sure now))
-  key-before key keyed.Taken d c same knows now =
-      subst (λ (outcomes : ℕ → Option KeyedOutcome). (kept : KeyedOutcome) × (outcomes (key_place key) ≡ Some kept) × (bytes_eq kept.key key ≡ false)) (same now) (knows (sure now))
-
-  state-before : (key : List ℕ) (known : KeyState) (d c : Contents) → (clean' → d.outcomes ≡ c.outcomes) → (clean → IsInState d key known) → clean' → IsInState c key known
-  state-before key state.Free d c same knows now = subst (λ (outcomes : ℕ → Option KeyedOutcome). outcomes (key_place key) ≡ None) (same now) (knows (sure now))
-  state-before key (state.Known known) d c same knows now = subst (λ (outcomes : ℕ → Option KeyedOutcome). outcome_for key (outcomes (key_place key)) ≡ Some known) (same now) (knows (sure now))
-  state-before key state.Taken d c same knows now =
-      subst (λ (outcomes : ℕ → Option KeyedOutcome). (kept : KeyedOutcome) × (outcomes (key_place key) ≡ Some kept) × (bytes_eq kept.key key ≡ false)) (same now) (knows (sure now))
+  -- ---- requests
 
   -- each of two cases
   match-before : (test : Bool) {P Q P' Q' : Type 0} → (P → P') → (Q → Q') → MatchBool test P Q → MatchBool test P' Q'
   match-before true first second it = first it
   match-before false first second it = second it
 
-  -- ---- requests
-
   -- over a file that says the same
-  done-before : (most life : ℕ) (c d : Contents) (line : List ℕ) (old : Stored) (r : Request) (answer : AnswerLine) (new : Stored) → (clean' → (d.objects ≡ c.objects) × (d.types ≡ c.types) × (d.outcomes ≡ c.outcomes))
-      → DoesRequest clean most life d line old r answer new → DoesRequest clean' most life c line old r answer new
-  done-before most life c d line old request.Begin answer new same does = does
-  done-before most life c d line old (request.Call t x name) answer new same does = (does.0, means-before x does.0 d.objects c.objects (λ now. (same now).0) does.1, does.2)
-  done-before most life c d line old (request.Would t x name) answer new same does = (does.0, means-before x does.0 d.objects c.objects (λ now. (same now).0) does.1, does.2)
-  done-before most life c d line old (request.Commit t) answer new same does = does
-  done-before most life c d line old (request.CommitUnder t key) answer new same does =
-      match-before (t.life == life) (λ it. (it.0, key-before key it.0 d c (λ now. (same now).2) it.1, it.2, it.3)) (λ it. (it.0, state-before key it.0 d c (λ now. (same now).2) it.1, it.2, it.3)) does
-  done-before most life c d line old (request.Abort t) answer new same does = does
-  done-before most life c d line old (request.Rollback t count) answer new same does = does
-  done-before most life c d line old (request.Kept x) answer new same does = (does.0, means-before x does.0 d.objects c.objects (λ now. (same now).0) does.1, does.2)
-  done-before most life c d line old request.Peek answer new same does = peeks-before answer life d.objects c.objects old (calls_asked line) new (λ now. (same now).0) does
-  done-before most life c d line old request.Committed answer new same does = states-before answer life d.objects c.objects old (objects_asked line) new (λ now. (same now).0) does
-  done-before most life c d line old request.Do answer new same does = whole-before (is_epoch_full most old) answer life d.objects c.objects old (calls_asked line) new (λ now. (same now).0) does
-  done-before most life c d line old (request.DoUnder key) answer new same does =
-      match-before (is_epoch_full most old) (λ it. (it.0, state-before key it.0 d c (λ now. (same now).2) it.1, it.2, it.3))
+  done-before : (most life : ℕ) (c d : Contents) (ps : List Prepared) (line : List ℕ) (old : Stored) (r : Request) (answer : AnswerLine) (new : Stored) → (clean' → SaysSame c d)
+      → DoesRequest clean most life d ps line old r answer new → DoesRequest clean' most life c ps line old r answer new
+  done-before most life c d ps line old request.Begin answer new same does = does
+  done-before most life c d ps line old (request.Call t x name) answer new same does = (does.0, means-before x does.0 d.objects c.objects (λ now. (same now).0) does.1, does.2)
+  done-before most life c d ps line old (request.Would t x name) answer new same does = (does.0, means-before x does.0 d.objects c.objects (λ now. (same now).0) does.1, does.2)
+  done-before most life c d ps line old (request.Commit t) answer new same does = does
+  done-before most life c d ps line old (request.CommitUnder t key) answer new same does =
+      match-before (t.life == life) (λ it. (it.0, (λ now. knows-as c d old (same now) key it.0 (it.1 (sure now))), it.2, it.3))
+      (λ it. (it.0, (λ now. state-as c d old (same now) key it.0 (it.1 (sure now))), it.2, it.3)) does
+  done-before most life c d ps line old (request.Abort t) answer new same does = does
+  done-before most life c d ps line old (request.Rollback t count) answer new same does = does
+  done-before most life c d ps line old (request.Kept x) answer new same does = (does.0, means-before x does.0 d.objects c.objects (λ now. (same now).0) does.1, does.2)
+  done-before most life c d ps line old request.Peek answer new same does = peeks-before answer life d.objects c.objects old (calls_asked line) new (λ now. (same now).0) does
+  done-before most life c d ps line old request.Committed answer new same does = states-before answer life d.objects c.objects old (objects_asked line) new (λ now. (same now).0) does
+  done-before most life c d ps line old request.Do answer new same does = whole-before (is_epoch_full most old) answer life ps d.objects c.objects old (calls_asked line) new (λ now. (same now).0) does
+  done-before most life c d ps line old (request.DoUnder key) answer new same does =
+      match-before (is_epoch_full most old) (λ it. (it.0, (λ now. state-as c d old (same now) key it.0 (it.1 (sure now))), it.2, it.3))
       (λ it. (
         it.0,
         called-before d.objects c.objects (λ now. (same now).0) (calls_asked line) it.0 it.1,
         it.2,
-        key-before key it.2 d c (λ now. (same now).2) it.3,
+        (λ now. knows-as c d old (same now) key it.2 (it.3 (sure now))),
         it.4,
         it.5,
       )) does
-  done-before most life c d line old (request.Outcome key) answer new same does =
-      (does.0, does.1, λ now. does.2 (sure now) ∙ ap (λ (outcomes : ℕ → Option KeyedOutcome). outcome_for key (outcomes (key_place key))) (same now).2, does.3)
-  done-before most life c d line old (request.Find name) answer new same does = (does.0, does.1, does.2, λ now. does.3 (sure now) ∙ ap (λ os. find_named os name) (same now).0)
-  done-before most life c d line old request.Objects answer new same does = (tells-objects answer d.objects c.objects (λ now. (same now).0) does.0, does.1)
-  done-before most life c d line old request.Types answer new same does = (tells-types answer d.types c.types (λ now. (same now).1) does.0, does.1)
-  done-before most life c d line old (request.Events from count) answer new same does = (tells-events answer _ does.0, does.1)
-  done-before most life c d line old request.Stats answer new same does = does
-  done-before most life c d line old request.Extend answer new same does = does
-  done-before most life c d line old request.End answer new same does = does
+  done-before most life c d ps line old (request.Outcome key) answer new same does =
+      (does.0, (λ now. state-as c d old (same now) key does.0 (does.1 (sure now))), does.2, does.3)
+  done-before most life c d ps line old (request.Prepare t key until) answer new same does = (
+    does.0,
+    match-before (t.life == life) (λ it. (it.0, (λ now. let votes = it.1 (sure now) in votes-as c d old (same now) (prepared_as t key until) it.0 votes.0 votes.1), it.2)) (λ told. told) does.1,
+  )
+  done-before most life c d ps line old (request.Decide key e) answer new same does =
+      (does.0, (λ now. let decides = does.1 (sure now) in decides-as c d old (same now) new key (decision_of e) does.0 decides.0 decides.1), does.2)
+  done-before most life c d ps line old request.Prepared answer new same does = does
+  done-before most life c d ps line old (request.Find name) answer new same does = (does.0, does.1, does.2, λ now. does.3 (sure now) ∙ ap (λ os. find_named os name) (same now).0)
+  done-before most life c d ps line old request.Objects answer new same does = (tells-objects answer d.objects c.objects (λ now. (same now).0) does.0, does.1)
+  done-before most life c d ps line old request.Types answer new same does = (tells-types answer d.types c.types (λ now. (same now).1) does.0, does.1)
+  done-before most life c d ps line old (request.Events from count) answer new same does = (tells-events answer _ does.0, does.1)
+  done-before most life c d ps line old request.Stats answer new same does = does
+  done-before most life c d ps line old request.Extend answer new same does = does
+  done-before most life c d ps line old request.End answer new same does = does
 
   -- a line that asks the same
-  pub answered-before : (most life : ℕ) (c d : Contents) (kept half : List ℕ) (old : Stored) (a : Answered) (new : Stored) → (clean' → (d.objects ≡ c.objects) × (d.types ≡ c.types) × (d.outcomes ≡ c.outcomes))
+  pub answered-before : (most life : ℕ) (c d : Contents) (kept half : List ℕ) (old : Stored) (a : Answered) (new : Stored) → (clean' → SaysSame c d)
       → AskSame kept half → IsAnswered clean most life d kept old a new → IsAnswered clean' most life c half old a new
   answered-before most life c d kept half old a new files (inl same) answered = subst (λ line. IsAnswered clean' most life c line old a new) same (record {
     tag = answered.tag;
+    prepared = answered.prepared;
+    are = λ now. answered.are (sure now) ∙ ap (undecided (events_of_kinds (kinds old.history))) (files now).3;
     request =
-        elim (asked_by kept).request as (λ (q : Result Request RequestFault). MatchResult q (λ r. DoesRequest clean most life d kept old r a.answer new) (λ fault. (a.answer ≡ Fault fault) × (new ≡ old))
-        → MatchResult q (λ r. DoesRequest clean' most life c kept old r a.answer new) (λ fault. (a.answer ≡ Fault fault) × (new ≡ old))) [
-          | Ok r ↦ λ does. done-before most life c d kept old r a.answer new files does
+        elim (asked_by kept).request as (λ (q : Result Request RequestFault). MatchResult q (λ r. DoesRequest clean most life d answered.prepared kept old r a.answer new) (λ fault. (a.answer ≡ Fault fault) × (new ≡ old))
+        → MatchResult q (λ r. DoesRequest clean' most life c answered.prepared kept old r a.answer new) (λ fault. (a.answer ≡ Fault fault) × (new ≡ old))) [
+          | Ok r ↦ λ does. done-before most life c d answered.prepared kept old r a.answer new files does
           | Err fault ↦ λ told. told
         ] answered.request;
   })
   answered-before most life c d kept half old a new files (inr (first, second)) answered = record {
     tag = answered.tag ∙ ap (λ (x : Asked). x.tag) (first ∙ sym second);
+    prepared = answered.prepared;
+    are = λ now. answered.are (sure now) ∙ ap (undecided (events_of_kinds (kinds old.history))) (files now).3;
     request =
-        subst (λ (x : Asked). MatchResult x.request (λ r. DoesRequest clean' most life c half old r a.answer new) (λ fault. (a.answer ≡ Fault fault) × (new ≡ old))) (sym second)
-        (subst (λ (x : Asked). MatchResult x.request (λ r. DoesRequest clean most life d kept old r a.answer new) (λ fault. (a.answer ≡ Fault fault) × (new ≡ old))) first answered.request);
+        subst (λ (x : Asked). MatchResult x.request (λ r. DoesRequest clean' most life c answered.prepared half old r a.answer new) (λ fault. (a.answer ≡ Fault fault) × (new ≡ old))) (sym second)
+        (subst (λ (x : Asked). MatchResult x.request (λ r. DoesRequest clean most life d answered.prepared kept old r a.answer new) (λ fault. (a.answer ≡ Fault fault) × (new ≡ old))) first answered.request);
   }
 
   -- ---- lines
@@ -193,9 +187,10 @@ module _ {clean clean' : Type 0} (sure : clean' → clean) where
   serves-weaker (Serves.none s) = Serves.none s
   serves-weaker {most} (Serves.line lines asked old mid new answers a life said waits before other may answered) =
       Serves.line lines asked old mid new answers a life said waits (serves-weaker before) other may
-      (answered-before (limit_while waits most) life said said asked asked mid a new (λ now. (refl, refl, refl)) (inl refl) answered)
+      (answered-before (limit_while waits most) life said said asked asked mid a new (λ now. (refl, refl, refl, refl)) (inl refl) answered)
   serves-weaker (Serves.more lines asked old new answers a life said waits before may more) = Serves.more lines asked old new answers a life said waits (serves-weaker before) may more
   serves-weaker (Serves.end lines asked old new answers life said waits before ends) = Serves.end lines asked old new answers life said waits (serves-weaker before) ends
   serves-weaker (Serves.forget lines old mid answers life n said ended waits before) = Serves.forget lines old mid answers life n said ended waits (serves-weaker before)
-  serves-weaker (Serves.epoch lines old mid new answers life next said now waits before full renews follows says) =
-      Serves.epoch lines old mid new answers life next said now waits (serves-weaker before) full renews (λ clean_now. follows (sure clean_now)) (λ clean_now. says (sure clean_now))
+  serves-weaker (Serves.epoch lines old mid new answers life next said now waits ps new_ps before full renews are follows says) =
+      Serves.epoch lines old mid new answers life next said now waits ps new_ps (serves-weaker before) full renews (λ clean_now. are (sure clean_now)) (λ clean_now. follows (sure clean_now))
+      (λ clean_now. says (sure clean_now))

@@ -19,10 +19,13 @@ use Rattle.serving.specs.declared.server.Server.{Server}
 use Rattle.serving.specs.Keys.{kept_answered, outcomes_after, said_after}
 use Rattle.serving.specs.Lines.{asks_end, is_end, is_taken, may_wait}
 use Rattle.serving.specs.NextEpoch.{limit_while}
+use Rattle.journal.specs.declared.prepared_row.Prepared.{Prepared}
+use Rattle.serving.specs.Prepared.{prepared_answered}
 use Rattle.serving.specs.Requests.{DoesRequest}
 use Rattle.serving.specs.Served.{IsAnswered, IsAskedMore, Serves}
 use Rattle.serving.specs.Server.{AnswersLine, DoesAsked, DoesLine, StaysInEpoch, HasServed, KeepsByte, KeepsKeys, TakesByte, TakesEnd, most_kept}
 use Rattle.durable_store.specs.Durable.{IsDurable}
+use Rattle.serving.proofs.HeldSaid.{held-now}
 use Rattle.serving.proofs.MoreEvents.{follows-none, leaves-then, writes-then}
 use Rattle.serving.proofs.LaterEpochs.{lasts-stays}
 use Rattle.serving.proofs.Premises.{answered-before, serves-weaker}
@@ -89,7 +92,8 @@ line-answered {S} {g} {began} {told} {bytes} {old} {new} b a is none ended clear
           let others = (stays.follows now).others in (
             ap (λ (x : Contents). x.objects) others ∙ before.0,
             ap (λ (x : Contents). x.types) others ∙ before.1,
-            keeps now ∙ ap₂ (λ (q : Result Request RequestFault) (outcomes : ℕ → Option KeyedOutcome). outcomes_after (kept_answered q a.answer) outcomes) (ap (λ (x : Asked). x.request) same) before.2,
+            (keeps now).0 ∙ ap₂ (λ (q : Result Request RequestFault) (outcomes : ℕ → Option KeyedOutcome). outcomes_after (kept_answered q a.answer) outcomes) (ap (λ (x : Asked). x.request) same) before.2,
+            (keeps now).1 ∙ ap₂ (λ (q : Result Request RequestFault) (ps : List Prepared). prepared_answered q a.answer ps) (ap (λ (x : Asked). x.request) same) before.3,
           );
       serves =
           let so_far : Serves (Clean g new.session.store.journal) most file began.life served.lines began.store.store (told ++ old.answers.items) old.session.life served.said old.session.store.store None old.session.waiting =
@@ -221,22 +225,33 @@ asked-stays {S} {g} old line a new sound does =
     ] does
 
 -- a line that doesn't wait, as a session answers it
-pub asked-answered : {S : Type 0} (g : Ghosts S) (old : Session S) (line : List ℕ) (asked : Asked) (a : Answered) (new : Session S) → asked ≡ asked_by line → is_taken old.waiting asked.request ≡ false
+pub asked-answered : {S : Type 0} (g : Ghosts S) (old : Session S) (line : List ℕ) (asked : Asked) (a : Answered) (new : Session S) → IsDurable g old.store → asked ≡ asked_by line → is_taken old.waiting asked.request ≡ false
     → StaysInEpoch g old new → new.waiting ≡ old.waiting → a.tag ≡ asked.tag
     → (Clean g new.store.journal → (written g new.store.journal).outcomes ≡ outcomes_after (kept_answered asked.request a.answer) (written g old.store.journal).outcomes)
-    → MatchResult asked.request (λ r. DoesRequest (Clean g new.store.journal) (limit_while old.waiting old.most_events) old.life (written g old.store.journal) line old.store.store r a.answer new.store.store)
+    → (Clean g new.store.journal → (written g new.store.journal).prepared ≡ prepared_answered asked.request a.answer (written g old.store.journal).prepared)
+    → MatchResult asked.request (λ r. DoesRequest (Clean g new.store.journal) (limit_while old.waiting old.most_events) old.life (written g old.store.journal) old.store.prepared.items line old.store.store r a.answer new.store.store)
     (λ fault. (a.answer ≡ Fault fault) × (new.store.store ≡ old.store.store)) → DoesAsked g old line a new
-asked-answered {S} g old line asked a new is other stays waits tag keys does =
+asked-answered {S} g old line asked a new sound is other stays waits tag keys rows does =
     let answered : IsAnswered (Clean g new.store.journal) (limit_while old.waiting old.most_events) old.life (written g old.store.journal) line old.store.store a new.store.store = record {
       tag = tag ∙ ap (λ (x : Asked). x.tag) is;
+      prepared = old.store.prepared.items;
+      are = λ now. held-now g old.store sound (stays.clean now);
       request =
-          subst (λ (x : Asked). MatchResult x.request (λ r. DoesRequest (Clean g new.store.journal) (limit_while old.waiting old.most_events) old.life (written g old.store.journal) line old.store.store r a.answer new.store.store)
+          subst (λ (x : Asked). MatchResult x.request (λ r. DoesRequest (Clean g new.store.journal) (limit_while old.waiting old.most_events) old.life (written g old.store.journal) old.store.prepared.items line old.store.store r a.answer new.store.store)
           (λ fault. (a.answer ≡ Fault fault) × (new.store.store ≡ old.store.store))) is does;
     } in
     let test : false ≡ may_wait old.waiting line = sym other ∙ ap (λ (x : Asked). is_taken old.waiting x.request) is in
     subst (λ v. MatchBool v (IsAskedMore line a new.waiting × (new ≡ record old { waiting = new.waiting }))
     (StaysInEpoch g old new × (new.waiting ≡ old.waiting) × IsAnswered (Clean g new.store.journal) (limit_while old.waiting old.most_events) old.life (written g old.store.journal) line old.store.store a new.store.store × KeepsKeys g old.store line a.answer new.store))
-    test (stays, waits, answered, λ now. keys now ∙ ap (λ (x : Asked). outcomes_after (kept_answered x.request a.answer) (written g old.store.journal).outcomes) is)
+    test (
+      stays,
+      waits,
+      answered,
+      λ now. (
+        keys now ∙ ap (λ (x : Asked). outcomes_after (kept_answered x.request a.answer) (written g old.store.journal).outcomes) is,
+        rows now ∙ ap (λ (x : Asked). prepared_answered x.request a.answer (written g old.store.journal).prepared) is,
+      ),
+    )
 
 -- a byte goes on
 line-stays : {S : Type 0} {g : Ghosts S} {old new : Server S} → IsDurable g old.session.store → DoesLine g old new → StaysInEpoch g old.session new.session

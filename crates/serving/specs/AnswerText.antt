@@ -5,6 +5,7 @@ use Rattle.std.specs.List.{flat_map, slice_split}
 use Rattle.line_text.specs.Spelling.{spaced}
 use Rattle.object_trait.specs.declared.event.Event.{Event}
 use Rattle.object_trait.specs.declared.event.EventKind.{EventKind}
+use Rattle.journal.specs.declared.prepared_row.Prepared.{Prepared}
 use Rattle.store_text.specs.declared.line.ObjectLine.{ObjectLine}
 use Rattle.history_text.specs.Canonical.{words_of, object_line, event_line}
 use Rattle.script_run.specs.Lines.{refusal_name}
@@ -19,7 +20,7 @@ use Rattle.serving.specs.declared.answer_line.AnswerLine.{AnswerLine}
 use Rattle.serving.specs.declared.answer_line.KeyRefusal.{KeyRefusal}
 use Rattle.serving.specs.declared.answer_line.KeyRefusal.TheVariants as key
 use Rattle.serving.specs.declared.answer_line.Moment.{Moment}
-use Rattle.serving.specs.declared.answer_line.AnswerLine.TheVariants.{Done, Committed, Begun, State, Reply, Busy, Draining, Nothing, Counts, Objects, Types, Events, Extended, Found, Seen, SeenStates, NothingSeen, Unseen, Completed, CompletedOne, BusyAt, NothingAt, RefusedAt, Replied, KeyRefused, OutcomeIs, NotAdded, Waiting, Refused, Fault}
+use Rattle.serving.specs.declared.answer_line.AnswerLine.TheVariants.{Done, Committed, Begun, State, Reply, Busy, Draining, Nothing, Counts, Decided, Held, IsPrepared, Objects, Types, Events, Extended, Found, Seen, SeenStates, NothingSeen, Unseen, Completed, CompletedOne, BusyAt, NothingAt, RefusedAt, Replied, KeyRefused, OutcomeIs, OutcomePrepared, Voted, VotedBefore, NotAdded, Waiting, Refused, Fault}
 
 -- the tag, or `-` where a line has none
 abbrev pub tag_text : Option (List ℕ) → List ℕ
@@ -44,6 +45,10 @@ peek_refusal_name peek.Changes = codes "Changes"
 -- the name of a reason why nothing is done under a key
 abbrev pub key_refusal_name : KeyRefusal → List ℕ
 key_refusal_name key.Aborted = codes "Aborted"
+key_refusal_name key.Committed = codes "Committed"
+key_refusal_name key.Prepared = codes "KeyPrepared"
+key_refusal_name key.Decided = codes "Decided"
+key_refusal_name key.Unknown = codes "Unknown"
 key_refusal_name key.Taken = codes "KeyTaken"
 
 -- pieces one after another
@@ -72,10 +77,11 @@ number_text tag number = pieces_text (tag ∷ codes " ok " ∷ decimal number �
 abbrev pub word_text : List ℕ → List ℕ → List ℕ → List ℕ
 word_text tag words word = pieces_text (tag ∷ words ∷ word ∷ (10 ∷ []) ∷ [])
 
--- a tag and the numbers of events, of transactions that have begun, and of those that are open
-abbrev pub counts_text : List ℕ → ℕ → ℕ → ℕ → List ℕ
-counts_text tag events begun open_ones =
-    pieces_text (tag ∷ codes " ok events " ∷ decimal events ∷ codes " begun " ∷ decimal begun ∷ codes " open " ∷ decimal open_ones ∷ (10 ∷ []) ∷ [])
+-- a tag and the numbers of events, of transactions that have begun, of those that are open, and of those that are prepared
+abbrev pub counts_text : List ℕ → ℕ → ℕ → ℕ → ℕ → List ℕ
+counts_text tag events begun open_ones prepared =
+    pieces_text
+    (tag ∷ codes " ok events " ∷ decimal events ∷ codes " begun " ∷ decimal begun ∷ codes " open " ∷ decimal open_ones ∷ codes " prepared " ∷ decimal prepared ∷ (10 ∷ []) ∷ [])
 
 -- words, each after a space
 abbrev pub after_space : List ℕ → List ℕ
@@ -130,6 +136,11 @@ event_text tag kind = let e : Event = record { worker = 0; kind = kind } in behi
 abbrev pub answer_lines : List ℕ → List ℕ → List ℕ
 answer_lines tag text = flat_map (behind tag) (slice_split (λ b. b == 10) text)
 
+-- a transaction that is prepared: its key, its name, and until when its client waits
+abbrev pub held_text : List ℕ → Prepared → List ℕ
+held_text tag p = pieces_text
+    (tag ∷ codes " " ∷ p.key ∷ codes " " ∷ decimal p.given.life ∷ codes "." ∷ decimal p.given.number ∷ codes " " ∷ decimal p.until ∷ (10 ∷ []) ∷ [])
+
 -- ---- an answer
 
 -- the lines of an answer
@@ -142,7 +153,7 @@ answer_text tag (Reply reply) = word_text (tag_text tag) (codes " reply ") reply
 answer_text tag (Busy blocker) = transaction_text (tag_text tag) (codes " busy ") blocker
 answer_text tag Draining = draining_text (tag_text tag)
 answer_text tag Nothing = pieces_text (tag_text tag ∷ codes " none\n" ∷ [])
-answer_text tag (Counts events begun open_ones) = counts_text (tag_text tag) events begun open_ones
+answer_text tag (Counts events begun open_ones prepared) = counts_text (tag_text tag) events begun open_ones prepared
 answer_text tag (Objects objects) = flat_map (object_answer (tag_text tag)) objects.items ++ done_text (tag_text tag)
 answer_text tag (Types texts) = flat_map (answer_lines (tag_text tag)) texts.items ++ done_text (tag_text tag)
 answer_text tag (Events events) = flat_map (event_text (tag_text tag)) events.items ++ done_text (tag_text tag)
@@ -160,6 +171,12 @@ answer_text tag (RefusedAt at refusal) = refused_text (tag_text tag) at (refusal
 answer_text tag (Replied replies) = pieces_text (tag_text tag ∷ codes " done" ∷ words_behind replies ∷ (10 ∷ []) ∷ [])
 answer_text tag (KeyRefused why) = word_text (tag_text tag) (codes " refused ") (key_refusal_name why)
 answer_text tag (OutcomeIs found) = outcome_text (tag_text tag) found
+answer_text tag OutcomePrepared = pieces_text (tag_text tag ∷ codes " prepared\n" ∷ [])
+answer_text tag Voted = done_text (tag_text tag)
+answer_text tag VotedBefore = done_text (tag_text tag)
+answer_text tag Decided = done_text (tag_text tag)
+answer_text tag IsPrepared = pieces_text (tag_text tag ∷ codes " refused Prepared\n" ∷ [])
+answer_text tag (Held prepared) = flat_map (held_text (tag_text tag)) prepared.items ++ done_text (tag_text tag)
 answer_text tag (NotAdded why) = word_text (tag_text tag) (codes " no ") why.items
 answer_text tag Waiting = []
 answer_text tag (Refused refusal) = word_text (tag_text tag) (codes " refused ") (refusal_name refusal)

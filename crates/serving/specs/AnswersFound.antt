@@ -19,6 +19,7 @@ use Rattle.serving.specs.declared.extension.Extension.{Extension}
 use Rattle.serving.specs.Archives.{life_in}
 use Rattle.serving.specs.Left.{Began, IsFileAfter}
 use Rattle.serving.specs.NextEpoch.{IsNextStore}
+use Rattle.journal.specs.declared.prepared_row.Prepared.{Prepared}
 use Rattle.serving.specs.Places.{TellsSuch}
 use Rattle.serving.specs.Served.{IsAnswered}
 use Rattle.serving.specs.Several.{Attempts}
@@ -31,10 +32,10 @@ abbrev pub IsIt : List ℕ → Answered → List ℕ → Answered → Type 0
 IsIt line a l x = (l ≡ line) × (x ≡ a)
 
 -- from a store in a life another goes on: in the same life its events begin with the events of that one; in a later one its history began at the
--- states that the store of the life before had kept, and that one goes on so
+-- states that had committed at the store of the life before, and that one goes on so
 pub data GoesFurther (born : ℕ) (moment : Stored) : ℕ → Stored → Type 0 where
   same : (now : Stored) (more : List EventKind) → kinds now.history ≡ kinds moment.history ++ more → GoesFurther born moment born now
-  epoch : (life : ℕ) (waits : Option Extension) (old first now : Stored) → GoesFurther born moment life old → IsNextStore waits old first → now.types ≡ first.types → GoesFurther born moment (suc life) now
+  epoch : (life : ℕ) (waits : Option Extension) (ps next : List Prepared) (old first now : Stored) → GoesFurther born moment life old → IsNextStore waits ps old first next → now.types ≡ first.types → GoesFurther born moment (suc life) now
 
 -- a file goes on from the moment at which the line was answered so: it is the file after lines among which is this one; while it is in that moment's
 -- life, its events begin with all that had happened by then
@@ -72,7 +73,7 @@ AnswersDone line a = ((asked_by line).request ≡ Ok request.Do) × (is_complete
 -- a file goes on from the moment at which it was: the line's calls were made and so replied to, and its commit is one of the events by then
 pub record HasTransaction (b : Began) (last : List (List ℕ) → Type 0) (c : Contents) (line : List ℕ) (a : Answered) : Type 0 where
   pub found : HasMoment b last c line a
-  pub did : Attempts (Unit {0}) found.born found.said.objects found.old (calls_asked line) a.answer found.new
+  pub did : Attempts (Unit {0}) found.born found.answered.prepared found.said.objects found.old (calls_asked line) a.answer found.new
   pub committed : Contains (kinds found.new.history) (Commit (begins found.old.history))
 
 -- whatever a crash leaves has each whole transaction that was answered as done

@@ -17,6 +17,7 @@ use Rattle.serving.specs.declared.extension.Extension.{Extension}
 use Rattle.serving.specs.Archives.{life_in}
 use Rattle.serving.specs.Left.{Began, IsFileAfter}
 use Rattle.serving.specs.NextEpoch.{IsNextStore}
+use Rattle.journal.specs.declared.prepared_row.Prepared.{Prepared}
 use Rattle.serving.specs.Places.{TellsSuch}
 
 -- a line asks that this transaction commit, and is answered that it has
@@ -28,10 +29,10 @@ abbrev pub TellsCommit : List (List ℕ) → List Answered → TransactionName �
 TellsCommit lines answers t = TellsSuch lines answers (λ line a. AnswersCommit line a t)
 
 -- a store in a life has the commit of a transaction: in the transaction's own life it is one of the events; in a later one the history began at the
--- states that the store of the life before had kept, and that one had it
+-- states that had committed at the store of the life before, and that one had it
 pub data KeepsCommit (t : TransactionName) : ℕ → Stored → Type 0 where
   event : (now : Stored) → Contains (kinds now.history) (kind.Commit t.number) → KeepsCommit t t.life now
-  epoch : (life : ℕ) (waits : Option Extension) (old first now : Stored) → KeepsCommit t life old → IsNextStore waits old first → now.types ≡ first.types → KeepsCommit t (suc life) now
+  epoch : (life : ℕ) (waits : Option Extension) (ps next : List Prepared) (old first now : Stored) → KeepsCommit t life old → IsNextStore waits ps old first next → now.types ≡ first.types → KeepsCommit t (suc life) now
 
 -- a file has it: it is the file after lines among which is the commit; while it is in the transaction's life, the commit is among its events
 pub record HasCommit (b : Began) (last : List (List ℕ) → Type 0) (c : Contents) (t : TransactionName) : Type 0 where

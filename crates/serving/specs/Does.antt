@@ -5,46 +5,53 @@ use Rattle.object_calls.specs.declared.answer.Answer as calls
 use Rattle.object_calls.specs.declared.answer.Answer.TheVariants as call
 use Rattle.serial_order.specs.declared.command.Command.TheVariants as command
 use Rattle.serial_order.specs.declared.refusal.Refusal.{Refusal}
-use Rattle.serial_order.specs.declared.refusal.Refusal.TheVariants.{NotOpen, NoObject}
+use Rattle.serial_order.specs.declared.refusal.Refusal.TheVariants.{NoObject}
 use Rattle.store_laws.specs.Stored.{MayStep, Steps, Stored, objects}
 use Rattle.store.specs.Calls.{Would}
 use Rattle.store.specs.KeptState.{IsKeptState}
 use Rattle.serial_order.specs.History.{begins, summary}
 use Rattle.serial_order.specs.Replay.{open_count}
 use Rattle.durable_store.specs.Keys.{op_of_object}
+use Rattle.journal.specs.declared.prepared_row.Prepared.{Prepared}
+use Rattle.serial_order.specs.Operations.{is_among}
+use Rattle.durable_store.specs.Held.{Unless, as_denied, prepared_numbers}
+use Rattle.durable_store.specs.declared.denial.Denial.{Denial}
+use Rattle.durable_store.specs.declared.denial.Denial.TheVariants as denied
 use Rattle.request_text.specs.declared.request.TransactionName.{TransactionName}
 use Rattle.serving.specs.declared.answer_line.AnswerLine.{AnswerLine}
-use Rattle.serving.specs.declared.answer_line.AnswerLine.TheVariants.{Done, Committed, Begun, State, Reply, Busy, Draining, Nothing, Counts, Refused}
-
--- a transaction of this life
-abbrev pub named : ℕ → ℕ → TransactionName
-named life number = record { life = life; number = number }
+use Rattle.serving.specs.declared.answer_line.AnswerLine.TheVariants.{Done, Committed, Begun, State, Reply, Busy, Draining, IsPrepared, Nothing, Counts, Refused}
+use Rattle.serving.specs.Prepared.{foreign, known_name, named}
 
 -- what a begin is answered
 abbrev pub begin_answer : ℕ → Result ℕ Refusal → AnswerLine
 begin_answer life (Ok number) = Begun (named life number)
 begin_answer life (Err refusal) = Refused refusal
 
--- what a request is answered that is done or refused
-abbrev pub done_or : AnswerLine → Result (Unit {0}) Refusal → AnswerLine
+-- why a command of a transaction isn't done
+abbrev pub denied_answer : Denial → AnswerLine
+denied_answer denied.Prepared = IsPrepared
+denied_answer (denied.Refused refusal) = Refused refusal
+
+-- what a request is answered that is done or denied
+abbrev pub done_or : AnswerLine → Result (Unit {0}) Denial → AnswerLine
 done_or answer (Ok u) = answer
-done_or answer (Err refusal) = Refused refusal
+done_or answer (Err why) = denied_answer why
 
 -- the reply of an operation
 abbrev pub reply_of : Option Op → AnswerLine
 reply_of (Some op) = Reply op.reply
 reply_of None = Nothing
 
--- what a call at x is answered
-abbrev pub call_answer : Stored → ℕ → ℕ → Result calls.Answer Refusal → AnswerLine
-call_answer s life x (Ok (call.Reply k)) = reply_of (op_of_object s x k)
-call_answer s life x (Ok (call.Busy u)) = Busy (named life u)
-call_answer s life x (Ok call.None) = Nothing
-call_answer s life x (Err refusal) = Refused refusal
+-- what a call at x is answered, where these are prepared
+abbrev pub call_answer : Stored → ℕ → List Prepared → ℕ → Result calls.Answer Denial → AnswerLine
+call_answer s life ps x (Ok (call.Reply k)) = reply_of (op_of_object s x k)
+call_answer s life ps x (Ok (call.Busy u)) = Busy (known_name life ps u)
+call_answer s life ps x (Ok call.None) = Nothing
+call_answer s life ps x (Err why) = denied_answer why
 
--- of a transaction of this life that much, and one of another life isn't open
-abbrev pub InLife : ℕ → TransactionName → Stored → Stored → AnswerLine → Type 0 → Type 0
-InLife life t old new answer does = MatchBool (t.life == life) does ((answer ≡ Refused NotOpen) × (new ≡ old))
+-- of a transaction of this life that much; one of another life is prepared, or isn't open
+abbrev pub InLife : ℕ → List Prepared → TransactionName → Stored → Stored → AnswerLine → Type 0 → Type 0
+InLife life ps t old new answer does = MatchBool (t.life == life) does ((answer ≡ foreign ps t) × (new ≡ old))
 
 -- an epoch with this many events is full: it goes on until those that are open have ended
 abbrev pub is_epoch_full : ℕ → Stored → Bool
@@ -57,31 +64,38 @@ abbrev pub DoesBegin : ℕ → ℕ → Stored → AnswerLine → Stored → Type
 DoesBegin most life old answer new =
     MatchBool (is_epoch_full most old) ((answer ≡ Draining) × (new ≡ old)) ((r : Result ℕ Refusal) × MayStep old 0 command.Begin r new × (answer ≡ begin_answer life r))
 
-abbrev pub DoesCall : ℕ → Stored → TransactionName → ℕ → List ℕ → AnswerLine → Stored → Type 0
-DoesCall life old t x name answer new =
-    InLife life t old new answer ((r : Result calls.Answer Refusal) × MayStep old 0 (command.Call t.number x name) r new × (answer ≡ call_answer new life x r))
+-- what the store's own command does, unless the transaction is prepared
+abbrev pub UnlessPrepared : {T : Type 0} → List Prepared → TransactionName → Stored → (Result T Refusal → Type 0) → Result T Denial → Stored → Type 0
+UnlessPrepared ps t old Does r new = Unless (is_among (prepared_numbers ps) t.number) old Does r new
 
-abbrev pub DoesWould : ℕ → Stored → TransactionName → ℕ → List ℕ → AnswerLine → Stored → Type 0
-DoesWould life old t x name answer new =
-    InLife life t old new answer ((r : Result calls.Answer Refusal) × Would old t.number x name r × (answer ≡ call_answer old life x r) × (new ≡ old))
+abbrev pub DoesCall : ℕ → List Prepared → Stored → TransactionName → ℕ → List ℕ → AnswerLine → Stored → Type 0
+DoesCall life ps old t x name answer new =
+    InLife life ps t old new answer ((r : Result calls.Answer Denial) × UnlessPrepared ps t old (λ r. MayStep old 0 (command.Call t.number x name) r new) r new
+    × (answer ≡ call_answer new life ps x r))
 
-abbrev pub DoesCommit : ℕ → Stored → TransactionName → AnswerLine → Stored → Type 0
-DoesCommit life old t answer new =
-    InLife life t old new answer ((r : Result (Unit {0}) Refusal) × Steps old 0 (command.Commit t.number) r new × (answer ≡ done_or Committed r))
+abbrev pub DoesWould : ℕ → List Prepared → Stored → TransactionName → ℕ → List ℕ → AnswerLine → Stored → Type 0
+DoesWould life ps old t x name answer new =
+    InLife life ps t old new answer ((new ≡ old) × MatchBool (is_among (prepared_numbers ps) t.number) (answer ≡ IsPrepared)
+    ((r : Result calls.Answer Refusal) × Would old t.number x name r × (answer ≡ call_answer old life ps x (as_denied r))))
 
-abbrev pub DoesAbort : ℕ → Stored → TransactionName → AnswerLine → Stored → Type 0
-DoesAbort life old t answer new =
-    InLife life t old new answer ((r : Result (Unit {0}) Refusal) × Steps old 0 (command.Abort t.number) r new × (answer ≡ done_or Done r))
+abbrev pub DoesCommit : ℕ → List Prepared → Stored → TransactionName → AnswerLine → Stored → Type 0
+DoesCommit life ps old t answer new =
+    InLife life ps t old new answer ((r : Result (Unit {0}) Denial) × UnlessPrepared ps t old (λ r. Steps old 0 (command.Commit t.number) r new) r new × (answer ≡ done_or Committed r))
 
-abbrev pub DoesRollback : ℕ → Stored → TransactionName → ℕ → AnswerLine → Stored → Type 0
-DoesRollback life old t count answer new =
-    InLife life t old new answer ((r : Result (Unit {0}) Refusal) × MayStep old 0 (command.Rollback t.number count) r new × (answer ≡ done_or Done r))
+abbrev pub DoesAbort : ℕ → List Prepared → Stored → TransactionName → AnswerLine → Stored → Type 0
+DoesAbort life ps old t answer new =
+    InLife life ps t old new answer ((r : Result (Unit {0}) Denial) × UnlessPrepared ps t old (λ r. Steps old 0 (command.Abort t.number) r new) r new × (answer ≡ done_or Done r))
+
+abbrev pub DoesRollback : ℕ → List Prepared → Stored → TransactionName → ℕ → AnswerLine → Stored → Type 0
+DoesRollback life ps old t count answer new =
+    InLife life ps t old new answer ((r : Result (Unit {0}) Denial) × UnlessPrepared ps t old (λ r. MayStep old 0 (command.Rollback t.number count) r new) r new
+    × (answer ≡ done_or Done r))
 
 -- the kept state, or that there is no such object
 abbrev pub DoesKept : Stored → ℕ → AnswerLine → Stored → Type 0
 DoesKept old x answer new =
     (new ≡ old) × MatchOption (slice_get (objects old) x) (answer ≡ Refused NoObject) (λ o. (state : ℕ) × IsKeptState old x state × (answer ≡ State state))
 
--- how many events, transactions that have begun, and open ones
-abbrev pub DoesStats : Stored → AnswerLine → Stored → Type 0
-DoesStats old answer new = (answer ≡ Counts (length old.history) (begins old.history) (open_count (summary old.history))) × (new ≡ old)
+-- how many events, transactions that have begun, open ones, and prepared ones
+abbrev pub DoesStats : List Prepared → Stored → AnswerLine → Stored → Type 0
+DoesStats ps old answer new = (answer ≡ Counts (length old.history) (begins old.history) (open_count (summary old.history)) (length ps)) × (new ≡ old)

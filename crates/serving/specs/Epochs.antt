@@ -3,7 +3,10 @@ use Rattle.std.specs.Prelude.{◌⊎◌, List, [], ◌∷◌, ◌++◌, Option}
 use Rattle.sqlite_trees.specs.declared.store.Store.{Ghosts}
 use Rattle.sqlite_trees.specs.Tree.{Trees}
 use Rattle.store_laws.specs.Stored.{Stored}
-use Rattle.store.specs.Ends.{closing}
+use Rattle.store.specs.Ends.{closing_but}
+use Rattle.durable_store.specs.Durable.{prepared_in}
+use Rattle.durable_store.specs.Held.{prepared_numbers}
+use Rattle.journal.specs.declared.prepared_row.Prepared.{Prepared}
 use Rattle.journal.specs.Contents.{Contents, IsFile, contents_of}
 use Rattle.journal.specs.Journal.{Clean, may_leave, written}
 use Rattle.durable_store.specs.declared.durable.Durable.{Durable}
@@ -13,16 +16,16 @@ use Rattle.serving.specs.declared.extension.Extension.{Extension}
 use Rattle.serving.specs.Follows.{HasMore}
 use Rattle.serving.specs.NextEpoch.{IsNextFile}
 
--- with an abort of each transaction that was open
-abbrev pub aborted : Stored → Stored
-aborted s = record s { history = s.history ++ closing s.history }
+-- with an abort of each transaction that was open, but of these, which are prepared
+abbrev pub aborted : List Prepared → Stored → Stored
+aborted ps s = record s { history = s.history ++ closing_but (prepared_numbers ps) s.history }
 
--- what a file comes to: events follow, or it begins anew at the states that the store of what it says has kept, and maybe with more objects; and
+-- what a file comes to: events follow, or it begins anew at the committed states of the store of what it says, and maybe with more objects; and
 -- what it said at the end of each epoch that is over, in their order
 pub data Reaches (c : Contents) : List Contents → Contents → Type 0 where
   none : Reaches c [] c
   events : (ended : List Contents) (mid new : Contents) → Reaches c ended mid → HasMore mid new → Reaches c ended new
-  epoch : (ended : List Contents) (mid now : Contents) (waits : Option Extension) (old new : Stored) → Reaches c ended mid → IsStoreOf mid old → IsNextFile waits old new mid now
+  epoch : (ended : List Contents) (mid now : Contents) (waits : Option Extension) (old new : Stored) (ps : List Prepared) → Reaches c ended mid → IsStoreOf mid old → IsNextFile waits (prepared_in mid) old new ps mid now
       → Reaches c (ended ++ mid ∷ []) now
 
 -- a crash leaves what it could have left before, or what the file came to from what was written then; an archive that kept these histories now

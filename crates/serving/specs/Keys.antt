@@ -1,7 +1,11 @@
 -- What requests under keys do, and what a file knows of the keys then.
 use Rattle.std.specs.Prelude.{◌≡◌, ℕ, List, [], MatchBool, Option, Some, None, Result, Ok, Err, ◌==◌}
-use Rattle.serial_order.specs.declared.refusal.Refusal.{Refusal}
-use Rattle.serial_order.specs.declared.refusal.Refusal.TheVariants.{NotOpen}
+use Rattle.journal.specs.declared.prepared_row.Prepared.{Prepared}
+use Rattle.serial_order.specs.Operations.{is_among}
+use Rattle.durable_store.specs.Held.{prepared_numbers}
+use Rattle.durable_store.specs.Votes.{decided_outcome}
+use Rattle.durable_store.specs.declared.denial.Denial.{Denial}
+use Rattle.serving.specs.Prepared.{decision_of, foreign, now_says, prepared_answered}
 use Rattle.store_laws.specs.Stored.{Stored}
 use Rattle.attempts.specs.Commands.{CallAt}
 use Rattle.transaction_key.specs.TransactionKey.{key_place}
@@ -10,7 +14,7 @@ use Rattle.journal.specs.declared.outcome_row.Outcome.{Outcome}
 use Rattle.journal.specs.declared.outcome_row.Outcome.TheVariants as outcome
 use Rattle.journal.specs.OutcomeRow.{outcomes_with}
 use Rattle.journal.specs.Contents.{Contents}
-use Rattle.durable_store.specs.Keys.{AttemptsUnder, CommitsUnder, IsInState, KnowsKey, outcome_under}
+use Rattle.durable_store.specs.Keys.{AttemptsUnder, CommitsUnder, IsInState, KnowsKey}
 use Rattle.durable_store.specs.declared.keyed.Keyed.{Keyed}
 use Rattle.durable_store.specs.declared.keyed.Keyed.TheVariants as keyed
 use Rattle.durable_store.specs.declared.keyed.KeyState.{KeyState}
@@ -24,9 +28,10 @@ use Rattle.request_text.specs.declared.request.Request.TheVariants as request
 use Rattle.request_text.specs.declared.request.TransactionName.{TransactionName}
 use Rattle.request_text.specs.Requests.{asked_by}
 use Rattle.serving.specs.declared.answer_line.AnswerLine.{AnswerLine}
-use Rattle.serving.specs.declared.answer_line.AnswerLine.TheVariants.{Committed, Draining, KeyRefused, OutcomeIs, Refused, Replied}
+use Rattle.serving.specs.declared.answer_line.AnswerLine.TheVariants.{Committed, Decided, Draining, KeyRefused, OutcomeIs, OutcomePrepared, Refused, Replied}
 use Rattle.serving.specs.declared.answer_line.KeyRefusal.TheVariants.{Aborted, Taken}
-use Rattle.serving.specs.Does.{is_epoch_full}
+use Rattle.serving.specs.declared.answer_line.KeyRefusal.TheVariants as why
+use Rattle.serving.specs.Does.{denied_answer, is_epoch_full}
 use Rattle.serving.specs.Several.{InTurn, IsCallAt, ended_answer}
 
 -- ---- a commit
@@ -37,23 +42,26 @@ committed_before (outcome.Committed replies) = Committed
 committed_before outcome.Aborted = KeyRefused Aborted
 
 -- what came of it under a key
-abbrev pub commit_under_answer : Keyed Refusal → AnswerLine
+abbrev pub commit_under_answer : Keyed Denial → AnswerLine
 commit_under_answer (keyed.Done kept) = Committed
-commit_under_answer (keyed.Undone refusal) = Refused refusal
+commit_under_answer (keyed.Undone denial) = denied_answer denial
 commit_under_answer (keyed.Known known) = committed_before known
+commit_under_answer keyed.Prepared = KeyRefused why.Prepared
 commit_under_answer keyed.Taken = KeyRefused Taken
 
--- of a transaction of another life, which isn't open
-abbrev pub not_open_under : KeyState → AnswerLine
-not_open_under state.Free = Refused NotOpen
-not_open_under (state.Known known) = committed_before known
-not_open_under state.Taken = KeyRefused Taken
+-- of a transaction of another life, which is answered this where the key is free
+abbrev pub foreign_under : AnswerLine → KeyState → AnswerLine
+foreign_under answer state.Free = answer
+foreign_under answer (state.Known known) = committed_before known
+foreign_under answer state.Prepared = KeyRefused why.Prepared
+foreign_under answer state.Taken = KeyRefused Taken
 
 -- a commit of a transaction under a key, of which the file knows this, if clean
-abbrev pub DoesCommitUnder : Type 0 → ℕ → Contents → Stored → TransactionName → List ℕ → AnswerLine → Stored → Type 0
-DoesCommitUnder clean life c old t key answer new =
-    MatchBool (t.life == life) ((came : Keyed Refusal) × (clean → KnowsKey c key came) × CommitsUnder old t.number came new × (answer ≡ commit_under_answer came))
-    ((known : KeyState) × (clean → IsInState c key known) × (answer ≡ not_open_under known) × (new ≡ old))
+abbrev pub DoesCommitUnder : Type 0 → ℕ → Contents → List Prepared → Stored → TransactionName → List ℕ → AnswerLine → Stored → Type 0
+DoesCommitUnder clean life c ps old t key answer new =
+    MatchBool (t.life == life)
+    ((came : Keyed Denial) × (clean → KnowsKey (now_says c old) key came) × CommitsUnder (is_among (prepared_numbers ps) t.number) old t.number came new × (answer ≡ commit_under_answer came))
+    ((known : KeyState) × (clean → IsInState (now_says c old) key known) × (answer ≡ foreign_under (foreign ps t) known) × (new ≡ old))
 
 -- ---- a whole transaction
 
@@ -63,36 +71,46 @@ done_before (outcome.Committed replies) = Replied replies
 done_before outcome.Aborted = KeyRefused Aborted
 
 -- what came of it under a key
-abbrev pub do_under_answer : ℕ → Keyed Unfinished → AnswerLine
-do_under_answer life (keyed.Done kept) = done_before kept
-do_under_answer life (keyed.Undone (unfinished.Ended at how)) = ended_answer life at how
-do_under_answer life (keyed.Undone (unfinished.NotBegun refusal)) = Refused refusal
-do_under_answer life (keyed.Known known) = done_before known
-do_under_answer life keyed.Taken = KeyRefused Taken
+abbrev pub do_under_answer : ℕ → List Prepared → Keyed Unfinished → AnswerLine
+do_under_answer life ps (keyed.Done kept) = done_before kept
+do_under_answer life ps (keyed.Undone (unfinished.Ended at how)) = ended_answer life ps at how
+do_under_answer life ps (keyed.Undone (unfinished.NotBegun refusal)) = Refused refusal
+do_under_answer life ps (keyed.Known known) = done_before known
+do_under_answer life ps keyed.Prepared = KeyRefused why.Prepared
+do_under_answer life ps keyed.Taken = KeyRefused Taken
 
 -- where no transaction begins
 abbrev pub draining_under : KeyState → AnswerLine
 draining_under state.Free = Draining
 draining_under (state.Known known) = done_before known
+draining_under state.Prepared = KeyRefused why.Prepared
 draining_under state.Taken = KeyRefused Taken
 
 -- a whole transaction of these calls under a key, of which the file knows this, if clean
-abbrev pub DoesDoUnder : Type 0 → ℕ → ℕ → Contents → Stored → List AskedCall → List ℕ → AnswerLine → Stored → Type 0
-DoesDoUnder clean most life c old calls key answer new =
-    MatchBool (is_epoch_full most old) ((known : KeyState) × (clean → IsInState c key known) × (answer ≡ draining_under known) × (new ≡ old))
-    ((made : List CallAt) × InTurn (IsCallAt clean c.objects) calls made × (came : Keyed Unfinished) × (clean → KnowsKey c key came) × AttemptsUnder old made came new × (answer ≡ do_under_answer life came))
+abbrev pub DoesDoUnder : Type 0 → ℕ → ℕ → Contents → List Prepared → Stored → List AskedCall → List ℕ → AnswerLine → Stored → Type 0
+DoesDoUnder clean most life c ps old calls key answer new =
+    MatchBool (is_epoch_full most old) ((known : KeyState) × (clean → IsInState (now_says c old) key known) × (answer ≡ draining_under known) × (new ≡ old))
+    ((made : List CallAt) × InTurn (IsCallAt clean c.objects) calls made × (came : Keyed Unfinished) × (clean → KnowsKey (now_says c old) key came) × AttemptsUnder old made came new
+    × (answer ≡ do_under_answer life ps came))
 
 -- ---- what became of one
 
+abbrev pub outcome_answer : KeyState → AnswerLine
+outcome_answer state.Free = OutcomeIs None
+outcome_answer (state.Known known) = OutcomeIs (Some known)
+outcome_answer state.Prepared = OutcomePrepared
+outcome_answer state.Taken = OutcomeIs None
+
 abbrev pub DoesOutcome : Type 0 → Contents → Stored → List ℕ → AnswerLine → Stored → Type 0
-DoesOutcome clean c old key answer new = (found : Option Outcome) × (answer ≡ OutcomeIs found) × (clean → found ≡ outcome_under c key) × (new ≡ old)
+DoesOutcome clean c old key answer new = (known : KeyState) × (clean → IsInState (now_says c old) key known) × (answer ≡ outcome_answer known) × (new ≡ old)
 
 -- ---- what the file knows then
 
--- what an answer to a request under a key says of its transaction: it is committed
+-- what an answer to a request under a key says of its transaction: it is committed, or was decided so
 abbrev pub kept_by : Request → AnswerLine → Option KeyedOutcome
 kept_by (request.CommitUnder t key) Committed = Some (record { key = key; outcome = outcome.Committed [] })
 kept_by (request.DoUnder key) (Replied replies) = Some (record { key = key; outcome = outcome.Committed replies })
+kept_by (request.Decide key d) Decided = Some (record { key = key; outcome = decided_outcome (decision_of d) })
 kept_by r answer = None
 
 abbrev pub kept_answered : Result Request RequestFault → AnswerLine → Option KeyedOutcome
@@ -110,4 +128,7 @@ outcomes_after (Some o) outcomes = outcomes_where_free (outcomes (key_place o.ke
 
 -- what a file says after a line that was so answered
 abbrev pub said_after : Contents → List ℕ → AnswerLine → Contents
-said_after c line answer = record c { outcomes = outcomes_after (kept_answered (asked_by line).request answer) c.outcomes }
+said_after c line answer = record c {
+  outcomes = outcomes_after (kept_answered (asked_by line).request answer) c.outcomes;
+  prepared = prepared_answered (asked_by line).request answer c.prepared;
+}

@@ -15,7 +15,6 @@ use Rattle.serving.specs.declared.answer_line.AnswerLine.{AnswerLine}
 use Rattle.serving.specs.declared.answer_line.AnswerLine.TheVariants as answer
 use Rattle.serving.specs.declared.answer_line.Answered.{Answered}
 use Rattle.serving.specs.AnswersFound.{IsIt}
-use Rattle.serving.specs.Left.{Began}
 use Rattle.serving.specs.Places.{TellsSuch}
 use Rattle.serving.specs.Told.{is_lasting}
 

@@ -16,6 +16,9 @@ use Rattle.serving.specs.Does.{is_epoch_full}
 use Rattle.serving.specs.Epochs.{aborted}
 use Rattle.serving.specs.Lines.{AreLines}
 use Rattle.serving.specs.NextEpoch.{IsNextFile, limit_while}
+use Rattle.serving.specs.Prepared.{now_says}
+use Rattle.durable_store.specs.Durable.{prepared_in}
+use Rattle.journal.specs.declared.prepared_row.Prepared.{Prepared}
 use Rattle.serving.specs.Served.{Serves}
 use Rattle.serving.specs.Told.{has_lasting}
 
@@ -37,16 +40,21 @@ began_at g s = record { most = s.most_events; file = written g s.store.journal; 
 abbrev pub IsInLife : Contents → ℕ → Type 0
 IsInLife c life = (h : Header) × (c.headers ≡ h ∷ []) × (h.life ≡ life)
 
--- the file knows this of keys
+-- the file knows this of keys, and of who was prepared
 abbrev pub KnowsKeys : Contents → Contents → Type 0
-KnowsKeys said c = c.outcomes ≡ said.outcomes
+KnowsKeys said c = (c.outcomes ≡ said.outcomes) × (c.prepared ≡ said.prepared)
 
--- the file of this store in this life, which knows of keys what was said; where its epoch is over, also that file with an abort of each transaction that
--- was open, and the file that begins anew from there, with what waits to be added
+-- with an abort of each transaction that was open and isn't prepared, as the file says
+abbrev pub closed_store : Contents → Stored → Stored
+closed_store said s = aborted (prepared_in (now_says said s)) s
+
+-- the file of this store in this life, which knows of keys and of who was prepared what was said; where its epoch is over, also that file with an abort of each
+-- transaction that was open and isn't prepared, and the file that begins anew from there, with what waits to be added
 pub data IsStoreFile (over : Type 0) (waits : Option Extension) (life : ℕ) (said : Contents) (s : Stored) : Contents → Type 0 where
   present : (c : Contents) → IsStoreOf c s → IsInLife c life → KnowsKeys said c → IsStoreFile over waits life said s c
-  closed : (c : Contents) → over → IsStoreOf c (aborted s) → IsInLife c life → KnowsKeys said c → IsStoreFile over waits life said s c
-  anew : (c now : Contents) (next : Stored) → over → IsStoreOf c (aborted s) → IsInLife c life → KnowsKeys said c → IsNextFile waits (aborted s) next c now → IsStoreFile over waits life said s now
+  closed : (c : Contents) → over → IsStoreOf c (closed_store said s) → IsInLife c life → KnowsKeys said c → IsStoreFile over waits life said s c
+  anew : (c now : Contents) (next : Stored) (ps : List Prepared) → over → IsStoreOf c (closed_store said s) → IsInLife c life → KnowsKeys said c
+      → IsNextFile waits (prepared_in (now_says said s)) (closed_store said s) next ps c now → IsStoreFile over waits life said s now
 
 -- since serving began these lines were done and so answered, and this is the file then; its epoch may be over where it is full or
 -- an extension waits, or where these lines are the last

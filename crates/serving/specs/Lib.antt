@@ -18,6 +18,7 @@ pub mod Whole
 pub mod Left
 pub mod Acknowledged
 pub mod Places
+pub mod Prepared
 pub mod CommitsFound
 pub mod AnswersFound
 pub mod KeysFound

@@ -1,11 +1,12 @@
--- What begins where an epoch is over: a store at the states that were kept, and with what waits to be added.
+-- What begins where an epoch is over: a store at the committed states, with what is prepared, and with what waits to be added.
 use Rattle.std.specs.Prelude.{◌≡◌, ℕ, Bool, true, false, List, [], ◌∷◌, ◌++◌, length, Option, Some, None}
 use Rattle.table_checker.specs.Checked.{Checked}
 use Rattle.store_laws.specs.Stored.{Stored}
-use Rattle.store.specs.Renews.{Extends, Renews}
 use Rattle.store_text.specs.declared.line.ObjectLine.{ObjectLine}
 use Rattle.journal.specs.Contents.{Contents}
-use Rattle.durable_store.specs.Epochs.{renewed}
+use Rattle.durable_store.specs.Durable.{kinds}
+use Rattle.durable_store.specs.Epochs.{GoesOver, renewed_with}
+use Rattle.journal.specs.declared.prepared_row.Prepared.{Prepared}
 use Rattle.durable_store.specs.Growth.{AreAdded, ArePlaced, AreUnknown, Grows}
 use Rattle.serving.specs.declared.additions.Added.{Added}
 use Rattle.serving.specs.declared.answer_line.AnswerLine.{AnswerLine}
@@ -20,19 +21,19 @@ limit_while (Some e) most = 0
 
 -- ---- another epoch
 
--- a store begins anew at the states that another one kept, and has the objects of what waits behind those
-abbrev pub IsNextStore : Option Extension → Stored → Stored → Type 0
-IsNextStore None old new = Renews old new
-IsNextStore (Some e) old new = (types : List Checked) × AreAdded e.added.texts.items e.added.lines.items types × Extends old types new
+-- a store begins anew at the states that had committed at another one, and has the objects of what waits behind those; what is prepared there goes over
+abbrev pub IsNextStore : Option Extension → List Prepared → Stored → Stored → List Prepared → Type 0
+IsNextStore None ps old new now = GoesOver [] old ps new now
+IsNextStore (Some e) ps old new now = (types : List Checked) × AreAdded e.added.texts.items e.added.lines.items types × GoesOver types old ps new now
 
 -- and so does its file
-abbrev pub IsNextFile : Option Extension → Stored → Stored → Contents → Contents → Type 0
-IsNextFile None old new c now = Renews old new × (now ≡ renewed c new.types)
-IsNextFile (Some e) old new c now = Grows e.added.texts.items e.added.lines.items old new c now
+abbrev pub IsNextFile : Option Extension → List Prepared → Stored → Stored → List Prepared → Contents → Contents → Type 0
+IsNextFile None ps old new new_ps c now = GoesOver [] old ps new new_ps × (now ≡ renewed_with c new.types (kinds new.history) new_ps)
+IsNextFile (Some e) ps old new new_ps c now = Grows e.added.texts.items e.added.lines.items old ps new new_ps c now
 
--- a file says the same of its objects, their types, and what became of transactions that have keys
+-- a file says the same of its objects, their types, what became of transactions that have keys, and which were prepared
 abbrev pub SaysSame : Contents → Contents → Type 0
-SaysSame c now = (now.objects ≡ c.objects) × (now.types ≡ c.types) × (now.outcomes ≡ c.outcomes)
+SaysSame c now = (now.objects ≡ c.objects) × (now.types ≡ c.types) × (now.outcomes ≡ c.outcomes) × (now.prepared ≡ c.prepared)
 
 -- it has objects and texts more: none of these texts was there
 pub record HasMoreObjects (a : Added) (c now : Contents) : Type 0 where
@@ -44,10 +45,10 @@ pub record HasMoreObjects (a : Added) (c now : Contents) : Type 0 where
   pub types : now.types ≡ c.types ++ fresh
   pub outcomes : now.outcomes ≡ c.outcomes
 
--- what it says of these where another epoch begins
-abbrev pub SaysNext : Option Extension → Contents → Contents → Type 0
-SaysNext None c now = SaysSame c now
-SaysNext (Some e) c now = HasMoreObjects e.added c now
+-- what it says of these where another epoch begins, in which these are prepared
+abbrev pub SaysNext : Option Extension → List Prepared → Contents → Contents → Type 0
+SaysNext None ps c now = SaysSame (record c { prepared = ps }) now
+SaysNext (Some e) ps c now = HasMoreObjects e.added c now × (now.prepared ≡ ps)
 
 -- ---- what is answered
 

@@ -55,13 +55,16 @@ pub record HasServed {S : Type 0} (g : Ghosts S) (began : Session S) (told : Lis
   pub says : Clean g now.session.store.journal → SaysSame said (written g now.session.store.journal)
   pub serves : Serves (Clean g now.session.store.journal) began.most_events (written g began.store.journal) began.life lines began.store.store (told ++ now.answers.items) now.session.life said now.session.store.store now.end now.session.waiting
 
--- what is written says of keys what it said
+-- what is written says of keys, and of who was prepared, what it said
 abbrev pub KeepsAll : {S : Type 0} (g : Ghosts S) → Durable S → Durable S → Type 0
-KeepsAll g old new = Clean g new.journal → (written g new.journal).outcomes ≡ (written g old.journal).outcomes
+KeepsAll g old new =
+    Clean g new.journal → ((written g new.journal).outcomes ≡ (written g old.journal).outcomes) × ((written g new.journal).prepared ≡ (written g old.journal).prepared)
 
--- what is written says of keys what it says after this line
+-- what is written says of keys, and of who was prepared, what it says after this line
 abbrev pub KeepsKeys : {S : Type 0} (g : Ghosts S) → Durable S → List ℕ → AnswerLine → Durable S → Type 0
-KeepsKeys g old line answer new = Clean g new.journal → (written g new.journal).outcomes ≡ (said_after (written g old.journal) line answer).outcomes
+KeepsKeys g old line answer new =
+    Clean g new.journal → ((written g new.journal).outcomes ≡ (said_after (written g old.journal) line answer).outcomes)
+    × ((written g new.journal).prepared ≡ (said_after (written g old.journal) line answer).prepared)
 
 -- a line is answered: what it asks for may wait now; or it is done, in the same epoch
 abbrev pub DoesAsked : {S : Type 0} (g : Ghosts S) → Session S → List ℕ → Answered → Session S → Type 0

@@ -4,11 +4,12 @@ use Rattle.std.specs.Fmt.{decimal}
 use Rattle.std.specs.List.{flat_map, list_any}
 use Rattle.std.specs.Io.KnownBytes.{Appends}
 use Rattle.serving.specs.declared.answer_line.AnswerLine.{AnswerLine}
-use Rattle.serving.specs.declared.answer_line.AnswerLine.TheVariants.{Committed, Extended, Seen, SeenStates, NothingSeen, Completed, CompletedOne, Replied, KeyRefused, OutcomeIs}
+use Rattle.serving.specs.declared.answer_line.AnswerLine.TheVariants.{Committed, Decided, Extended, Held, Seen, SeenStates, NothingSeen, Completed, CompletedOne, Replied, KeyRefused, OutcomeIs, OutcomePrepared, Voted, VotedBefore}
 use Rattle.serving.specs.declared.answer_line.Answered.{Answered}
 use Rattle.serving.specs.AnswerText.{answer_text, pieces_text}
 
--- it says that something is done which no crash takes away: a commit, or that objects were added; or what was seen of committed states, or of keys
+-- it says that something is done which no crash takes away: a commit, a vote, a decision, or that objects were added; or what was seen of committed states, or
+-- of keys
 abbrev pub is_lasting : AnswerLine → Bool
 is_lasting Committed = true
 is_lasting (Extended first) = true
@@ -20,6 +21,11 @@ is_lasting (CompletedOne reply) = true
 is_lasting (Replied replies) = true
 is_lasting (KeyRefused why) = true
 is_lasting (OutcomeIs found) = true
+is_lasting OutcomePrepared = true
+is_lasting Voted = true
+is_lasting VotedBefore = true
+is_lasting Decided = true
+is_lasting (Held prepared) = true
 is_lasting answer = false
 
 abbrev pub has_lasting : List Answered → Bool
@@ -31,7 +37,7 @@ answers_text answers = flat_map (λ (a : Answered). answer_text a.tag a.answer) 
 
 -- the first line: the version of what is spoken, and the number of the store's life
 abbrev pub greeting : ℕ → List ℕ
-greeting life = pieces_text (codes "colock 4 " ∷ decimal life ∷ (10 ∷ []) ∷ [])
+greeting life = pieces_text (codes "colock 5 " ∷ decimal life ∷ (10 ∷ []) ∷ [])
 
 -- known bytes grow by a beginning of a text, which may be all of it
 abbrev pub AppendsPart : Option (List ℕ) → Option (List ℕ) → List ℕ → Type 0

@@ -15,6 +15,9 @@ use Rattle.serving.specs.EpochEnd.{EndsEpoch, last_answers}
 use Rattle.serving.specs.Epochs.{aborted}
 use Rattle.serving.specs.Group.{AreFirstLines, HasTold}
 use Rattle.serving.specs.NextEpoch.{IsNextStore, late_answer}
+use Rattle.serving.specs.Prepared.{now_says}
+use Rattle.durable_store.specs.Durable.{prepared_in}
+use Rattle.journal.specs.declared.prepared_row.Prepared.{Prepared}
 use Rattle.serving.specs.Served.{Serves}
 use Rattle.serving.specs.Server.{life_of}
 use Rattle.serving.specs.Told.{AppendsPart, answers_text, greeting}
@@ -49,4 +52,4 @@ pub record StopsServing {S : Type 0} (g : Ghosts S) (most : ℕ) (began : Durabl
   pub waits : Option Extension
   pub serves : Serves (Clean g now.journal) most (written g began.journal) (life_of began) lines began.store answers life said reached ended waits
   pub told : AppendsPart taken taken_now (greeting (life_of began) ++ answers_text answers)
-      ⊎ (IsNextStore waits (aborted reached) now.store × AppendsPart taken taken_now ((greeting (life_of began) ++ answers_text answers) ++ answers_text (last_answers (late_answer waits reached) ended)))
+      ⊎ ((ps : List Prepared) × (Clean g now.journal → ps ≡ prepared_in (now_says said reached)) × IsNextStore waits ps (aborted ps reached) now.store now.prepared.items × AppendsPart taken taken_now ((greeting (life_of began) ++ answers_text answers) ++ answers_text (last_answers (late_answer waits reached) ended)))

@@ -6,6 +6,7 @@ ghost use Rattle.serving.specs.AnswerText.{pieces_text, key_refusal_name, outcom
 ghost use Rattle.std.specs.List.{flat_map};
 
 use crate::answer_line::{AnswerLine, KeyRefusal, Moment};
+use crate::held_text::put_held;
 use history_text::{write_event, write_object};
 use itoa::Buffer;
 use journal::{Outcome, TypeText};
@@ -32,7 +33,11 @@ pub fn write_answer<W: Out>(
 {
     let tag = tag_of(&tag);
     match answer {
-        AnswerLine::Done | AnswerLine::Committed => put_done(out, tag),
+        AnswerLine::Done
+        | AnswerLine::Committed
+        | AnswerLine::Voted
+        | AnswerLine::VotedBefore
+        | AnswerLine::Decided => put_done(out, tag),
         AnswerLine::Begun { t } => put_transaction(out, tag, b" ok ", *t),
         AnswerLine::State { state: number }
         | AnswerLine::Extended { first: number }
@@ -45,7 +50,8 @@ pub fn write_answer<W: Out>(
             events,
             begun,
             open,
-        } => put_counts(out, tag, *events, *begun, *open),
+            prepared,
+        } => put_counts(out, tag, *events, *begun, *open, *prepared),
         AnswerLine::Objects { objects } => put_objects(out, tag, objects),
         AnswerLine::Types { texts } => put_types(out, tag, texts),
         AnswerLine::Events { events } => put_events(out, tag, events),
@@ -81,6 +87,9 @@ pub fn write_answer<W: Out>(
             )
         }
         AnswerLine::OutcomeIs { outcome } => put_outcome(out, tag, outcome),
+        AnswerLine::OutcomePrepared => put_all(out, &[tag, b" prepared\n"]),
+        AnswerLine::IsPrepared => put_all(out, &[tag, b" refused Prepared\n"]),
+        AnswerLine::Held { prepared } => put_held(out, tag, prepared),
         AnswerLine::NotAdded { why } => put_all(out, &[tag, b" no ", why.as_slice(), b"\n"]),
         AnswerLine::Waiting => put_all(out, &[]),
         AnswerLine::Refused { refusal } => {
@@ -147,6 +156,10 @@ fn key_refusal_name(why: KeyRefusal) -> &'static str
 {
     match why {
         KeyRefusal::Aborted => "Aborted",
+        KeyRefusal::Committed => "Committed",
+        KeyRefusal::Prepared => "KeyPrepared",
+        KeyRefusal::Decided => "Decided",
+        KeyRefusal::Unknown => "Unknown",
         KeyRefusal::Taken => "KeyTaken",
     }
 }
@@ -195,18 +208,20 @@ fn put_number<W: Out>(out: &mut W, tag: &[u8], number: u32) -> Result<(), OutFau
     )
 }
 
-/// Writes a tag and three counts.
+/// Writes a tag and four counts.
 fn put_counts<W: Out>(
     out: &mut W,
     tag: &[u8],
     events: u32,
     begun: u32,
     open: u32,
+    prepared: usize,
 ) -> Result<(), OutFault>
     requires { W.fault out.old ≡ None }
-    ensures { Puts (W.taken out.old) (W.taken out.new) (W.fault out.new) (counts_text tag.now events begun «open») result }
+    ensures { Puts (W.taken out.old) (W.taken out.new) (W.fault out.new) (counts_text tag.now events begun «open» prepared) result }
 {
-    let (mut first, mut second, mut third) = (Buffer::new(), Buffer::new(), Buffer::new());
+    let (mut first, mut second) = (Buffer::new(), Buffer::new());
+    let (mut third, mut last) = (Buffer::new(), Buffer::new());
     put_all(
         out,
         &[
@@ -217,6 +232,8 @@ fn put_counts<W: Out>(
             second.format(begun).as_bytes(),
             b" open ",
             third.format(open).as_bytes(),
+            b" prepared ",
+            last.format(prepared).as_bytes(),
             b"\n",
         ],
     )

@@ -137,7 +137,7 @@ fn put_greeting<W: Out>(out: &mut W, life: u32) -> Result<(), OutFault>
     ensures { Puts (W.taken out.old) (W.taken out.new) (W.fault out.new) (greeting life) result }
 {
     let mut number = Buffer::new();
-    put_all(out, &[b"colock 4 ", number.format(life).as_bytes(), b"\n"])
+    put_all(out, &[b"colock 5 ", number.format(life).as_bytes(), b"\n"])
 }
 
 /// Writes the lines of answers.

@@ -1,11 +1,11 @@
 //! The end of an epoch: its history goes to an archive, before the file begins anew.
 
 ghost use Rattle.std.specs.Prelude.{◌≡◌, [], ◌∷◌, Some, true, is_some, OnOk, IfOk};
-ghost use Rattle.store.specs.Ends.{closing};
-ghost use Rattle.store.specs.Renews.{Renews};
+ghost use Rattle.store.specs.Ends.{closing_but};
+ghost use Rattle.durable_store.specs.Held.{prepared_numbers};
 ghost use Rattle.journal.specs.Journal.{Clean, ShowsCommit, durable, written};
-ghost use Rattle.durable_store.specs.Durable.{IsDurable, with_all, OutcomesStay, events_of_kinds};
-ghost use Rattle.durable_store.specs.Epochs.{LeavesEpoch, renewed};
+ghost use Rattle.durable_store.specs.Durable.{IsDurable, kinds, with_all, OutcomesStay, events_of_kinds};
+ghost use Rattle.durable_store.specs.Epochs.{GoesOver, LeavesEpoch, renewed_with};
 ghost use Rattle.serving.specs.EpochEnd.{EndsEpoch, LeavesClosed, LeavesEnd, LeavesNext};
 ghost use Rattle.serving.specs.NextEpoch.{IsNextFile, IsNextStore, late_answer};
 ghost use Rattle.serving.specs.Archives.{KeepsEpochs, text_of_epoch};
@@ -27,12 +27,12 @@ use sqlite_trees::store::Alter;
 use std::alloc::{AllocError, Global};
 use store_text::ObjectLine;
 
-/// Aborts what is open, gives the history of the epoch to the archive, and begins another epoch, all of it durable: with
+/// Aborts what is open and isn't prepared, gives the history of the epoch to the archive, and begins another epoch, all of it durable: with
 /// the objects of what waits, which is answered then.
 ///
 /// # Errors
 ///
-/// The file or the archive failed, or memory was refused: who opens the file again finds what was open aborted. It has
+/// The file or the archive failed, or memory was refused: who opens the file again finds what was open and wasn't prepared aborted. It has
 /// begun anew only where the archive keeps the history.
 pub(crate) fn end_epoch<S: Alter, A: Archive>(
     alloc: Global,
@@ -57,7 +57,7 @@ pub(crate) fn end_epoch<S: Alter, A: Archive>(
     }
 }
 
-/// Aborts what is open, and gives the history of the epoch to the archive. What was written may be asked to be durable.
+/// Aborts what is open and isn't prepared, and gives the history of the epoch to the archive. What was written may be asked to be durable.
 ///
 /// # Errors
 ///
@@ -72,15 +72,16 @@ fn close_epoch<S: Alter, A: Archive>(
     ensures keeps { OnOk result (Clean S.Store store.new.journal → KeepsEpochs (A.kept archive.old) (A.kept archive.new) (written S.Store store.new.journal ∷ [])) }
     ensures sound { OnOk result (IsDurable S.Store store.new) }
     ensures shows { OnOk result (settled ≡ true → ShowsCommit S.Store store.new.journal) }
-    ensures store { OnOk result (LetsGo (aborted store.old.store) store.new.store) }
+    ensures prepared { OnOk result (store.new.prepared ≡ store.old.prepared) }
+    ensures store { OnOk result (LetsGo (aborted store.old.prepared.items store.old.store) store.new.store) }
     ensures life { OnOk result (store.new.journal.header ≡ store.old.journal.header) }
     ensures written { OnOk result (Clean S.Store store.new.journal
-        → written S.Store store.new.journal ≡ with_all (written S.Store store.old.journal) (closing store.old.store.history)) }
+        → written S.Store store.new.journal ≡ with_all (written S.Store store.old.journal) (closing_but (prepared_numbers store.old.prepared.items) store.old.store.history)) }
     ensures clean { Clean S.Store store.new.journal → Clean S.Store store.old.journal }
     ensures left { LeavesClosed S.Store store.old store.new }
     ensures crash { LeavesEpochs S.Store store.old store.new (A.kept archive.old) (A.kept archive.new) }
 {
-    store.abort_all()?;
+    store.abort_unprepared(alloc)?;
     archive_epoch(alloc, store, settled, archive)
 }
 
@@ -100,6 +101,7 @@ pub(crate) fn archive_epoch<S: Alter, A: Archive>(
     ensures sound { OnOk result (IsDurable S.Store store.new) }
     ensures shows { OnOk result (settled ≡ true → ShowsCommit S.Store store.new.journal) }
     ensures lets_go { OnOk result (LetsGo store.old.store store.new.store) }
+    ensures prepared { OnOk result (store.new.prepared ≡ store.old.prepared) }
     ensures life { OnOk result (store.new.journal.header ≡ store.old.journal.header) }
     ensures written { OnOk result (Clean S.Store store.new.journal → written S.Store store.new.journal ≡ written S.Store store.old.journal) }
     ensures clean { Clean S.Store store.new.journal → Clean S.Store store.old.journal }
@@ -124,6 +126,7 @@ fn settle_where<S: Alter>(store: &mut Durable<S>, asked: bool) -> Result<(), Jou
     ensures sound { OnOk result (IsDurable S.Store store.new) }
     ensures shows { OnOk result (asked ≡ true → ShowsCommit S.Store store.new.journal) }
     ensures lets_go { OnOk result (LetsGo store.old.store store.new.store) }
+    ensures prepared { OnOk result (store.new.prepared ≡ store.old.prepared) }
     ensures life { store.new.journal.header ≡ store.old.journal.header }
     ensures written { OnOk result (Clean S.Store store.new.journal → written S.Store store.new.journal ≡ written S.Store store.old.journal) }
     ensures clean { Clean S.Store store.new.journal → Clean S.Store store.old.journal }
@@ -147,6 +150,7 @@ fn keep_epoch<S: Alter, A: Archive>(
     ensures sound { OnOk result (IsDurable S.Store store.new) }
     ensures shows { OnOk result (ShowsCommit S.Store store.new.journal) }
     ensures lets_go { OnOk result (LetsGo store.old.store store.new.store) }
+    ensures prepared { OnOk result (store.new.prepared ≡ store.old.prepared) }
     ensures life { OnOk result (store.new.journal.header ≡ store.old.journal.header) }
     ensures written { OnOk result (Clean S.Store store.new.journal → written S.Store store.new.journal ≡ written S.Store store.old.journal) }
     ensures clean { Clean S.Store store.new.journal → Clean S.Store store.old.journal }
@@ -171,6 +175,7 @@ fn epoch_text<S: Alter>(alloc: Global, store: &mut Durable<S>) -> Result<Vec<u8>
     ensures sound { OnOk result (IsDurable S.Store store.new) }
     ensures still_shows { OnOk result (ShowsCommit S.Store store.new.journal) }
     ensures store { store.new.store ≡ store.old.store }
+    ensures prepared { store.new.prepared ≡ store.old.prepared }
     ensures life { store.new.journal.header ≡ store.old.journal.header }
     ensures written { OnOk result (Clean S.Store store.new.journal → written S.Store store.new.journal ≡ written S.Store store.old.journal) }
     ensures clean { Clean S.Store store.new.journal → Clean S.Store store.old.journal }
@@ -216,7 +221,7 @@ fn events_of(alloc: Global, happened: &[EventKind]) -> Result<Vec<Event>, AllocE
     Ok(events)
 }
 
-/// Begins another epoch, where nothing is open: with the objects of what waits, which is answered then.
+/// Begins another epoch, where nothing is open but what is prepared, which goes over: with the objects of what waits, which is answered then.
 ///
 /// # Errors
 ///
@@ -230,8 +235,8 @@ fn begin_next<S: Alter>(
     requires shows { is_some waiting ≡ true → ShowsCommit S.Store store.journal }
     ensures late { IfOk result.1 (λ late. late ≡ late_answer waiting store.store) }
     ensures sound { OnOk result.1 (IsDurable S.Store result.0) }
-    ensures store { OnOk result.1 (IsNextStore waiting store.store result.0.store) }
-    ensures durable { OnOk result.1 (Clean S.Store result.0.journal → IsNextFile waiting store.store result.0.store (written S.Store store.journal) (durable S.Store result.0.journal)) }
+    ensures store { OnOk result.1 (IsNextStore waiting store.prepared.items store.store result.0.store result.0.prepared.items) }
+    ensures durable { OnOk result.1 (Clean S.Store result.0.journal → IsNextFile waiting store.prepared.items store.store result.0.store result.0.prepared.items (written S.Store store.journal) (durable S.Store result.0.journal)) }
     ensures shows { OnOk result.1 (ShowsCommit S.Store result.0.journal) }
     ensures last { OnOk result.1 (Clean S.Store result.0.journal → (written S.Store store.journal).headers ≡ store.journal.header ∷ []) }
     ensures clean { Clean S.Store result.0.journal → Clean S.Store store.journal }
@@ -249,7 +254,7 @@ fn begin_next<S: Alter>(
     }
 }
 
-/// Begins another epoch with more objects, where nothing is open, and answers that they are there.
+/// Begins another epoch with more objects, where nothing is open but what is prepared, and answers that they are there.
 ///
 /// # Errors
 ///
@@ -263,8 +268,8 @@ fn extend<S: Alter>(
     requires shows { ShowsCommit S.Store store.journal }
     ensures late { IfOk result.1 (λ late. late ≡ late_answer (Some extension) store.store) }
     ensures sound { OnOk result.1 (IsDurable S.Store result.0) }
-    ensures store { OnOk result.1 (IsNextStore (Some extension) store.store result.0.store) }
-    ensures durable { OnOk result.1 (Clean S.Store result.0.journal → IsNextFile (Some extension) store.store result.0.store (written S.Store store.journal) (durable S.Store result.0.journal)) }
+    ensures store { OnOk result.1 (IsNextStore (Some extension) store.prepared.items store.store result.0.store result.0.prepared.items) }
+    ensures durable { OnOk result.1 (Clean S.Store result.0.journal → IsNextFile (Some extension) store.prepared.items store.store result.0.store result.0.prepared.items (written S.Store store.journal) (durable S.Store result.0.journal)) }
     ensures shows { OnOk result.1 (ShowsCommit S.Store result.0.journal) }
     ensures last { OnOk result.1 (Clean S.Store result.0.journal → (written S.Store store.journal).headers ≡ store.journal.header ∷ []) }
     ensures clean { Clean S.Store result.0.journal → Clean S.Store store.journal }
@@ -281,12 +286,12 @@ fn extend<S: Alter>(
     }
 }
 
-/// Begins another epoch, where nothing is open.
+/// Begins another epoch, where nothing is open but what is prepared.
 fn renew<S: Alter>(alloc: Global, store: Durable<S>) -> (Durable<S>, Result<(), ServeFault>)
     requires { IsDurable S.Store store }
     ensures sound { OnOk result.1 (IsDurable S.Store result.0) }
-    ensures store { OnOk result.1 (Renews store.store result.0.store) }
-    ensures durable { OnOk result.1 (Clean S.Store result.0.journal → durable S.Store result.0.journal ≡ renewed (written S.Store store.journal) result.0.store.types) }
+    ensures store { OnOk result.1 (GoesOver [] store.store store.prepared.items result.0.store result.0.prepared.items) }
+    ensures durable { OnOk result.1 (Clean S.Store result.0.journal → durable S.Store result.0.journal ≡ renewed_with (written S.Store store.journal) result.0.store.types (kinds result.0.store.history) result.0.prepared.items) }
     ensures shows { OnOk result.1 (ShowsCommit S.Store result.0.journal) }
     ensures last { OnOk result.1 (Clean S.Store result.0.journal → (written S.Store store.journal).headers ≡ store.journal.header ∷ []) }
     ensures clean { Clean S.Store result.0.journal → Clean S.Store store.journal }

@@ -5,17 +5,18 @@ ghost use Rattle.journal.specs.Journal.{Clean, written};
 ghost use Rattle.durable_store.specs.Durable.{IsDurable};
 ghost use Rattle.request_text.specs.declared.request.Request.TheVariants as request;
 ghost use Rattle.serving.specs.Follows.{LeavesWritten};
-ghost use Rattle.serving.specs.Keys.{DoesCommitUnder, DoesDoUnder, DoesOutcome, commit_under_answer, committed_before, do_under_answer, done_before, draining_under, kept_by, not_open_under, outcomes_after};
+ghost use Rattle.serving.specs.Keys.{DoesCommitUnder, DoesDoUnder, DoesOutcome, commit_under_answer, committed_before, do_under_answer, done_before, draining_under, foreign_under, kept_by, outcome_answer, outcomes_after};
 ghost use Rattle.serving.specs.NextEpoch.{limit_while};
 ghost use Rattle.serving.specs.Server.{KeepsAll, StaysInEpoch};
 
 use crate::answer_line::{AnswerLine, KeyRefusal};
-use crate::session::{Session, is_full, not_open};
+use crate::names::{denied_answer, foreign};
+use crate::session::{Session, is_full};
+use crate::votes::key_refused;
 use crate::whole::ended_answer;
-use durable_store::{KeyState, Keyed, Unfinished};
-use journal::{JournalError, Outcome};
+use durable_store::{Denial, KeyState, Keyed, Unfinished};
+use journal::{JournalError, Outcome, Prepared};
 use request_text::{AskedCall, TransactionName};
-use serial_order::Refusal;
 use sqlite_trees::store::Alter;
 use std::alloc::Global;
 use transaction_key::TransactionKey;
@@ -34,8 +35,9 @@ impl<S: Alter> Session<S> {
         key: TransactionKey,
     ) -> Result<AnswerLine, JournalError>
         requires { IsDurable S.Store self.old.store }
-        ensures does { IfOk result (λ a. DoesCommitUnder (Clean S.Store self.new.store.journal) self.old.life (written S.Store self.old.store.journal) self.old.store.store t key a self.new.store.store) }
+        ensures does { IfOk result (λ a. DoesCommitUnder (Clean S.Store self.new.store.journal) self.old.life (written S.Store self.old.store.journal) self.old.store.prepared.items self.old.store.store t key a self.new.store.store) }
         ensures keys { IfOk result (λ a. Clean S.Store self.new.store.journal → (written S.Store self.new.store.journal).outcomes ≡ outcomes_after (kept_by (request.CommitUnder t key) a) (written S.Store self.old.store.journal).outcomes) }
+        ensures rows { OnOk result (Clean S.Store self.new.store.journal → (written S.Store self.new.store.journal).prepared ≡ (written S.Store self.old.store.journal).prepared) }
         ensures stays_in_epoch { OnOk result (StaysInEpoch S.Store self.old self.new) }
         ensures waits { self.new.waiting ≡ self.old.waiting }
         ensures clean { Clean S.Store self.new.store.journal → Clean S.Store self.old.store.journal }
@@ -43,7 +45,8 @@ impl<S: Alter> Session<S> {
     {
         if t.life != self.life {
             let known = self.store.state_of(alloc, &key)?;
-            return Ok(not_open_under(known));
+            let answer = foreign(self.store.prepared(), t);
+            return Ok(foreign_under(answer, known));
         }
         let came = self.store.commit_under(alloc, t.number, key)?;
         Ok(commit_under_answer(came))
@@ -62,8 +65,9 @@ impl<S: Alter> Session<S> {
         key: TransactionKey,
     ) -> Result<AnswerLine, JournalError>
         requires { IsDurable S.Store self.old.store }
-        ensures does { IfOk result (λ a. DoesDoUnder (Clean S.Store self.new.store.journal) (limit_while self.old.waiting self.old.most_events) self.old.life (written S.Store self.old.store.journal) self.old.store.store calls.now key a self.new.store.store) }
+        ensures does { IfOk result (λ a. DoesDoUnder (Clean S.Store self.new.store.journal) (limit_while self.old.waiting self.old.most_events) self.old.life (written S.Store self.old.store.journal) self.old.store.prepared.items self.old.store.store calls.now key a self.new.store.store) }
         ensures keys { IfOk result (λ a. Clean S.Store self.new.store.journal → (written S.Store self.new.store.journal).outcomes ≡ outcomes_after (kept_by (request.DoUnder key) a) (written S.Store self.old.store.journal).outcomes) }
+        ensures rows { OnOk result (Clean S.Store self.new.store.journal → (written S.Store self.new.store.journal).prepared ≡ (written S.Store self.old.store.journal).prepared) }
         ensures stays_in_epoch { OnOk result (StaysInEpoch S.Store self.old self.new) }
         ensures waits { self.new.waiting ≡ self.old.waiting }
         ensures clean { Clean S.Store self.new.store.journal → Clean S.Store self.old.store.journal }
@@ -76,7 +80,7 @@ impl<S: Alter> Session<S> {
         }
         let made = self.calls_at(alloc, calls)?;
         let came = self.store.attempt_under(alloc, &made, key)?;
-        Ok(do_under_answer(self.life, came))
+        Ok(do_under_answer(self.life, self.store.prepared(), came))
     }
 
     /// What became of the transaction that has this key. It is answered only once that is settled.
@@ -97,8 +101,8 @@ impl<S: Alter> Session<S> {
         ensures clean { Clean S.Store self.new.store.journal → Clean S.Store self.old.store.journal }
         ensures crash { LeavesWritten S.Store self.old.store self.new.store }
     {
-        let outcome = self.store.outcome(alloc, &key)?;
-        Ok(AnswerLine::OutcomeIs { outcome })
+        let known = self.store.state_of(alloc, &key)?;
+        Ok(outcome_answer(known))
     }
 }
 
@@ -115,25 +119,27 @@ fn committed_before(known: Outcome) -> AnswerLine
 }
 
 /// What a commit under a key is answered.
-fn commit_under_answer(came: Keyed<Refusal>) -> AnswerLine
+fn commit_under_answer(came: Keyed<Denial>) -> AnswerLine
     ensures { result ≡ commit_under_answer came }
 {
     match came {
         Keyed::Done(_) => AnswerLine::Committed,
-        Keyed::Undone(refusal) => AnswerLine::Refused { refusal },
+        Keyed::Undone(why) => denied_answer(why),
         Keyed::Known(known) => committed_before(known),
-        Keyed::Taken => taken(),
+        Keyed::Prepared => key_refused(KeyRefusal::Prepared),
+        Keyed::Taken => key_refused(KeyRefusal::Taken),
     }
 }
 
-/// What one is answered whose transaction is of another life.
-fn not_open_under(known: KeyState) -> AnswerLine
-    ensures { result ≡ not_open_under known }
+/// What one is answered whose transaction is of another life, which is answered this where the key is free.
+fn foreign_under(answer: AnswerLine, known: KeyState) -> AnswerLine
+    ensures { result ≡ foreign_under answer known }
 {
     match known {
-        KeyState::Free => not_open(),
+        KeyState::Free => answer,
         KeyState::Known(known) => committed_before(known),
-        KeyState::Taken => taken(),
+        KeyState::Prepared => key_refused(KeyRefusal::Prepared),
+        KeyState::Taken => key_refused(KeyRefusal::Taken),
     }
 }
 
@@ -150,15 +156,16 @@ fn done_before(known: Outcome) -> AnswerLine
 }
 
 /// What a whole transaction under a key is answered.
-fn do_under_answer(life: u32, came: Keyed<Unfinished>) -> AnswerLine
-    ensures { result ≡ do_under_answer life came }
+fn do_under_answer(life: u32, prepared: &[Prepared], came: Keyed<Unfinished>) -> AnswerLine
+    ensures { result ≡ do_under_answer life prepared.now came }
 {
     match came {
         Keyed::Done(kept) => done_before(kept),
-        Keyed::Undone(Unfinished::Ended { at, how }) => ended_answer(life, at, how),
+        Keyed::Undone(Unfinished::Ended { at, how }) => ended_answer(life, prepared, at, how),
         Keyed::Undone(Unfinished::NotBegun(refusal)) => AnswerLine::Refused { refusal },
         Keyed::Known(known) => done_before(known),
-        Keyed::Taken => taken(),
+        Keyed::Prepared => key_refused(KeyRefusal::Prepared),
+        Keyed::Taken => key_refused(KeyRefusal::Taken),
     }
 }
 
@@ -169,15 +176,20 @@ fn draining_under(known: KeyState) -> AnswerLine
     match known {
         KeyState::Free => AnswerLine::Draining,
         KeyState::Known(known) => done_before(known),
-        KeyState::Taken => taken(),
+        KeyState::Prepared => key_refused(KeyRefusal::Prepared),
+        KeyState::Taken => key_refused(KeyRefusal::Taken),
     }
 }
 
-/// That what is kept at a key's place is another one's.
-fn taken() -> AnswerLine
-    ensures { result ≡ AnswerLine.KeyRefused KeyRefusal.Taken }
+/// What is told of a key.
+fn outcome_answer(known: KeyState) -> AnswerLine
+    ensures { result ≡ outcome_answer known }
 {
-    AnswerLine::KeyRefused {
-        why: KeyRefusal::Taken,
+    match known {
+        KeyState::Known(known) => AnswerLine::OutcomeIs {
+            outcome: Some(known),
+        },
+        KeyState::Prepared => AnswerLine::OutcomePrepared,
+        KeyState::Free | KeyState::Taken => AnswerLine::OutcomeIs { outcome: None },
     }
 }

@@ -9,13 +9,16 @@ mod client;
 mod epoch;
 mod epoch_limits;
 mod extension;
+mod held_text;
 mod keys;
 mod laws;
+mod names;
 mod reads;
 mod serve_fault;
 mod server;
 mod service;
 mod session;
+mod votes;
 mod whole;
 
 pub use additions::{Added, AdditionFault, Additions, NoAdditions};

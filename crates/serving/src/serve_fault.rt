@@ -3,7 +3,7 @@ use durable_store::OpenError;
 use journal::JournalError;
 use outputs::OutFault;
 use std::alloc::{AllocError, AllocFailed};
-use store::ExtendRefusal;
+use store::CarryRefusal;
 use thiserror::Error;
 
 /// Why a store isn't served any more.
@@ -43,7 +43,7 @@ impl From<OpenError> for ServeFault {
     fn from(error: OpenError) -> ServeFault {
         match error {
             OpenError::Journal(error) => ServeFault::Journal(error),
-            OpenError::NoMemory | OpenError::NotExtended(ExtendRefusal::NoMemory) => {
+            OpenError::NoMemory | OpenError::NotExtended(CarryRefusal::NoMemory) => {
                 ServeFault::NoMemory
             }
             error => ServeFault::Extension(error),

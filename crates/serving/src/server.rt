@@ -107,7 +107,7 @@ impl<S: Alter> Server<S> {
     }
 
     /// Serves the client, group by group: what it asks is read into the buffer, as much as is there. An epoch that is full
-    /// ends where nothing is open, or where what is open went on as long as the limits say; the archive keeps its history, where it
+    /// ends where nothing is open but what is prepared, or where what is open went on as long as the limits say; the archive keeps its history, where it
     /// asks for any, before the file begins anew. At `Ok` the client asked for the end, or the input has ended, and it got
     /// the answers to all whole lines before, in their order. However it ends, each commit that was answered survives a
     /// crash, where all that was written was durable as it began.
@@ -472,7 +472,7 @@ impl<S: Alter> Server<S> {
             → TellsSafely S.Store began given taken result.0 given_now (taken_by W.taken client.new.out)) }
         ensures stops { OnErr result.1 ((began : Began S) (given taken given_now : Option (List ℕ)) → TellsSafely S.Store began given taken self given_now (taken_by W.taken client.old.out)
             → StopsSafely S.Store began given taken result.0.session.store (taken_by W.taken client.new.out)) }
-        ensures ends { OnOk result.1 (is_epoch_full (limit_while self.session.waiting self.session.most_events) self.session.store.store ≡ true → open_count (summary self.session.store.store.history) ≡ 0
+        ensures ends { OnOk result.1 (is_epoch_full (limit_while self.session.waiting self.session.most_events) self.session.store.store ≡ true → open_count (summary self.session.store.store.history) ≤ length self.session.store.prepared.items
             → EndsEpoch S.Store self.session.waiting self.session.store result.0.session.store) }
         ensures more { IfOk result.1 (λ more. more ≡ true) }
         ensures asked { result.0.end ≡ None }
@@ -511,10 +511,12 @@ impl<S: Alter> Server<S> {
         }
     }
 
-    /// Whether the epoch is over: it is full or an extension waits, and nothing is open or the open ones had their time.
+    /// Whether the epoch is over: it is full or an extension waits, and nothing is open but what is prepared, or the open ones
+    /// had their time.
     fn is_over<C: Clock>(&mut self, clock: &C, drain: Duration) -> bool
         ensures full { result ≡ true → is_epoch_full (limit_while self.old.session.waiting self.old.session.most_events) self.old.session.store.store ≡ true }
-        ensures over { is_epoch_full (limit_while self.old.session.waiting self.old.session.most_events) self.old.session.store.store ≡ true → open_count (summary self.old.session.store.store.history) ≡ 0 → result ≡ true }
+        ensures over { is_epoch_full (limit_while self.old.session.waiting self.old.session.most_events) self.old.session.store.store ≡ true
+            → open_count (summary self.old.session.store.store.history) ≤ length self.old.session.store.prepared.items → result ≡ true }
         ensures others { self.new ≡ record self.old { full_since = self.new.full_since } }
     {
         let limit = self.session.limit();
@@ -522,7 +524,7 @@ impl<S: Alter> Server<S> {
         if !is_full(store, limit) {
             return false;
         }
-        if store.open_count() == 0 {
+        if store.open_count() as usize <= self.session.store.prepared().len() {
             return true;
         }
         match self.full_since {

@@ -31,7 +31,7 @@ use std::rt::Clock;
 /// Serves a client: greets it, and writes it the answers to its lines, group by group as they are read into the buffer.
 /// Where an epoch is full, as the limits say, or more objects were read that the client asks to be added, no further
 /// transaction begins before another epoch has begun, with these objects. Where the client has asked for the end, or its
-/// input has ended, what is open is aborted and the file begins another epoch. The history of each epoch that ends is kept
+/// input has ended, what is open and isn't prepared is aborted, and the file begins another epoch. The history of each epoch that ends is kept
 /// by the archive, where it asks for any, before the file begins anew. Then an extension is answered that waited, and the
 /// end, where the client asked for it. However it ends, each commit that was answered survives a crash,
 /// where all that was written was durable as it began.

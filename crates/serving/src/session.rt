@@ -12,8 +12,9 @@ ghost use Rattle.request_text.specs.Requests.{asked_by};
 ghost use Rattle.serving.specs.Lines.{is_taken};
 ghost use Rattle.serving.specs.NextEpoch.{MayWait, late_answer, limit_while};
 ghost use Rattle.serving.specs.Keys.{kept_answered, kept_by, outcomes_after};
+ghost use Rattle.serving.specs.Prepared.{prepared_after, prepared_answered};
 ghost use Rattle.serving.specs.Server.{DoesAsked, KeepsAll, StaysInEpoch, life_of};
-ghost use Rattle.serving.specs.Does.{DoesAbort, DoesBegin, DoesCall, DoesCommit, DoesRollback, done_or, is_epoch_full, DoesKept, DoesStats, DoesWould, call_answer, reply_of};
+ghost use Rattle.serving.specs.Does.{DoesAbort, DoesBegin, DoesCall, DoesCommit, DoesRollback, done_or, is_epoch_full, DoesKept, DoesStats, DoesWould, reply_of};
 ghost use Rattle.serving.specs.EpochEnd.{EndsEpoch, LeavesEnd};
 ghost use Rattle.serving.specs.Epochs.{LeavesEpochs, WritesEpochs};
 
@@ -22,10 +23,10 @@ use crate::answer_line::{AnswerLine, Answered};
 use crate::archive::Archive;
 use crate::epoch::end_epoch;
 use crate::extension::Extension;
+use crate::names::{denied_answer, foreign, unless_refused};
 use crate::serve_fault::ServeFault;
-use durable_store::{Durable, op_at};
+use durable_store::{Denial, Durable, op_at};
 use journal::JournalError;
-use object_calls::Answer;
 use object_name::ObjectName;
 use objects::Object;
 use request_text::{
@@ -133,9 +134,10 @@ impl<S: Alter> Session<S> {
         asked: Result<Request, RequestFault>,
     ) -> Result<AnswerLine, JournalError>
         requires { IsDurable S.Store self.old.store }
-        ensures does { IfOk result (λ a. MatchResult asked (λ request. DoesRequest (Clean S.Store self.new.store.journal) (limit_while self.old.waiting self.old.most_events) self.old.life (written S.Store self.old.store.journal) line.now self.old.store.store request a self.new.store.store)
+        ensures does { IfOk result (λ a. MatchResult asked (λ request. DoesRequest (Clean S.Store self.new.store.journal) (limit_while self.old.waiting self.old.most_events) self.old.life (written S.Store self.old.store.journal) self.old.store.prepared.items line.now self.old.store.store request a self.new.store.store)
             (λ fault. (a ≡ AnswerLine.Fault fault) × (self.new.store.store ≡ self.old.store.store))) }
         ensures keys { IfOk result (λ a. Clean S.Store self.new.store.journal → (written S.Store self.new.store.journal).outcomes ≡ outcomes_after (kept_answered asked a) (written S.Store self.old.store.journal).outcomes) }
+        ensures rows { IfOk result (λ a. Clean S.Store self.new.store.journal → (written S.Store self.new.store.journal).prepared ≡ prepared_answered asked a (written S.Store self.old.store.journal).prepared) }
         ensures stays_in_epoch { OnOk result (StaysInEpoch S.Store self.old self.new) }
         ensures waits { self.new.waiting ≡ self.old.waiting }
         ensures clean { Clean S.Store self.new.store.journal → Clean S.Store self.old.store.journal }
@@ -160,8 +162,9 @@ impl<S: Alter> Session<S> {
         request: Request,
     ) -> Result<AnswerLine, JournalError>
         requires { IsDurable S.Store self.old.store }
-        ensures does { IfOk result (λ a. DoesRequest (Clean S.Store self.new.store.journal) (limit_while self.old.waiting self.old.most_events) self.old.life (written S.Store self.old.store.journal) line.now self.old.store.store request a self.new.store.store) }
+        ensures does { IfOk result (λ a. DoesRequest (Clean S.Store self.new.store.journal) (limit_while self.old.waiting self.old.most_events) self.old.life (written S.Store self.old.store.journal) self.old.store.prepared.items line.now self.old.store.store request a self.new.store.store) }
         ensures keys { IfOk result (λ a. Clean S.Store self.new.store.journal → (written S.Store self.new.store.journal).outcomes ≡ outcomes_after (kept_by request a) (written S.Store self.old.store.journal).outcomes) }
+        ensures rows { IfOk result (λ a. Clean S.Store self.new.store.journal → (written S.Store self.new.store.journal).prepared ≡ prepared_after request a (written S.Store self.old.store.journal).prepared) }
         ensures stays_in_epoch { OnOk result (StaysInEpoch S.Store self.old self.new) }
         ensures waits { self.new.waiting ≡ self.old.waiting }
         ensures clean { Clean S.Store self.new.store.journal → Clean S.Store self.old.store.journal }
@@ -196,6 +199,9 @@ impl<S: Alter> Session<S> {
                 self.attempt_under(alloc, &calls, key)
             }
             Request::Outcome { key } => self.outcome(alloc, key),
+            Request::Prepare { t, key, until } => self.prepare(alloc, t, key, until),
+            Request::Decide { key, decision } => self.decide(alloc, key, decision),
+            Request::Prepared => self.held(alloc),
             Request::Find { name } => Ok(self.find(name)),
             Request::Stats => Ok(self.counts()),
             Request::Extend => Ok(AnswerLine::Draining),
@@ -237,7 +243,7 @@ impl<S: Alter> Session<S> {
         name: Name,
     ) -> Result<AnswerLine, JournalError>
         requires { IsDurable S.Store self.old.store }
-        ensures does { IfOk result (λ a. DoesCall self.old.life self.old.store.store t x name a self.new.store.store) }
+        ensures does { IfOk result (λ a. DoesCall self.old.life self.old.store.prepared.items self.old.store.store t x name a self.new.store.store) }
         ensures keyless { OnOk result (KeepsAll S.Store self.old.store self.new.store) }
         ensures stays_in_epoch { OnOk result (StaysInEpoch S.Store self.old self.new) }
         ensures waits { self.new.waiting ≡ self.old.waiting }
@@ -245,16 +251,16 @@ impl<S: Alter> Session<S> {
         ensures crash { LeavesWritten S.Store self.old.store self.new.store }
     {
         if t.life != self.life {
-            return Ok(not_open());
+            return Ok(foreign(self.store.prepared(), t));
         }
         let answer = self.store.call(t.number, x, name.as_bytes())?;
-        Ok(call_answer(self.store.store(), self.life, x, &answer))
+        Ok(self.call_answer(x, &answer))
     }
 
     /// Commits a transaction. It is answered only once it is settled.
     pub(crate) fn commit(&mut self, t: TransactionName) -> Result<AnswerLine, JournalError>
         requires { IsDurable S.Store self.old.store }
-        ensures does { IfOk result (λ a. DoesCommit self.old.life self.old.store.store t a self.new.store.store) }
+        ensures does { IfOk result (λ a. DoesCommit self.old.life self.old.store.prepared.items self.old.store.store t a self.new.store.store) }
         ensures keyless { OnOk result (KeepsAll S.Store self.old.store self.new.store) }
         ensures stays_in_epoch { OnOk result (StaysInEpoch S.Store self.old self.new) }
         ensures waits { self.new.waiting ≡ self.old.waiting }
@@ -262,7 +268,7 @@ impl<S: Alter> Session<S> {
         ensures crash { LeavesWritten S.Store self.old.store self.new.store }
     {
         if t.life != self.life {
-            return Ok(not_open());
+            return Ok(foreign(self.store.prepared(), t));
         }
         let ended = self.store.commit(t.number)?;
         Ok(done_or(AnswerLine::Committed, ended))
@@ -271,7 +277,7 @@ impl<S: Alter> Session<S> {
     /// Aborts a transaction.
     pub(crate) fn abort(&mut self, t: TransactionName) -> Result<AnswerLine, JournalError>
         requires { IsDurable S.Store self.old.store }
-        ensures does { IfOk result (λ a. DoesAbort self.old.life self.old.store.store t a self.new.store.store) }
+        ensures does { IfOk result (λ a. DoesAbort self.old.life self.old.store.prepared.items self.old.store.store t a self.new.store.store) }
         ensures keyless { OnOk result (KeepsAll S.Store self.old.store self.new.store) }
         ensures stays_in_epoch { OnOk result (StaysInEpoch S.Store self.old self.new) }
         ensures waits { self.new.waiting ≡ self.old.waiting }
@@ -279,7 +285,7 @@ impl<S: Alter> Session<S> {
         ensures crash { LeavesWritten S.Store self.old.store self.new.store }
     {
         if t.life != self.life {
-            return Ok(not_open());
+            return Ok(foreign(self.store.prepared(), t));
         }
         let ended = self.store.abort(t.number)?;
         Ok(done_or(AnswerLine::Done, ended))
@@ -292,7 +298,7 @@ impl<S: Alter> Session<S> {
         count: u32,
     ) -> Result<AnswerLine, JournalError>
         requires { IsDurable S.Store self.old.store }
-        ensures does { IfOk result (λ a. DoesRollback self.old.life self.old.store.store t count a self.new.store.store) }
+        ensures does { IfOk result (λ a. DoesRollback self.old.life self.old.store.prepared.items self.old.store.store t count a self.new.store.store) }
         ensures keyless { OnOk result (KeepsAll S.Store self.old.store self.new.store) }
         ensures stays_in_epoch { OnOk result (StaysInEpoch S.Store self.old self.new) }
         ensures waits { self.new.waiting ≡ self.old.waiting }
@@ -300,7 +306,7 @@ impl<S: Alter> Session<S> {
         ensures crash { LeavesWritten S.Store self.old.store self.new.store }
     {
         if t.life != self.life {
-            return Ok(not_open());
+            return Ok(foreign(self.store.prepared(), t));
         }
         let struck = self.store.rollback(t.number, count)?;
         Ok(done_or(AnswerLine::Done, struck))
@@ -308,14 +314,16 @@ impl<S: Alter> Session<S> {
 
     /// What a call would be answered now.
     pub(crate) fn would(&self, t: TransactionName, x: u32, name: Name) -> AnswerLine
-        ensures { DoesWould self.now.life self.now.store.store t x name result self.now.store.store }
+        ensures { DoesWould self.now.life self.now.store.prepared.items self.now.store.store t x name result self.now.store.store }
     {
         if t.life != self.life {
-            return not_open();
+            return foreign(self.store.prepared(), t);
         }
-        let store = self.store.store();
-        let answer = store.would_bytes(t.number, x, name.as_bytes());
-        call_answer(store, self.life, x, &answer)
+        if self.store.is_prepared(t.number) {
+            return AnswerLine::IsPrepared;
+        }
+        let answer = self.store.store().would_bytes(t.number, x, name.as_bytes());
+        self.call_answer(x, &unless_refused(answer))
     }
 
     /// The kept state of the object at x.
@@ -357,15 +365,16 @@ impl<S: Alter> Session<S> {
         }
     }
 
-    /// How many events and transactions there are.
+    /// How many events and transactions there are, and how many of these are open and prepared.
     pub(crate) fn counts(&self) -> AnswerLine
-        ensures { DoesStats self.now.store.store result self.now.store.store }
+        ensures { DoesStats self.now.store.prepared.items self.now.store.store result self.now.store.store }
     {
         let store = self.store.store();
         AnswerLine::Counts {
             events: store.event_count(),
             begun: store.begun(),
             open: store.open_count(),
+            prepared: self.store.prepared().len(),
         }
     }
 
@@ -508,15 +517,6 @@ fn is_taken(waiting: &Option<Extension>, asked: Result<Request, RequestFault>) -
     }
 }
 
-/// That a transaction isn't open.
-pub(crate) fn not_open() -> AnswerLine
-    ensures { result ≡ AnswerLine.Refused Refusal.NotOpen }
-{
-    AnswerLine::Refused {
-        refusal: Refusal::NotOpen,
-    }
-}
-
 /// Whether an epoch is full with as many events as this one has.
 pub(crate) fn is_full(store: &Store<Object>, most_events: u32) -> bool
     ensures { result ≡ is_epoch_full most_events store.now }
@@ -524,37 +524,18 @@ pub(crate) fn is_full(store: &Store<Object>, most_events: u32) -> bool
     most_events <= store.event_count()
 }
 
-/// What is answered where a request is done, or refused.
-fn done_or(done: AnswerLine, answer: Result<(), Refusal>) -> AnswerLine
+/// What is answered where a request is done, or denied.
+fn done_or(done: AnswerLine, answer: Result<(), Denial>) -> AnswerLine
     ensures { result ≡ done_or done answer }
 {
     match answer {
         Ok(()) => done,
-        Err(refusal) => AnswerLine::Refused { refusal },
-    }
-}
-
-/// What a call at x is answered.
-pub(crate) fn call_answer(
-    store: &Store<Object>,
-    life: u32,
-    x: u32,
-    answer: &Result<Answer, Refusal>,
-) -> AnswerLine
-    ensures { result ≡ call_answer store.now life x answer.now }
-{
-    match *answer {
-        Ok(Answer::Reply(k)) => reply_at(store, x, k),
-        Ok(Answer::Busy(number)) => AnswerLine::Busy {
-            blocker: TransactionName { life, number },
-        },
-        Ok(Answer::None) => AnswerLine::Nothing,
-        Err(refusal) => AnswerLine::Refused { refusal },
+        Err(why) => denied_answer(why),
     }
 }
 
 /// The reply of operation k of the object at x.
-fn reply_at(store: &Store<Object>, x: u32, k: Operation) -> AnswerLine
+pub(crate) fn reply_at(store: &Store<Object>, x: u32, k: Operation) -> AnswerLine
     ensures { result ≡ reply_of (op_of_object store.now x k) }
 {
     match op_at(store, x, k) {

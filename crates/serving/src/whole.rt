@@ -13,12 +13,14 @@ ghost use Rattle.serving.specs.Server.{KeepsAll, StaysInEpoch};
 ghost use Rattle.serving.specs.Several.{DoesDo, InTurn, IsCallAt, TellsAttempt, TellsReplies, ended_answer, found_reply, replies_of};
 
 use crate::answer_line::AnswerLine;
+use crate::names::name_of;
 use crate::reads::found_reply;
 use crate::session::{Session, is_full};
 use attempts::{Attempt, AttemptCall, Ending};
-use journal::JournalError;
+use durable_store::Durable;
+use journal::{JournalError, Prepared};
 use objects::Object;
-use request_text::{AskedCall, TransactionName, call_asked, calls_asked};
+use request_text::{AskedCall, call_asked, calls_asked};
 use sqlite_trees::store::Alter;
 use std::alloc::{AllocError, Global};
 use store::Store;
@@ -36,7 +38,7 @@ impl<S: Alter> Session<S> {
         line: &[u8],
     ) -> Result<AnswerLine, JournalError>
         requires { IsDurable S.Store self.old.store }
-        ensures does { IfOk result (λ a. DoesDo (Clean S.Store self.new.store.journal) (limit_while self.old.waiting self.old.most_events) self.old.life (written S.Store self.old.store.journal).objects self.old.store.store (calls_asked line.now) a self.new.store.store) }
+        ensures does { IfOk result (λ a. DoesDo (Clean S.Store self.new.store.journal) (limit_while self.old.waiting self.old.most_events) self.old.life self.old.store.prepared.items (written S.Store self.old.store.journal).objects self.old.store.store (calls_asked line.now) a self.new.store.store) }
         ensures keyless { OnOk result (KeepsAll S.Store self.old.store self.new.store) }
         ensures stays_in_epoch { OnOk result (StaysInEpoch S.Store self.old self.new) }
         ensures waits { self.new.waiting ≡ self.old.waiting }
@@ -63,7 +65,7 @@ impl<S: Alter> Session<S> {
         calls: &[AskedCall],
     ) -> Result<AnswerLine, JournalError>
         requires { IsDurable S.Store self.old.store }
-        ensures does { IfOk result (λ a. DoesDo (Clean S.Store self.new.store.journal) (limit_while self.old.waiting self.old.most_events) self.old.life (written S.Store self.old.store.journal).objects self.old.store.store calls.now a self.new.store.store) }
+        ensures does { IfOk result (λ a. DoesDo (Clean S.Store self.new.store.journal) (limit_while self.old.waiting self.old.most_events) self.old.life self.old.store.prepared.items (written S.Store self.old.store.journal).objects self.old.store.store calls.now a self.new.store.store) }
         ensures keyless { OnOk result (KeepsAll S.Store self.old.store self.new.store) }
         ensures stays_in_epoch { OnOk result (StaysInEpoch S.Store self.old self.new) }
         ensures waits { self.new.waiting ≡ self.old.waiting }
@@ -95,7 +97,7 @@ impl<S: Alter> Session<S> {
         requires { IsDurable S.Store self.old.store }
         ensures does { IfOk result (λ a. (asked : List Asked) → InTurn (IsCallAt (Clean S.Store self.old.store.journal) (written S.Store self.old.store.journal).objects) asked (asked_calls calls.now)
             → is_epoch_full (limit_while self.old.waiting self.old.most_events) self.old.store.store ≡ false
-            → DoesDo (Clean S.Store self.new.store.journal) (limit_while self.old.waiting self.old.most_events) self.old.life (written S.Store self.old.store.journal).objects self.old.store.store asked a self.new.store.store) }
+            → DoesDo (Clean S.Store self.new.store.journal) (limit_while self.old.waiting self.old.most_events) self.old.life self.old.store.prepared.items (written S.Store self.old.store.journal).objects self.old.store.store asked a self.new.store.store) }
         ensures keyless { OnOk result (KeepsAll S.Store self.old.store self.new.store) }
         ensures stays_in_epoch { OnOk result (StaysInEpoch S.Store self.old self.new) }
         ensures waits { self.new.waiting ≡ self.old.waiting }
@@ -103,7 +105,7 @@ impl<S: Alter> Session<S> {
         ensures crash { LeavesWritten S.Store self.old.store self.new.store }
     {
         let came = self.store.attempt(alloc, calls)?;
-        let answer = attempt_answer(alloc, self.store.store(), self.life, calls, &came)?;
+        let answer = attempt_answer(alloc, &self.store, self.life, calls, &came)?;
         Ok(answer)
     }
 
@@ -147,18 +149,18 @@ impl<S: Alter> Session<S> {
 /// # Errors
 ///
 /// Memory was refused.
-fn attempt_answer(
+fn attempt_answer<S: Alter>(
     alloc: Global,
-    store: &Store<Object>,
+    store: &Durable<S>,
     life: u32,
     calls: &[AttemptCall],
     came: &Attempt,
 ) -> Result<AnswerLine, AllocError>
-    ensures { IfOk result (λ a. TellsAttempt store.now life (asked_calls calls.now) came.now a) }
+    ensures { IfOk result (λ a. TellsAttempt store.now.store life store.now.prepared.items (asked_calls calls.now) came.now a) }
 {
     match came {
-        Attempt::Done(operations) => done_answer(alloc, store, calls, operations),
-        Attempt::Ended { at, how } => Ok(ended_answer(life, *at, *how)),
+        Attempt::Done(operations) => done_answer(alloc, store.store(), calls, operations),
+        Attempt::Ended { at, how } => Ok(ended_answer(life, store.prepared(), *at, *how)),
         Attempt::NotBegun(refusal) => Ok(AnswerLine::Refused { refusal: *refusal }),
     }
 }
@@ -219,13 +221,13 @@ fn replies_answer(
 }
 
 /// What is answered where the call at this place ended it.
-pub(crate) fn ended_answer(life: u32, at: usize, how: Ending) -> AnswerLine
-    ensures { result ≡ ended_answer life at how }
+pub(crate) fn ended_answer(life: u32, prepared: &[Prepared], at: usize, how: Ending) -> AnswerLine
+    ensures { result ≡ ended_answer life prepared.now at how }
 {
     match how {
         Ending::Busy(number) => AnswerLine::BusyAt {
             at,
-            blocker: TransactionName { life, number },
+            blocker: name_of(life, prepared, number),
         },
         Ending::None => AnswerLine::NothingAt { at },
         Ending::Refused(refusal) => AnswerLine::RefusedAt { at, refusal },

@@ -142,7 +142,7 @@ fn are_kept<S: NewTrees + Drop, R: Abort + AllocGlobal + Clock>(rt: &R) {
 fn is_held<S: NewTrees + Drop, R: Abort + AllocGlobal + Clock>(rt: &R) {
     let mut shelf = empty_shelf(rt, 0);
     let (told, trees) = served::<S, R, Shelf>(rt, &mut shelf, COMMITTED, HOUR);
-    let found = found(rt, trees.numbered(), &[]);
+    let found = found(rt, trees.numbered());
     has(rt, found.expect(rt, "no store is found"), 6, 1);
     let fault = ServeFault::Archive(ArchiveFault::Device);
     assert!(rt; (told == (Err(fault), 1, 6)) & shelf.all.is_empty());

@@ -5,14 +5,15 @@ ghost use Rattle.std.specs.Prelude.{IfSome, IsTrue, OnOk};
 ghost use Rattle.durable_store.specs.Durable.{IsDurable};
 ghost use Rattle.journal.specs.Journal.{ShowsCommit};
 
-use durable_store::{Durable, open, restart, settle_and_restart};
+use super::votes::{Judged, Kept, Voted, commit_on, decide_on, is_denied, vote_on};
+use durable_store::{Decision, Denial, Durable, open, restart, settle_and_restart};
 use journal::{FileContents, FirstState, Header, Journal, JournalError, TypeText};
 use object_calls::Answer;
 use serial_order::Refusal;
 use sqlite_trees::memory::MemStore;
 use sqlite_trees::store::{Alter, Reopen};
+use std::alloc::Global;
 use std::process::Abort;
-use store::RenewRefusal;
 use store_text::ObjectLine;
 use test_support::type_texts::COUNTER;
 use type_table::{Kind, Operation};
@@ -46,7 +47,7 @@ pub fn contents(
     let alloc = rt.alloc();
     FileContents {
         header: Header {
-            format: 6,
+            format: 7,
             id: [7; 16],
             life: 0,
         },
@@ -54,6 +55,7 @@ pub fn contents(
         objects: Vec::from_slice(alloc, lines).expect(rt, "no objects"),
         states: states_at(rt, lines.len(), state),
         events: Vec::new(alloc),
+        prepared: Vec::new(alloc),
     }
 }
 
@@ -120,17 +122,13 @@ pub fn created<S: Alter + Drop>(rt: &(impl Abort + AllocGlobal), trees: S, said:
     made(rt, trees, said).expect(rt, "no file")
 }
 
-/// The store in the file in these trees, where one is opened; those are prepared.
-pub fn found<S: Alter + Drop>(
-    rt: &impl AllocGlobal,
-    trees: S,
-    prepared: &[u32],
-) -> Option<Durable<S>>
+/// The store in the file in these trees, where one is opened.
+pub fn found<S: Alter + Drop>(rt: &impl AllocGlobal, trees: S) -> Option<Durable<S>>
     requires { IsClean (S.Store.view trees) → IsTrue (S.Store.view trees).is_numbered }
     ensures sound { IfSome result (λ store. IsDurable S.Store store) }
     ensures shows { IfSome result (λ store. ShowsCommit S.Store store.journal) }
 {
-    match open(rt.alloc(), trees, prepared) {
+    match open(rt.alloc(), trees) {
         Ok(store) => Some(store),
         Err(_) => None,
     }
@@ -144,7 +142,7 @@ pub fn new_store_of<S: NewTrees + Drop, R: Abort + AllocGlobal>(
     ensures { IsDurable S.Store result }
 {
     let trees = created(rt, S::no_trees(rt), said);
-    found(rt, trees, &[]).expect(rt, "the file isn't opened")
+    found(rt, trees).expect(rt, "the file isn't opened")
 }
 
 /// A new store of the two counters.
@@ -170,10 +168,20 @@ pub enum Act {
     Settle,
     /// The store has this many events, in this life.
     Has(u32, u32),
+    /// This transaction is asked to be prepared under a key, which comes to that.
+    Prepare(u32, &'static [u8], Voted),
+    /// A decision is asked under a key, which comes to that.
+    Decide(&'static [u8], Decision, Judged),
+    /// This transaction is prepared: a call, a rollback, a commit and an abort of it are denied.
+    Denied(u32),
+    /// To count up by this transaction at this object, that one is in the way.
+    Busy(u32, u32, u32),
+    /// This transaction, which is the next one, counts up at the first object and commits under a key, which comes to that.
+    CommitsUnder(u32, &'static [u8], Kept),
 }
 
 /// Does this, and tells whether it was answered as it is to be.
-pub fn does<S: Alter>(store: &mut Durable<S>, act: Act) -> Result<bool, JournalError>
+pub fn does<S: Alter>(alloc: Global, store: &mut Durable<S>, act: Act) -> Result<bool, JournalError>
     requires { IsDurable S.Store store.old }
     ensures { OnOk result (IsDurable S.Store store.new) }
 {
@@ -190,11 +198,18 @@ pub fn does<S: Alter>(store: &mut Durable<S>, act: Act) -> Result<bool, JournalE
         Act::Has(events, life) => {
             Ok((store.store().event_count() == events) & (store.life() == life))
         }
+        Act::Prepare(t, key, wanted) => Ok(vote_on(alloc, store, t, key)? == Some(wanted)),
+        Act::Decide(key, decision, wanted) => {
+            Ok(decide_on(alloc, store, key, decision)? == Some(wanted))
+        }
+        Act::Denied(t) => is_denied(store, t),
+        Act::Busy(t, x, other) => { Ok(store.call(t, x, b"inc:1")? == Ok(Answer::Busy(other))) }
+        Act::CommitsUnder(t, key, wanted) => Ok(commit_on(alloc, store, t, key)? == Some(wanted)),
     }
 }
 
 /// The same of a count.
-fn counts<S: Alter>(store: &mut Durable<S>, t: u32, x: u32) -> Result<bool, JournalError>
+pub fn counts<S: Alter>(store: &mut Durable<S>, t: u32, x: u32) -> Result<bool, JournalError>
     requires { IsDurable S.Store store.old }
     ensures { OnOk result (IsDurable S.Store store.new) }
 {
@@ -208,7 +223,7 @@ fn aborts<S: Alter>(store: &mut Durable<S>, t: u32) -> Result<bool, JournalError
 {
     let back = store.rollback(t, 1)?.is_ok();
     let ended = store.abort(t)?.is_ok();
-    let again = store.abort(t)? == Err(Refusal::NotOpen);
+    let again = store.abort(t)? == Err(Denial::Refused(Refusal::NotOpen));
     Ok(back & ended & again)
 }
 
@@ -257,16 +272,12 @@ pub fn has_settled<S: Alter + Reopen + Drop>(
     assert!(rt; is_settled);
 }
 
-/// Another epoch begins, or this is refused.
-pub fn renewed<S: Alter + Drop>(
-    rt: &(impl Abort + AllocGlobal),
-    store: Durable<S>,
-    wanted: Result<(), RenewRefusal>,
-) -> Durable<S>
+/// Another epoch begins.
+pub fn renewed<S: Alter + Drop>(rt: &(impl Abort + AllocGlobal), store: Durable<S>) -> Durable<S>
     requires { IsDurable S.Store store }
     ensures { IsDurable S.Store result }
 {
     let (store, told) = store.renew(rt.alloc());
-    assert!(rt; told.expect(rt, "the file failed") == wanted);
+    told.expect(rt, "the file failed").expect(rt, "no memory");
     store
 }

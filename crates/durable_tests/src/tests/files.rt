@@ -8,7 +8,7 @@ use super::counters::{
     IN_PLACE, NewTrees, TWO, contents, created, found, has, texts_of, two_counters,
 };
 use durable_store::{OpenError, create, open};
-use journal::{Journal, JournalError};
+use journal::{GivenName, Journal, JournalError, Prepared};
 use object_trait::EventKind;
 use sqlite_trees::memory::MemStore;
 use sqlite_trees::store::Alter;
@@ -17,6 +17,7 @@ use std::test::Fail;
 use store_text::ObjectLine;
 use test_support::printed::are_printed;
 use test_support::type_texts::COUNTER;
+use transaction_key::TransactionKey;
 use type_table::Kind;
 
 /// The text of a type with a fault.
@@ -38,10 +39,10 @@ type File = (u32, &'static str, bool, u32, Option<OpenError>);
 
 /// A text with a fault; an object that names none, or begins at a state that isn't its type's. A file of a format
 /// before is opened, and one of another format isn't.
-static FILES: [File; 10] = [
-    (6, FAULTY, true, 0, Some(OpenError::Text(0))),
-    (6, COUNTER, false, 0, Some(OpenError::Untyped(1))),
-    (6, COUNTER, true, 3, Some(OpenError::Untyped(0))),
+static FILES: [File; 11] = [
+    (7, FAULTY, true, 0, Some(OpenError::Text(0))),
+    (7, COUNTER, false, 0, Some(OpenError::Untyped(1))),
+    (7, COUNTER, true, 3, Some(OpenError::Untyped(0))),
     (
         0,
         COUNTER,
@@ -54,8 +55,9 @@ static FILES: [File; 10] = [
     (3, COUNTER, true, 0, None),
     (4, COUNTER, true, 0, None),
     (5, COUNTER, true, 0, None),
+    (6, COUNTER, true, 0, None),
     (
-        7,
+        8,
         COUNTER,
         true,
         0,
@@ -67,7 +69,7 @@ static FILES: [File; 10] = [
 fn error_of<S: Alter + Drop>(rt: &(impl Abort + AllocGlobal), trees: S) -> Option<OpenError>
     requires { IsClean (S.Store.view trees) → IsTrue (S.Store.view trees).is_numbered }
 {
-    match open(rt.alloc(), trees, &[]) {
+    match open(rt.alloc(), trees) {
         Ok(store) => {
             let _ = store.into_trees();
             None
@@ -112,13 +114,34 @@ fn with_a_stray<S: Alter + Drop>(rt: &(impl Abort + AllocGlobal), trees: S) -> S
     journal.into_store()
 }
 
-/// That trees without a table are no file of a store, and that an event which nothing makes is told.
+/// Adds a prepared transaction that hasn't begun to the file in these trees.
+fn with_a_stray_row<S: Alter + Drop>(rt: &(impl Abort + AllocGlobal), trees: S) -> S
+    requires { IsClean (S.Store.view trees) → IsTrue (S.Store.view trees).is_numbered }
+    ensures { IsClean (S.Store.view result) → IsTrue (S.Store.view result).is_numbered }
+{
+    let mut journal = journal_in(rt, trees);
+    let row = Prepared {
+        key: TransactionKey::from_bytes(b"a").expect(rt, "no key"),
+        given: GivenName { life: 1, number: 0 },
+        number: 0,
+        until: 0,
+    };
+    journal.prepare(&row).expect(rt, "not written");
+    journal.commit().expect(rt, "not committed");
+    journal.into_store()
+}
+
+/// That trees without a table are no file of a store, and that an event which nothing makes is told, and a transaction that is
+/// prepared and hasn't begun.
 fn strays_are_told<S: NewTrees + Drop, R: Abort + AllocGlobal>(rt: &R) {
     let foreign = error_of(rt, S::no_trees(rt));
     assert!(rt; foreign == Some(OpenError::Journal(JournalError::Foreign)));
     let trees = created(rt, S::no_trees(rt), &two_counters(rt));
     let stray = error_of(rt, with_a_stray(rt, trees));
     assert!(rt; stray == Some(OpenError::NotMade(1)));
+    let trees = created(rt, S::no_trees(rt), &two_counters(rt));
+    let stray = error_of(rt, with_a_stray_row(rt, trees));
+    assert!(rt; stray == Some(OpenError::NotPrepared(0)));
 }
 
 /// Why no new file is made of one text and these lines. A file that is made is opened: its objects are at the initial
@@ -138,7 +161,7 @@ fn error_of_new<S: NewTrees + Drop, R: Abort + AllocGlobal>(
         lines,
     ) {
         Ok(trees) => {
-            let store = found(rt, trees, &[]);
+            let store = found(rt, trees);
             has(rt, store.expect(rt, "it isn't opened"), 0, 0);
             None
         }
@@ -180,6 +203,10 @@ fn errors_are_printed(rt: HostRuntime) -> Result<(), Fail> {
             (OpenError::Text(3), "the text of type 3 has a fault"),
             (OpenError::Untyped(0), "object 0 has no type"),
             (OpenError::NotMade(12), "no command makes event 12"),
+            (
+                OpenError::NotPrepared(2),
+                "no transaction is prepared as row 2 says",
+            ),
             (OpenError::NoMemory, "memory was refused"),
         ],
     )

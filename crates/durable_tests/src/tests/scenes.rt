@@ -3,14 +3,14 @@
 ghost use Rattle.durable_store.specs.Durable.{IsDurable};
 
 use super::counters::{
-    Act, IN_PLACE, NewTrees, contents, does, found, has, has_settled, new_store, new_store_of,
-    renewed, restarted,
+    Act, IN_PLACE, NewTrees, contents, does, has, has_settled, new_store, new_store_of, renewed,
+    restarted,
 };
-use durable_store::Durable;
+use super::votes::{Judged, Kept, Voted};
+use durable_store::{Decision, Durable};
 use sqlite_trees::memory::MemStore;
 use sqlite_trees::store::{Alter, Reopen};
 use std::process::Abort;
-use store::RenewRefusal;
 use test_support::type_texts::COUNTER;
 
 /// What happens to a store.
@@ -20,10 +20,8 @@ enum Step {
     Does(Act),
     /// The machine stops, and the file is opened again.
     Restart,
-    /// The file is opened again, where this transaction is prepared.
-    Prepare(u32),
-    /// Another epoch begins, or this is refused.
-    Renew(Result<(), RenewRefusal>),
+    /// Another epoch begins.
+    Renew,
 }
 
 /// What happens to a new store, whether the machine stops then at the moment of a settling that answers; how many events
@@ -31,12 +29,12 @@ enum Step {
 type Scene = (&'static [Step], bool, u32, u32);
 
 /// The store where this was done, and answered as it is to be.
-fn done<S: Alter>(rt: &impl Abort, store: Durable<S>, act: Act) -> Durable<S>
+fn done<S: Alter>(rt: &(impl Abort + AllocGlobal), store: Durable<S>, act: Act) -> Durable<S>
     requires { IsDurable S.Store store }
     ensures { IsDurable S.Store result }
 {
     let mut store = store;
-    let is_told = does(&mut store, act).expect(rt, "the file failed");
+    let is_told = does(rt.alloc(), &mut store, act).expect(rt, "the file failed");
     assert!(rt; is_told);
     store
 }
@@ -53,8 +51,7 @@ fn stepped<S: Alter + Reopen + Drop>(
     match step {
         Step::Does(act) => done(rt, store, act),
         Step::Restart => restarted(rt, store),
-        Step::Prepare(t) => found(rt, store.into_trees(), &[t]).expect(rt, "it isn't opened"),
-        Step::Renew(wanted) => renewed(rt, store, wanted),
+        Step::Renew => renewed(rt, store),
     }
 }
 
@@ -75,7 +72,7 @@ fn played<S: Alter + Reopen + Drop>(
 }
 
 /// What was settled is found after a stop of the machine, and what wasn't is gone.
-static OUTAGES: [Scene; 7] = [
+static OUTAGES: [Scene; 6] = [
     (
         &[
             Step::Does(Act::Commits(0)),
@@ -114,22 +111,6 @@ static OUTAGES: [Scene; 7] = [
         4,
         0,
     ),
-    // What is prepared stays open, with what it did; what else was open is aborted.
-    (
-        &[
-            Step::Does(Act::Begin(0)),
-            Step::Does(Act::Begin(1)),
-            Step::Does(Act::Count(0, 0)),
-            Step::Does(Act::Count(1, 0)),
-            Step::Does(Act::Count(1, 1)),
-            Step::Does(Act::Settle),
-            Step::Prepare(1),
-            Step::Does(Act::Commit(1)),
-        ],
-        false,
-        7,
-        1,
-    ),
     (&[Step::Does(Act::Commits(0))], true, 4, 1),
     // A refusal is no event, and a rollback and an abort are.
     (
@@ -147,13 +128,13 @@ static OUTAGES: [Scene; 7] = [
 ];
 
 /// Another epoch begins at the states that were kept, in a higher life, and goes on with events of its own.
-static EPOCHS: [Scene; 5] = [
+static EPOCHS: [Scene; 4] = [
     (
         &[
             Step::Does(Act::Commits(0)),
             Step::Does(Act::Settle),
             Step::Does(Act::Has(4, 1)),
-            Step::Renew(Ok(())),
+            Step::Renew,
             Step::Does(Act::Has(0, 2)),
             Step::Restart,
             Step::Does(Act::Has(0, 3)),
@@ -166,7 +147,7 @@ static EPOCHS: [Scene; 5] = [
         &[
             Step::Does(Act::Commits(0)),
             Step::Does(Act::Settle),
-            Step::Renew(Ok(())),
+            Step::Renew,
             Step::Does(Act::Begin(0)),
             Step::Does(Act::Count(0, 0)),
             Step::Does(Act::Count(0, 1)),
@@ -184,7 +165,7 @@ static EPOCHS: [Scene; 5] = [
         &[
             Step::Does(Act::Commits(0)),
             Step::Does(Act::Settle),
-            Step::Renew(Ok(())),
+            Step::Renew,
             Step::Does(Act::Commits(0)),
             Step::Restart,
         ],
@@ -197,10 +178,10 @@ static EPOCHS: [Scene; 5] = [
         &[
             Step::Does(Act::Commits(0)),
             Step::Does(Act::Settle),
-            Step::Renew(Ok(())),
+            Step::Renew,
             Step::Does(Act::Commits(0)),
             Step::Does(Act::Settle),
-            Step::Renew(Ok(())),
+            Step::Renew,
             Step::Restart,
             Step::Does(Act::Has(0, 4)),
             Step::Restart,
@@ -210,21 +191,157 @@ static EPOCHS: [Scene; 5] = [
         0,
         2,
     ),
-    // While a transaction is open none begins, and nothing changes.
+];
+
+/// What is prepared stays open until it is decided, with what it did and whom it keeps out.
+static HELD: [Scene; 7] = [
+    // A restart aborts what else was open.
     (
         &[
-            Step::Does(Act::Commits(0)),
-            Step::Does(Act::Settle),
+            Step::Does(Act::Begin(0)),
             Step::Does(Act::Begin(1)),
+            Step::Does(Act::Count(0, 0)),
             Step::Does(Act::Count(1, 0)),
-            Step::Renew(Err(RenewRefusal::StillOpen)),
             Step::Does(Act::Count(1, 1)),
-            Step::Does(Act::Has(7, 1)),
+            Step::Does(Act::Prepare(1, b"a", Voted::Prepared)),
+            Step::Does(Act::Settle),
+            Step::Restart,
+            Step::Does(Act::Has(6, 2)),
+            Step::Does(Act::Denied(1)),
+            Step::Does(Act::Begin(2)),
+            Step::Does(Act::Busy(2, 1, 1)),
+            Step::Does(Act::Decide(b"a", Decision::Commit, Judged::Decided)),
+            Step::Does(Act::Settle),
             Step::Restart,
         ],
         false,
-        4,
+        10,
         1,
+    ),
+    // One that wasn't settled is gone, and its key is free.
+    (
+        &[
+            Step::Does(Act::Begin(0)),
+            Step::Does(Act::Count(0, 0)),
+            Step::Does(Act::Settle),
+            Step::Does(Act::Prepare(0, b"a", Voted::Prepared)),
+            Step::Restart,
+            Step::Does(Act::Begin(1)),
+            Step::Does(Act::Prepare(0, b"a", Voted::NotOpen)),
+            Step::Does(Act::Prepare(1, b"a", Voted::Prepared)),
+            Step::Does(Act::Settle),
+            Step::Restart,
+            Step::Does(Act::Denied(1)),
+            Step::Does(Act::Decide(b"a", Decision::Abort, Judged::Decided)),
+        ],
+        false,
+        5,
+        0,
+    ),
+    // It goes over into another epoch, and another, at the states that had committed; what else was open doesn't.
+    (
+        &[
+            Step::Does(Act::Commits(0)),
+            Step::Does(Act::Begin(1)),
+            Step::Does(Act::Begin(2)),
+            Step::Does(Act::Count(2, 0)),
+            Step::Does(Act::Count(2, 1)),
+            Step::Does(Act::Prepare(2, b"a", Voted::Prepared)),
+            Step::Does(Act::Settle),
+            Step::Renew,
+            Step::Does(Act::Has(3, 2)),
+            Step::Does(Act::Denied(0)),
+            Step::Renew,
+            Step::Restart,
+            Step::Does(Act::Has(3, 4)),
+            Step::Does(Act::Denied(0)),
+            Step::Does(Act::Begin(1)),
+            Step::Does(Act::Busy(1, 1, 0)),
+            Step::Does(Act::Decide(b"a", Decision::Commit, Judged::Decided)),
+            Step::Does(Act::Settle),
+            Step::Renew,
+            Step::Does(Act::Has(0, 5)),
+            Step::Does(Act::Decide(b"a", Decision::Commit, Judged::Decided)),
+            Step::Does(Act::Decide(b"a", Decision::Abort, Judged::Otherwise)),
+        ],
+        false,
+        0,
+        2,
+    ),
+    // Two go over in the order of their numbers, whichever was prepared first.
+    (
+        &[
+            Step::Does(Act::Begin(0)),
+            Step::Does(Act::Begin(1)),
+            Step::Does(Act::Begin(2)),
+            Step::Does(Act::Count(1, 0)),
+            Step::Does(Act::Count(2, 0)),
+            Step::Does(Act::Count(2, 1)),
+            Step::Does(Act::Prepare(2, b"b", Voted::Prepared)),
+            Step::Does(Act::Prepare(1, b"a", Voted::Prepared)),
+            Step::Renew,
+            Step::Does(Act::Has(5, 2)),
+            Step::Does(Act::Denied(0)),
+            Step::Does(Act::Denied(1)),
+            Step::Does(Act::Decide(b"a", Decision::Abort, Judged::Decided)),
+            Step::Does(Act::Denied(1)),
+            Step::Does(Act::Decide(b"b", Decision::Commit, Judged::Decided)),
+        ],
+        true,
+        7,
+        1,
+    ),
+    // An abort under a key that nobody has is kept, and nothing is prepared or commits under it later.
+    (
+        &[
+            Step::Does(Act::Decide(b"a", Decision::Commit, Judged::Unknown)),
+            Step::Does(Act::Decide(b"a", Decision::Abort, Judged::Decided)),
+            Step::Does(Act::Settle),
+            Step::Restart,
+            Step::Does(Act::Decide(b"a", Decision::Abort, Judged::Decided)),
+            Step::Does(Act::Decide(b"a", Decision::Commit, Judged::Otherwise)),
+            Step::Does(Act::Begin(0)),
+            Step::Does(Act::Prepare(0, b"a", Voted::Aborted)),
+            Step::Does(Act::CommitsUnder(1, b"a", Kept::KnownAborted)),
+            Step::Restart,
+        ],
+        false,
+        0,
+        0,
+    ),
+    // A key is one transaction's, and a transaction has one key.
+    (
+        &[
+            Step::Does(Act::Begin(0)),
+            Step::Does(Act::Begin(1)),
+            Step::Does(Act::Prepare(0, b"a", Voted::Prepared)),
+            Step::Does(Act::Prepare(0, b"a", Voted::Again)),
+            Step::Does(Act::Prepare(0, b"b", Voted::Otherwise)),
+            Step::Does(Act::Prepare(1, b"a", Voted::KeyInUse)),
+            Step::Does(Act::CommitsUnder(2, b"a", Kept::Prepared)),
+            Step::Does(Act::Decide(b"a", Decision::Commit, Judged::Decided)),
+            Step::Does(Act::Prepare(1, b"a", Voted::Committed)),
+            Step::Does(Act::CommitsUnder(3, b"c", Kept::Done)),
+            Step::Does(Act::Prepare(1, b"c", Voted::Committed)),
+            Step::Restart,
+        ],
+        false,
+        0,
+        0,
+    ),
+    // What isn't open isn't prepared, and what is decided is over.
+    (
+        &[
+            Step::Does(Act::Prepare(0, b"a", Voted::NotOpen)),
+            Step::Does(Act::Begin(0)),
+            Step::Does(Act::Prepare(0, b"a", Voted::Prepared)),
+            Step::Does(Act::Decide(b"a", Decision::Abort, Judged::Decided)),
+            Step::Does(Act::Prepare(0, b"a", Voted::NotOpen)),
+            Step::Does(Act::Prepare(0, b"b", Voted::NotOpen)),
+        ],
+        true,
+        2,
+        0,
     ),
 ];
 
@@ -248,7 +365,7 @@ static AT_THE_LAST: [Step; 13] = [
     Step::Does(Act::Settle),
     Step::Restart,
     Step::Does(Act::Has(3, 2)),
-    Step::Renew(Ok(())),
+    Step::Renew,
     Step::Does(Act::Begin(0)),
     Step::Does(Act::Count(0, 0)),
     Step::Does(Act::Count(0, 299)),
@@ -273,7 +390,7 @@ fn the_last_is_found<S: NewTrees + Drop, R: Abort + AllocGlobal>(rt: &R) {
 
 #[test]
 fn what_happened_is_found(rt: HostRuntime) {
-    for scenes in [OUTAGES.as_slice(), EPOCHS.as_slice()] {
+    for scenes in [OUTAGES.as_slice(), EPOCHS.as_slice(), HELD.as_slice()] {
         end_so::<MemStore, HostRuntime>(&rt, scenes);
     }
     the_last_is_found::<MemStore, HostRuntime>(&rt);

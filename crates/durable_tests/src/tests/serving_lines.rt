@@ -50,7 +50,7 @@ e ok
 f refused NotOpen
 g ok 1
 h refused NotOpen
-i ok events 4 begun 1 open 0
+i ok events 4 begun 1 open 0 prepared 0
 j object undo 0
 j object intentions 0
 j ok
@@ -140,8 +140,8 @@ const DRAINED: &[u8] =
     h begin\ni commit 1.1\nj begin\nk commit 1.1\nl kept 0\nm stats\n";
 
 const DRAINED_ANSWERS: &[u8] = b"a ok 1.0\nb reply ok\nc ok 1.1\nd reply ok\ne busy drain\n\
-    f ok events 4 begun 2 open 2\ng ok\nh busy drain\ni ok\nj ok 2.0\nk refused NotOpen\nl ok 1\n\
-    m ok events 1 begun 1 open 1\n";
+    f ok events 4 begun 2 open 2 prepared 0\ng ok\nh busy drain\ni ok\nj ok 2.0\nk refused NotOpen\nl ok 1\n\
+    m ok events 1 begun 1 open 1 prepared 0\n";
 
 /// What is open longer than it may is aborted.
 const CUT_SHORT: &[u8] =
@@ -150,12 +150,34 @@ const CUT_SHORT: &[u8] =
 const CUT_SHORT_ANSWERS: &[u8] =
     b"a ok 1.0\nb reply ok\nc ok 1.1\nd reply ok\ne ok 2.0\nf refused NotOpen\ng ok 0\n";
 
+/// What is asked of prepared transactions: in an epoch of six events, in the next one, into which two go over, and in the one
+/// after that, which has none.
+const HELD: &[u8] =
+    b"a begin\nb prepare 1.0 k:1 7\nc prepare 1.0 k:1 8\nd prepare 1.0 k:2 7\ne call 1.0 0 inc:1\n\
+    f would 1.0 0 inc:1\ng rollback 1.0 1\nh commit 1.0\ni abort 1.0\nj begin\nk prepare 1.1 k:1 7\n\
+    l commit 1.1 k:1\nm call 1.1 1 inc:1\nn prepare 1.1 k:3 9\no prepared\np outcome k:1\nq do 0 inc:1\n\
+    r commit 1.0\ns commit 1.0 k:9\nt begin\nu call 2.2 1 inc:1\nv prepare 1.0 k:1 7\nw prepared\nx do 1 inc:1\n\
+    a decide k:1 commit\nb decide k:1 commit\nc decide k:1 abort\nd decide k:4 commit\ne decide k:4 abort\n\
+    f prepare 2.2 k:4 0\ng prepare 2.2 k:1 0\nh stats\ni decide k:3 abort\nj outcome k:3\nk outcome k:1\n\
+    l prepared\nm do =k:4 0 inc:1\nn prepare 9.9 k:5 0\no abort 2.2\np prepare 1.0 k:1 7\nq outcome k:1\n\
+    r kept 0\ns kept 1\n";
+
+const HELD_ANSWERS: &[u8] =
+    b"a ok 1.0\nb ok\nc ok\nd refused Prepared\ne refused Prepared\nf refused Prepared\n\
+    g refused Prepared\nh refused Prepared\ni refused Prepared\nj ok 1.1\nk refused KeyPrepared\n\
+    l refused KeyPrepared\nm reply ok\nn ok\no k:1 1.0 7\no k:3 1.1 9\no ok\np prepared\nq done ok\n\
+    r refused Prepared\ns refused Prepared\nt ok 2.2\nu busy 1.1\nv ok\nw k:1 1.0 7\nw k:3 1.1 9\nw ok\nx busy 0 1.1\n\
+    a ok\nb ok\nc refused Decided\nd refused Unknown\ne ok\nf refused Aborted\ng refused Committed\n\
+    h ok events 9 begun 4 open 2 prepared 1\ni ok\nj aborted\nk committed\nl ok\nm refused Aborted\n\
+    n refused NotOpen\no ok\np refused NotOpen\nq committed\nr ok 1\ns ok 0\n";
+
 /// A service; its answers, how it ended, and how many transactions had begun in the last epoch.
 type Row = (Service, &'static [u8], Result<(), ServeFault>, u32);
 
 /// What is asked above in pieces of three sizes; an output that stops after 20 bytes, so that nothing behind `events` is done;
-/// epochs of four events, in which what is open may go on for an hour or not at all.
-static ROWS: [Row; 6] = [
+/// epochs of four events, in which what is open may go on for an hour or not at all; and epochs of six, in which transactions are
+/// prepared.
+static ROWS: [Row; 7] = [
     (
         Service {
             lines: ASKED,
@@ -227,6 +249,18 @@ static ROWS: [Row; 6] = [
         CUT_SHORT_ANSWERS,
         Ok(()),
         1,
+    ),
+    (
+        Service {
+            lines: HELD,
+            piece: 1,
+            room: 2_000,
+            most_events: 6,
+            drain: HOUR,
+        },
+        HELD_ANSWERS,
+        Ok(()),
+        0,
     ),
 ];
 

@@ -5,9 +5,10 @@ ghost use Rattle.sqlite_trees.specs.View.{IsClean};
 ghost use Rattle.durable_store.specs.Durable.{IsDurable};
 ghost use Rattle.journal.specs.Journal.{ShowsCommit};
 
-use super::counters::{IN_PLACE, commits, found, made, texts_of, two_counters};
+use super::counters::{IN_PLACE, commits, counts, found, made, texts_of, two_counters};
 use super::serving_lines::output;
 use super::stops::{Calls, FoundAgain, new_trees};
+use super::votes::vote_on;
 use durable_store::Durable;
 use journal::JournalError;
 use serving::{Client, EpochLimits, NoAdditions, NoArchive, serve};
@@ -28,6 +29,10 @@ pub enum Trial {
     Renews,
     /// A commit is settled, and objects are added.
     Grows,
+    /// A commit and a prepared transaction are settled, and another epoch is begun.
+    Holds,
+    /// The same, and objects are added where it begins.
+    HoldsAndGrows,
     /// A client is served that says these lines.
     Serves(&'static [u8]),
     /// The same, and once more of the store that is found.
@@ -41,6 +46,7 @@ pub struct Seen {
     pub objects: u32,
     pub texts: usize,
     pub events: u32,
+    pub prepared: usize,
     /// The states of two objects and of two that may be added.
     pub kept: [Option<u32>; 4],
 }
@@ -60,7 +66,7 @@ fn begun<S: Alter + Drop>(rt: &(impl Abort + AllocGlobal), trees: S) -> Option<D
     requires { IsClean (S.Store.view trees) → IsTrue (S.Store.view trees).is_numbered }
     ensures { IfSome result (λ store. IsDurable S.Store store) }
 {
-    found(rt, made(rt, trees, &two_counters(rt))?, &[])
+    found(rt, made(rt, trees, &two_counters(rt))?)
 }
 
 /// The first transaction counts up at each object, and its commit is settled.
@@ -73,6 +79,19 @@ fn counted_once<S: Alter>(store: &mut Durable<S>) -> Result<(), JournalError>
     store.settle()
 }
 
+/// The next transaction counts up at the second object and is prepared, and both are settled.
+fn held_once<S: Alter>(alloc: Global, store: &mut Durable<S>) -> Result<(), JournalError>
+    requires { IsDurable S.Store store.old }
+    ensures sound { OnOk result (IsDurable S.Store store.new) }
+    ensures shows { OnOk result (ShowsCommit S.Store store.new.journal) }
+{
+    let _ = commits(store, 0)?;
+    let _ = store.begin()?;
+    let _ = counts(store, 1, 1)?;
+    let _ = vote_on(alloc, store, 1, b"a")?;
+    store.settle()
+}
+
 /// The store after that, or none where the disk stops.
 fn counted<S: Alter + Drop>(store: Durable<S>) -> Option<Durable<S>>
     requires { IsDurable S.Store store }
@@ -81,6 +100,22 @@ fn counted<S: Alter + Drop>(store: Durable<S>) -> Option<Durable<S>>
 {
     let mut store = store;
     match counted_once(&mut store) {
+        Ok(()) => Some(store),
+        Err(_) => {
+            let _ = store.into_trees();
+            None
+        }
+    }
+}
+
+/// The same of the prepared one.
+fn held<S: Alter + Drop>(alloc: Global, store: Durable<S>) -> Option<Durable<S>>
+    requires { IsDurable S.Store store }
+    ensures sound { IfSome result (λ it. IsDurable S.Store it) }
+    ensures shows { IfSome result (λ it. ShowsCommit S.Store it.journal) }
+{
+    let mut store = store;
+    match held_once(alloc, &mut store) {
         Ok(()) => Some(store),
         Err(_) => {
             let _ = store.into_trees();
@@ -153,7 +188,7 @@ fn served_twice<S: FoundAgain + Drop, R: Abort + AllocGlobal + Clock>(
     requires { IsDurable S.Store store }
 {
     let (_, trees) = served(rt, store, lines);
-    let again = found(rt, trees.found_again(rt), &[]);
+    let again = found(rt, trees.found_again(rt));
     served(rt, again.expect(rt, "no store is found"), lines)
 }
 
@@ -168,6 +203,8 @@ fn done<S: FoundAgain + Drop, R: Abort + AllocGlobal + Clock>(
     match trial {
         Trial::Renews => Some(renewed(rt.alloc(), counted(store)?)),
         Trial::Grows => Some(extended(rt, counted(store)?)),
+        Trial::Holds => Some(renewed(rt.alloc(), held(rt.alloc(), store)?)),
+        Trial::HoldsAndGrows => Some(extended(rt, held(rt.alloc(), store)?)),
         Trial::Serves(lines) => Some(served(rt, store, lines)),
         Trial::ServesTwice(lines) => Some(served_twice(rt, store, lines)),
     }
@@ -192,6 +229,7 @@ fn seen_of<S: Alter>(store: &Durable<S>, told: usize, texts: usize) -> Seen {
         objects: seen.object_count(),
         texts,
         events: seen.event_count(),
+        prepared: store.prepared().len(),
         kept: [seen.kept(0), seen.kept(1), seen.kept(2), seen.kept(3)],
     }
 }
@@ -200,7 +238,7 @@ fn seen_of<S: Alter>(store: &Durable<S>, told: usize, texts: usize) -> Seen {
 fn seen_in<S: Alter + Drop>(rt: &(impl Abort + AllocGlobal), trees: S, told: usize) -> Seen
     requires { IsClean (S.Store.view trees) → IsTrue (S.Store.view trees).is_numbered }
 {
-    let mut store = found(rt, trees, &[]).expect(rt, "no store is found");
+    let mut store = found(rt, trees).expect(rt, "no store is found");
     let texts = text_count(rt, &mut store);
     let seen = seen_of(&store, told, texts);
     let _ = store.into_trees();

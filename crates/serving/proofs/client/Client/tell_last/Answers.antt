@@ -1,4 +1,4 @@
-use Rattle.std.proofs.Common.{◌≡◌, ◌∙◌, ◌∷◌, [], Some, ap, ap₂, sym, subst}
+use Rattle.std.proofs.Common.{◌≡◌, ◌∙◌, ◌∷◌, [], ap, ap₂, sym, subst}
 use Rattle.std.specs.Prelude.{OnErr}
 use Rattle.outputs.specs.Gathered.{taken_by}
 use Rattle.serving.specs.EpochEnd.{last_answers}

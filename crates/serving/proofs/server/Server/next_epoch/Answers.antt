@@ -77,3 +77,8 @@ pub returns-in-Err-tell_last-clause-crash : goal.returns-in-Err-tell_last-clause
 returns-in-Err-tell_last-clause-crash g c =
     subst (λ (s : Session g.row.S.Denot). LeavesEpochs g.S.Store s.store c.begin_epoch-session.result.0.store (g.A.Archive.kept c.args.archive.now) (g.A.Archive.kept c.begin_epoch-session.new.archive))
     (ap (λ (s : Server g.row.S.Denot). s.session) c.is_over.ensures.others) c.begin_epoch-session.ensures.crash
+
+pub returns-in-Err-clause-crash : goal.returns-in-Err-clause-crash
+returns-in-Err-clause-crash g c =
+    subst (λ (s : Session g.row.S.Denot). LeavesEpochs g.S.Store s.store c.begin_epoch-session.result.0.store (g.A.Archive.kept c.args.archive.now) (g.A.Archive.kept c.begin_epoch-session.new.archive))
+    (ap (λ (s : Server g.row.S.Denot). s.session) c.is_over.ensures.others) c.begin_epoch-session.ensures.crash

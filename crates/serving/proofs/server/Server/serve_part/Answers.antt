@@ -51,3 +51,9 @@ returns-clause-serves g c began given taken given_now given_new consumed so_far 
     (subst (λ (xs : List Answered). Appends (taken_by g.W.Out.taken c.args.client.now.out) (taken_by g.W.Out.taken c.tell.new.self.out) (answers_text xs)) said c.in_ok-tell.ensures.told)
     c.in_ok-take_bytes.ensures.stays_in_epoch c.in_ok-settle_lasting.ensures.stays_in_epoch c.in_ok-settle_lasting.ensures.waits c.in_ok-settle_lasting.ensures.lets_go c.in_ok-settle_lasting.ensures.shows c.in_ok-settle_lasting.ensures.same
     c.in_ok-settle_lasting.ensures.crash (ap (λ (s : Server g.row.S.Denot). s.line) same) (ap (λ (s : Server g.row.S.Denot). s.end) same) c.clear.ensures.items
+
+pub returns-clause-stays_in_epoch : goal.returns-clause-stays_in_epoch
+returns-clause-stays_in_epoch g c = stays-then c.in_ok-take_bytes.ensures.stays_in_epoch c.in_ok-settle_lasting.ensures.stays_in_epoch
+
+pub returns-clause-crash : goal.returns-clause-crash
+returns-clause-crash g c = (stays-then c.in_ok-take_bytes.ensures.stays_in_epoch c.in_ok-settle_lasting.ensures.stays_in_epoch).crash
