@@ -7,7 +7,7 @@ use Rattle.command_words.specs.Lines.{Audit, IsClear, IsGiven, SpellsNumber, IsW
 use Rattle.command_words.specs.Serve.{ServeParts, Say, no_parts}
 use Rattle.command_words.specs.Serve as says
 use Rattle.command_words.proofs.ServeLemmas.{fast_says}
-use Rattle.command_words.specs.Words.{AskFor, Text, audit, audit_database, order, check, create, explain, history, make, run, serve, work, help, version}
+use Rattle.command_words.specs.Words.{AskFor, Text, audit, audit_database, order, check, create, explain, history, make, outcome, prepared, run, serve, work, help, version}
 use Rattle.command_words.specs.declared.task.Topic.{Topic}
 use Rattle.command_words.specs.declared.task.Topic.TheVariants as topic
 
@@ -87,7 +87,14 @@ not_twice p said =
 writes : AskFor (codes "history" ∷ codes "a.db" ∷ []) (order (history (codes "a.db")))
 writes = (tt, refl)
 
--- it is audited by three words, of which the last may be any
+-- those that are prepared are listed by the path alone, and what became of one is told by the path and its key
+lists : AskFor (codes "prepared" ∷ codes "a.db" ∷ []) (order (prepared (codes "a.db")))
+lists = (tt, refl)
+
+tells : AskFor (codes "outcome" ∷ codes "a.db" ∷ codes "order:1" ∷ []) (order (outcome (codes "a.db") (codes "order:1")))
+tells = (tt, refl)
+
+-- a history is audited by three words, of which the last may be any
 audits_store : AskFor (codes "audit" ∷ codes "--database" ∷ codes "--then" ∷ []) (audit_database (codes "--then"))
 audits_store = refl
 
@@ -238,5 +245,7 @@ whole_lines topic.Create = refl
 whole_lines topic.Extend = refl
 whole_lines topic.Serve = refl
 whole_lines topic.History = refl
+whole_lines topic.Prepared = refl
+whole_lines topic.Outcome = refl
 whole_lines topic.Help = refl
 whole_lines topic.Faults = refl

@@ -12,6 +12,7 @@ pub mod LineAnswers
 pub mod LinePlain
 pub mod StoreLemmas
 pub mod FileLemmas
+pub mod KeyLemmas
 mod FormLemmas
 pub mod DatabaseLemmas
 pub mod ExplainLemmas

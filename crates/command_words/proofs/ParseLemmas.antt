@@ -218,26 +218,30 @@ no_topic words alone named topic.Create are = named _ are
 no_topic words alone named topic.Extend are = named _ are
 no_topic words alone named topic.Serve are = named _ are
 no_topic words alone named topic.History are = named _ are
+no_topic words alone named topic.Prepared are = named _ are
+no_topic words alone named topic.Outcome are = named _ are
 no_topic words alone named topic.Help are = named _ are
 no_topic words alone named topic.Faults are = named _ are
 
 -- nor does `help` with a name of no topic
 pub no_name : (name : Text) → name ≢ codes "check" → name ≢ codes "explain" → name ≢ codes "make" → name ≢ codes "tables" → name ≢ codes "run"
     → name ≢ codes "audit" → name ≢ codes "work" → name ≢ codes "stress" → name ≢ codes "create" → name ≢ codes "extend" → name ≢ codes "serve"
-    → name ≢ codes "history" → name ≢ codes "help" → name ≢ codes "faults"
+    → name ≢ codes "history" → name ≢ codes "prepared" → name ≢ codes "outcome" → name ≢ codes "help" → name ≢ codes "faults"
     → (topic : Topic) → codes "help" ∷ name ∷ [] ≢ help_words topic
-no_name name no_check no_explain no_make no_tables no_run no_audit no_work no_stress no_create no_extend no_serve no_history no_help no_faults topic.Program are = cc
-no_name name no_check no_explain no_make no_tables no_run no_audit no_work no_stress no_create no_extend no_serve no_history no_help no_faults topic.Check are = no_check (let same : name ≡ codes "check" = cc in same)
-no_name name no_check no_explain no_make no_tables no_run no_audit no_work no_stress no_create no_extend no_serve no_history no_help no_faults topic.Explain are = no_explain (let same : name ≡ codes "explain" = cc in same)
-no_name name no_check no_explain no_make no_tables no_run no_audit no_work no_stress no_create no_extend no_serve no_history no_help no_faults topic.Make are = no_make (let same : name ≡ codes "make" = cc in same)
-no_name name no_check no_explain no_make no_tables no_run no_audit no_work no_stress no_create no_extend no_serve no_history no_help no_faults topic.Tables are = no_tables (let same : name ≡ codes "tables" = cc in same)
-no_name name no_check no_explain no_make no_tables no_run no_audit no_work no_stress no_create no_extend no_serve no_history no_help no_faults topic.Run are = no_run (let same : name ≡ codes "run" = cc in same)
-no_name name no_check no_explain no_make no_tables no_run no_audit no_work no_stress no_create no_extend no_serve no_history no_help no_faults topic.Audit are = no_audit (let same : name ≡ codes "audit" = cc in same)
-no_name name no_check no_explain no_make no_tables no_run no_audit no_work no_stress no_create no_extend no_serve no_history no_help no_faults topic.Work are = no_work (let same : name ≡ codes "work" = cc in same)
-no_name name no_check no_explain no_make no_tables no_run no_audit no_work no_stress no_create no_extend no_serve no_history no_help no_faults topic.Stress are = no_stress (let same : name ≡ codes "stress" = cc in same)
-no_name name no_check no_explain no_make no_tables no_run no_audit no_work no_stress no_create no_extend no_serve no_history no_help no_faults topic.Create are = no_create (let same : name ≡ codes "create" = cc in same)
-no_name name no_check no_explain no_make no_tables no_run no_audit no_work no_stress no_create no_extend no_serve no_history no_help no_faults topic.Extend are = no_extend (let same : name ≡ codes "extend" = cc in same)
-no_name name no_check no_explain no_make no_tables no_run no_audit no_work no_stress no_create no_extend no_serve no_history no_help no_faults topic.Serve are = no_serve (let same : name ≡ codes "serve" = cc in same)
-no_name name no_check no_explain no_make no_tables no_run no_audit no_work no_stress no_create no_extend no_serve no_history no_help no_faults topic.History are = no_history (let same : name ≡ codes "history" = cc in same)
-no_name name no_check no_explain no_make no_tables no_run no_audit no_work no_stress no_create no_extend no_serve no_history no_help no_faults topic.Help are = no_help (let same : name ≡ codes "help" = cc in same)
-no_name name no_check no_explain no_make no_tables no_run no_audit no_work no_stress no_create no_extend no_serve no_history no_help no_faults topic.Faults are = no_faults (let same : name ≡ codes "faults" = cc in same)
+no_name name no_check no_explain no_make no_tables no_run no_audit no_work no_stress no_create no_extend no_serve no_history no_prepared no_outcome no_help no_faults topic.Program are = cc
+no_name name no_check no_explain no_make no_tables no_run no_audit no_work no_stress no_create no_extend no_serve no_history no_prepared no_outcome no_help no_faults topic.Check are = no_check (let same : name ≡ codes "check" = cc in same)
+no_name name no_check no_explain no_make no_tables no_run no_audit no_work no_stress no_create no_extend no_serve no_history no_prepared no_outcome no_help no_faults topic.Explain are = no_explain (let same : name ≡ codes "explain" = cc in same)
+no_name name no_check no_explain no_make no_tables no_run no_audit no_work no_stress no_create no_extend no_serve no_history no_prepared no_outcome no_help no_faults topic.Make are = no_make (let same : name ≡ codes "make" = cc in same)
+no_name name no_check no_explain no_make no_tables no_run no_audit no_work no_stress no_create no_extend no_serve no_history no_prepared no_outcome no_help no_faults topic.Tables are = no_tables (let same : name ≡ codes "tables" = cc in same)
+no_name name no_check no_explain no_make no_tables no_run no_audit no_work no_stress no_create no_extend no_serve no_history no_prepared no_outcome no_help no_faults topic.Run are = no_run (let same : name ≡ codes "run" = cc in same)
+no_name name no_check no_explain no_make no_tables no_run no_audit no_work no_stress no_create no_extend no_serve no_history no_prepared no_outcome no_help no_faults topic.Audit are = no_audit (let same : name ≡ codes "audit" = cc in same)
+no_name name no_check no_explain no_make no_tables no_run no_audit no_work no_stress no_create no_extend no_serve no_history no_prepared no_outcome no_help no_faults topic.Work are = no_work (let same : name ≡ codes "work" = cc in same)
+no_name name no_check no_explain no_make no_tables no_run no_audit no_work no_stress no_create no_extend no_serve no_history no_prepared no_outcome no_help no_faults topic.Stress are = no_stress (let same : name ≡ codes "stress" = cc in same)
+no_name name no_check no_explain no_make no_tables no_run no_audit no_work no_stress no_create no_extend no_serve no_history no_prepared no_outcome no_help no_faults topic.Create are = no_create (let same : name ≡ codes "create" = cc in same)
+no_name name no_check no_explain no_make no_tables no_run no_audit no_work no_stress no_create no_extend no_serve no_history no_prepared no_outcome no_help no_faults topic.Extend are = no_extend (let same : name ≡ codes "extend" = cc in same)
+no_name name no_check no_explain no_make no_tables no_run no_audit no_work no_stress no_create no_extend no_serve no_history no_prepared no_outcome no_help no_faults topic.Serve are = no_serve (let same : name ≡ codes "serve" = cc in same)
+no_name name no_check no_explain no_make no_tables no_run no_audit no_work no_stress no_create no_extend no_serve no_history no_prepared no_outcome no_help no_faults topic.History are = no_history (let same : name ≡ codes "history" = cc in same)
+no_name name no_check no_explain no_make no_tables no_run no_audit no_work no_stress no_create no_extend no_serve no_history no_prepared no_outcome no_help no_faults topic.Prepared are = no_prepared (let same : name ≡ codes "prepared" = cc in same)
+no_name name no_check no_explain no_make no_tables no_run no_audit no_work no_stress no_create no_extend no_serve no_history no_prepared no_outcome no_help no_faults topic.Outcome are = no_outcome (let same : name ≡ codes "outcome" = cc in same)
+no_name name no_check no_explain no_make no_tables no_run no_audit no_work no_stress no_create no_extend no_serve no_history no_prepared no_outcome no_help no_faults topic.Help are = no_help (let same : name ≡ codes "help" = cc in same)
+no_name name no_check no_explain no_make no_tables no_run no_audit no_work no_stress no_create no_extend no_serve no_history no_prepared no_outcome no_help no_faults topic.Faults are = no_faults (let same : name ≡ codes "faults" = cc in same)

@@ -22,7 +22,7 @@ use Rattle.command_words.specs.Lines.{AreAuditWords, AreWorkWords, Audit, Work, 
 use Rattle.command_words.specs.Words as asked
 use Rattle.command_words.proofs.AuditLemmas.{audit_answered, audit_leaf, audit_passes}
 use Rattle.command_words.proofs.OptionLemmas.{RefusesOptions, by_test, never, no_option, or_else_none, refuses}
-use Rattle.command_words.proofs.SubcommandLemmas.{Command, check, command_of, create, explain, extend, history, leaf, make, name_of, operands_of, plain_words, run, tables, words_answered}
+use Rattle.command_words.proofs.SubcommandLemmas.{Command, check, command_of, create, explain, extend, history, leaf, make, name_of, operands_of, outcome, plain_words, prepared, run, tables, words_answered}
 use Rattle.command_words.proofs.WorkAnswers.{work_answered}
 use Rattle.command_words.proofs.WorkLeaf.{work_leaf}
 use Rattle.command_words.proofs.WorkPlain.{work_passes}
@@ -92,14 +92,16 @@ record IsNoName (word : Text) : Type 0 where
   pub create : bytes_eq (codes "create") word ≡ false
   pub extend : bytes_eq (codes "extend") word ≡ false
   pub history : bytes_eq (codes "history") word ≡ false
+  pub prepared : bytes_eq (codes "prepared") word ≡ false
+  pub outcome : bytes_eq (codes "outcome") word ≡ false
 
 -- a first word that names no subcommand is refused
 other_first : (listed : Bor (List (Bor Text))) (word : Text) → bytes_eq word (codes "--") ≡ false → IsNoName word
     → turn_fault (top_of listed) (names listed) (walk_from nothing_held) word ≡ [] → ⊥
 other_first listed word no_dashes other_names none = by_test (bytes_eq (codes "help") word)
-    (λ helps. never DisplayHelp (InvalidSubcommand ∷ []) (simp (other_names.check, other_names.explain, other_names.make, other_names.tables, other_names.run, other_names.audit, other_names.work, other_names.stress, other_names.create, other_names.extend, other_names.history, helps) at none))
+    (λ helps. never DisplayHelp (InvalidSubcommand ∷ []) (simp (other_names.check, other_names.explain, other_names.make, other_names.tables, other_names.run, other_names.audit, other_names.work, other_names.stress, other_names.create, other_names.extend, other_names.history, other_names.prepared, other_names.outcome, helps) at none))
     (λ other.
-    let parts = or_else_none _ _ (simp (other_names.check, other_names.explain, other_names.make, other_names.tables, other_names.run, other_names.audit, other_names.work, other_names.stress, other_names.create, other_names.extend, other_names.history, other, no_dashes) at none) in
+    let parts = or_else_none _ _ (simp (other_names.check, other_names.explain, other_names.make, other_names.tables, other_names.run, other_names.audit, other_names.work, other_names.stress, other_names.create, other_names.extend, other_names.history, other_names.prepared, other_names.outcome, other, no_dashes) at none) in
     let met = no_option (top_of listed).rules (top_of listed).args_override_self (top_refuses listed) idle (λ _ _. refl) [] None word parts.0 in
     never UnknownArgument (InvalidSubcommand ∷ []) (simp met at parts.1))
 
@@ -121,7 +123,9 @@ named_or_not word =
     (λ no_stress. by_test (bytes_eq (codes "create") word) (λ is. inl (plain create, same_text (codes "create") word (sym is)))
     (λ no_create. by_test (bytes_eq (codes "extend") word) (λ is. inl (plain extend, same_text (codes "extend") word (sym is)))
     (λ no_extend. by_test (bytes_eq (codes "history") word) (λ is. inl (plain history, same_text (codes "history") word (sym is)))
-    (λ no_history. inr (record {
+    (λ no_history. by_test (bytes_eq (codes "prepared") word) (λ is. inl (plain prepared, same_text (codes "prepared") word (sym is)))
+    (λ no_prepared. by_test (bytes_eq (codes "outcome") word) (λ is. inl (plain outcome, same_text (codes "outcome") word (sym is)))
+    (λ no_outcome. inr (record {
       check = no_check;
       explain = no_explain;
       make = no_make;
@@ -133,7 +137,9 @@ named_or_not word =
       create = no_create;
       extend = no_extend;
       history = no_history;
-    }))))))))))))
+      prepared = no_prepared;
+      outcome = no_outcome;
+    }))))))))))))))
 
 -- the first word is the name of a subcommand
 first_word : (listed : Bor (List (Bor Text))) (word : Text) (rest : List Text) → fault_of (app listed) (word ∷ rest) ≡ [] → (sub : Sub) × (sub_name sub ≡ word)
@@ -169,6 +175,8 @@ command_walk listed (plain run) rest = stopped_walk (top_of listed).rules (names
 command_walk listed (plain create) rest = stopped_walk (top_of listed).rules (names listed) (walk_from nothing_held) (codes "create") [] rest
 command_walk listed (plain extend) rest = stopped_walk (top_of listed).rules (names listed) (walk_from nothing_held) (codes "extend") [] rest
 command_walk listed (plain history) rest = stopped_walk (top_of listed).rules (names listed) (walk_from nothing_held) (codes "history") [] rest
+command_walk listed (plain prepared) rest = stopped_walk (top_of listed).rules (names listed) (walk_from nothing_held) (codes "prepared") [] rest
+command_walk listed (plain outcome) rest = stopped_walk (top_of listed).rules (names listed) (walk_from nothing_held) (codes "outcome") [] rest
 command_walk listed auditing rest = stopped_walk (top_of listed).rules (names listed) (walk_from nothing_held) (codes "audit") [] rest
 command_walk listed (working false) rest = stopped_walk (top_of listed).rules (names listed) (walk_from nothing_held) (codes "work") [] rest
 command_walk listed (working true) rest = stopped_walk (top_of listed).rules (names listed) (walk_from nothing_held) (codes "stress") [] rest
@@ -184,6 +192,8 @@ command_entered listed (plain run) rest = refl
 command_entered listed (plain create) rest = refl
 command_entered listed (plain extend) rest = refl
 command_entered listed (plain history) rest = refl
+command_entered listed (plain prepared) rest = refl
+command_entered listed (plain outcome) rest = refl
 command_entered listed auditing rest = refl
 command_entered listed (working false) rest = refl
 command_entered listed (working true) rest = refl
@@ -239,6 +249,12 @@ only_below listed (plain extend) rest =
 only_below listed (plain history) rest =
     ap (λ (k : Kinds). or_else k (or_else (below listed (plain history) rest) [])) (stopped_fault (top_of listed) (names listed) (walk_from nothing_held) (codes "history", []) rest)
     ∙ or_else-nil (below listed (plain history) rest)
+only_below listed (plain prepared) rest =
+    ap (λ (k : Kinds). or_else k (or_else (below listed (plain prepared) rest) [])) (stopped_fault (top_of listed) (names listed) (walk_from nothing_held) (codes "prepared", []) rest)
+    ∙ or_else-nil (below listed (plain prepared) rest)
+only_below listed (plain outcome) rest =
+    ap (λ (k : Kinds). or_else k (or_else (below listed (plain outcome) rest) [])) (stopped_fault (top_of listed) (names listed) (walk_from nothing_held) (codes "outcome", []) rest)
+    ∙ or_else-nil (below listed (plain outcome) rest)
 only_below listed auditing rest =
     ap (λ (k : Kinds). or_else k (or_else (below listed auditing rest) [])) (stopped_fault (top_of listed) (names listed) (walk_from nothing_held) (codes "audit", []) rest)
     ∙ or_else-nil (below listed auditing rest)
@@ -272,6 +288,8 @@ no_dashes_first run rest = refl
 no_dashes_first create rest = refl
 no_dashes_first extend rest = refl
 no_dashes_first history rest = refl
+no_dashes_first prepared rest = refl
+no_dashes_first outcome rest = refl
 
 -- the name of what workers are to do is that of its command
 named_by : (seed : Option ℕ) → work_title (is_some seed) ≡ work_name seed
@@ -328,6 +346,8 @@ named_first (asked.run script types) = refl
 named_first (asked.create database objects types) = refl
 named_first (asked.extend database objects types) = refl
 named_first (asked.history path) = refl
+named_first (asked.prepared path) = refl
+named_first (asked.outcome path key) = refl
 
 -- plain words come to no fault
 plain_taken : (listed : Bor (List (Bor Text))) → texts listed.now ≡ kind_words → (a : Order) → IsPlainOrder a → fault_of (app listed) (order_words a) ≡ []

@@ -23,6 +23,7 @@ use Rattle.command_words.proofs.Leaves.{last_added, last_joined, last_of, leaf_o
 use Rattle.command_words.proofs.OptionLemmas.{by_test, holding, never, or_else_none, refuses}
 use Rattle.command_words.proofs.LeafLemmas.{IsBetween, Passes, Place, Takes, at, both_none, end_of, ends, faults, held_at, operand_fault, operands_taken, plain_taken, start}
 use Rattle.command_words.proofs.FileLemmas.{AreFileWords, FileTook, file_answers, file_leaf, file_passes, file_place, file_takes}
+use Rattle.command_words.proofs.KeyLemmas.{AreKeyWords, KeyTook, key_answers, key_leaf, key_passes, key_place, key_rows, key_takes}
 use Rattle.command_words.proofs.DatabaseLemmas.{AreDatabaseWords, DatabaseTook, database_answers, database_leaf, database_passes, database_place, database_rows, database_takes}
 use Rattle.command_words.proofs.ExplainLemmas.{AreExplainWords, ExplainTook, all, explain_answers, explain_leaf, explain_passes, explain_place, explain_rows, explain_takes, pair, pair_passes}
 use Rattle.command_words.proofs.StoreLemmas.{AreStoreWords, StoreTook, store_answers, store_leaf, store_passes, store_place, store_takes}
@@ -195,6 +196,8 @@ pub data Command : Type 0 where
   create : Command
   extend : Command
   history : Command
+  prepared : Command
+  outcome : Command
 
 -- its name
 abbrev pub name_of : Command → Text
@@ -206,6 +209,8 @@ name_of run = codes "run"
 name_of create = codes "create"
 name_of extend = codes "extend"
 name_of history = codes "history"
+name_of prepared = codes "prepared"
+name_of outcome = codes "outcome"
 
 -- the subcommand as it is built
 abbrev pub leaf : Bor (List (Bor Text)) → Command → Shape
@@ -217,6 +222,8 @@ leaf listed run = store_leaf listed (codes "run")
 leaf listed create = database_leaf listed (codes "create")
 leaf listed extend = database_leaf listed (codes "extend")
 leaf listed history = file_leaf listed (codes "history")
+leaf listed prepared = file_leaf listed (codes "prepared")
+leaf listed outcome = key_leaf listed (codes "outcome")
 
 -- where its walk is after these operands
 abbrev pub place : Command → List Text → Place
@@ -228,6 +235,8 @@ place run = store_place
 place create = database_place
 place extend = database_place
 place history = file_place
+place prepared = file_place
+place outcome = key_place
 
 -- what holds of operands that it took
 abbrev pub Took : Bor (List (Bor Text)) → Command → List Text → Type 0
@@ -239,6 +248,8 @@ Took listed run = StoreTook
 Took listed create = DatabaseTook
 Took listed extend = DatabaseTook
 Took listed history = FileTook
+Took listed prepared = FileTook
+Took listed outcome = KeyTook
 
 -- the subcommand by its operands
 takes : (listed : Bor (List (Bor Text))) (command : Command) → Takes (leaf listed command) (place command) (Took listed command)
@@ -250,6 +261,8 @@ takes listed run = store_takes listed (codes "run")
 takes listed create = database_takes listed (codes "create")
 takes listed extend = database_takes listed (codes "extend")
 takes listed history = file_takes listed (codes "history")
+takes listed prepared = file_takes listed (codes "prepared")
+takes listed outcome = key_takes listed (codes "outcome")
 
 -- its walk begins where each walk does
 begins : (command : Command) → place command [] ≡ start
@@ -261,6 +274,8 @@ begins run = refl
 begins create = refl
 begins extend = refl
 begins history = refl
+begins prepared = refl
+begins outcome = refl
 
 -- ---- what operands ask for
 
@@ -382,6 +397,19 @@ file_asked name s h operands order whole words entry are = record {
   entry = ap (λ (rows : List Row). (name, rows)) are.entry ∙ sym (entry are.path);
 }
 
+-- what a path and a key ask for of a command over a store's file and a key
+key_asked : (name : Text) (s : Shape) (h : Held) (operands : List Text) (order : Text → Text → Order)
+    → ((path key : Text) → HasOperands (order path key))
+    → ((path key : Text) → order_words (order path key) ≡ name ∷ path ∷ key ∷ [])
+    → ((path key : Text) → subcommand_of (order path key) ≡ (name, key_rows path key))
+    → AreKeyWords (finished s.rules h) operands → Answers name s h operands
+key_asked name s h operands order whole words entry are = record {
+  asked = order are.path are.key;
+  whole = whole are.path are.key;
+  words = ap (λ (os : List Text). name ∷ os) are.words ∙ sym (words are.path are.key);
+  entry = ap (λ (rows : List Row). (name, rows)) are.entry ∙ sym (entry are.path are.key);
+}
+
 -- what DATABASE, OBJECTS and types ask for of a command over a store's file
 database_asked : (name : Text) (s : Shape) (h : Held) (operands : List Text) (order : Text → Text → List Text → Order)
     → ((database objects type : Text) (types : List Text) → HasOperands (order database objects (type ∷ types)))
@@ -411,6 +439,10 @@ answers listed are extend operands took none =
     database_asked (codes "extend") _ _ operands asked.extend (λ _ _. some_types) (λ _ _ _. refl) (λ _ _ _. refl) (database_answers listed (codes "extend") operands none)
 answers listed are history operands took none =
     file_asked (codes "history") _ _ operands asked.history (λ _. tt) (λ _. refl) (λ _. refl) (file_answers listed (codes "history") operands took none)
+answers listed are prepared operands took none =
+    file_asked (codes "prepared") _ _ operands asked.prepared (λ _. tt) (λ _. refl) (λ _. refl) (file_answers listed (codes "prepared") operands took none)
+answers listed are outcome operands took none =
+    key_asked (codes "outcome") _ _ operands asked.outcome (λ _ _. tt) (λ _ _. refl) (λ _ _. refl) (key_answers listed (codes "outcome") operands took none)
 
 -- words of a subcommand that come to no fault ask for something, and so do its rows
 pub words_answered : (listed : Bor (List (Bor Text))) → texts listed.now ≡ kind_words → (command : Command) (rest : List Text)
@@ -433,6 +465,8 @@ command_of (asked.run script types) = run
 command_of (asked.create database objects types) = create
 command_of (asked.extend database objects types) = extend
 command_of (asked.history path) = history
+command_of (asked.prepared path) = prepared
+command_of (asked.outcome path key) = outcome
 
 -- and its operands
 abbrev pub operands_of : Order → List Text
@@ -444,6 +478,8 @@ operands_of (asked.run script types) = script ∷ types
 operands_of (asked.create database objects types) = database ∷ objects ∷ types
 operands_of (asked.extend database objects types) = database ∷ objects ∷ types
 operands_of (asked.history path) = path ∷ []
+operands_of (asked.prepared path) = path ∷ []
+operands_of (asked.outcome path key) = path ∷ key ∷ []
 
 -- the word of a kind begins with no hyphen
 plain_kind : (kind : Kind) → IsPlain (kind_word kind)
@@ -486,6 +522,8 @@ all_pass listed are (asked.extend database objects []) whole = absurd (omega (ar
 all_pass listed are (asked.create database objects (type ∷ types)) whole = database_passes listed (codes "create") database objects type types
 all_pass listed are (asked.extend database objects (type ∷ types)) whole = database_passes listed (codes "extend") database objects type types
 all_pass listed are (asked.history path) whole = file_passes listed (codes "history") path
+all_pass listed are (asked.prepared path) whole = file_passes listed (codes "prepared") path
+all_pass listed are (asked.outcome path key) whole = key_passes listed (codes "outcome") path key
 
 -- where plain words are asked for, the operands are plain
 all_plain : (a : Order) → HasPlainWords a → All IsPlain (operands_of a)
@@ -498,6 +536,8 @@ all_plain (asked.run script types) plain = all_with IsPlain script types plain.0
 all_plain (asked.create database objects types) plain = all_with IsPlain database (objects ∷ types) plain.0 (all_with IsPlain objects types plain.1 plain.2)
 all_plain (asked.extend database objects types) plain = all_with IsPlain database (objects ∷ types) plain.0 (all_with IsPlain objects types plain.1 plain.2)
 all_plain (asked.history path) plain = all_with IsPlain path [] plain (all_of_none IsPlain)
+all_plain (asked.prepared path) plain = all_with IsPlain path [] plain (all_of_none IsPlain)
+all_plain (asked.outcome path key) plain = all_with IsPlain path (key ∷ []) plain.0 (all_with IsPlain key [] plain.1 (all_of_none IsPlain))
 
 -- plain words of a subcommand come to no fault
 pub plain_words : (listed : Bor (List (Bor Text))) → texts listed.now ≡ kind_words → (a : Order) → IsPlainOrder a

@@ -2,8 +2,8 @@
 use Rattle.std.specs.Prelude.{◌≡◌, ◌-◌, length, slice_index}
 use Rattle.command_words.specs.Words.{Text}
 use Rattle.command_words.specs.declared.task.Topic.{Topic}
-use Rattle.command_words.specs.declared.task.Topic.TheVariants.{Program, Check, Explain, Make, Tables, Run, Audit, Work, Stress, Create, Extend, Serve, History, Help, Faults}
-use Rattle.command_words.specs.declared.help.TheConstants.{AUDIT, CHECK, CREATE, EXPLAIN, EXTEND, FAULTS, HELP, HISTORY, MAKE, PROGRAM, RUN, SERVE, STRESS, TABLES, VERSION, WORK}
+use Rattle.command_words.specs.declared.task.Topic.TheVariants.{Program, Check, Explain, Make, Tables, Run, Audit, Work, Stress, Create, Extend, Serve, History, Prepared, Outcome, Help, Faults}
+use Rattle.command_words.specs.declared.help.TheConstants.{AUDIT, CHECK, CREATE, EXPLAIN, EXTEND, FAULTS, HELP, HISTORY, MAKE, OUTCOME, PREPARED, PROGRAM, RUN, SERVE, STRESS, TABLES, VERSION, WORK}
 
 -- the text of help on a topic
 abbrev pub text_of_topic : Topic → Text
@@ -20,6 +20,8 @@ text_of_topic Create = CREATE.now
 text_of_topic Extend = EXTEND.now
 text_of_topic Serve = SERVE.now
 text_of_topic History = HISTORY.now
+text_of_topic Prepared = PREPARED.now
+text_of_topic Outcome = OUTCOME.now
 text_of_topic Help = HELP.now
 text_of_topic Faults = FAULTS.now
 

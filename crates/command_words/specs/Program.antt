@@ -80,6 +80,10 @@ make_app = with_rule (with_rule (with_rule (new_app (codes "make"))
 abbrev pub file_app : Text → App
 file_app name = with_rule (new_app name) (wanted_rule (codes "path"))
 
+-- a command over a store's file and a key, as `outcome DATABASE KEY`
+abbrev pub key_app : Text → App
+key_app name = with_rule (file_app name) (wanted_rule (codes "key"))
+
 -- a command over a store's objects: a first file and the files of types, as `run SCRIPT TYPE...`
 abbrev pub store_app : Text → App
 store_app name = with_rule (with_rule (new_app name) (wanted_rule (codes "path"))) types_rule
@@ -146,6 +150,8 @@ command_apps kinds =
     ∷ database_app (codes "create")
     ∷ database_app (codes "extend")
     ∷ file_app (codes "history")
+    ∷ file_app (codes "prepared")
+    ∷ key_app (codes "outcome")
     ∷ []
 
 -- the program with one more command
@@ -243,6 +249,8 @@ subcommand_of (asked.run script types) = (codes "run", store_rows script types)
 subcommand_of (asked.create database objects types) = (codes "create", argument_row (codes "database") database ∷ store_rows objects types)
 subcommand_of (asked.extend database objects types) = (codes "extend", argument_row (codes "database") database ∷ store_rows objects types)
 subcommand_of (asked.history database) = (codes "history", argument_row (codes "path") database ∷ [])
+subcommand_of (asked.prepared database) = (codes "prepared", argument_row (codes "path") database ∷ [])
+subcommand_of (asked.outcome database key) = (codes "outcome", argument_row (codes "path") database ∷ argument_row (codes "key") key ∷ [])
 
 -- an argument was given this number, or has it by default
 abbrev pub HasNumber : List Row → Text → ℕ → Type 0

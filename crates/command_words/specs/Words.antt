@@ -36,6 +36,10 @@ pub data Order : Type 0 where
   extend : Text → Text → List Text → Order
   -- `history DATABASE`
   history : Text → Order
+  -- `prepared DATABASE`
+  prepared : Text → Order
+  -- `outcome DATABASE KEY`
+  outcome : Text → Text → Order
 
 -- what the words ask for
 pub data Asked : Type 0 where
@@ -71,6 +75,8 @@ order_words (run script types) = codes "run" ∷ script ∷ types
 order_words (create database objects types) = codes "create" ∷ database ∷ objects ∷ types
 order_words (extend database objects types) = codes "extend" ∷ database ∷ objects ∷ types
 order_words (history database) = codes "history" ∷ database ∷ []
+order_words (prepared database) = codes "prepared" ∷ database ∷ []
+order_words (outcome database key) = codes "outcome" ∷ database ∷ key ∷ []
 
 -- it has the operands that it can't be without: at least one TYPE
 abbrev pub HasOperands : Order → Type 0
@@ -94,6 +100,8 @@ help_words topic.Create = codes "help" ∷ codes "create" ∷ []
 help_words topic.Extend = codes "help" ∷ codes "extend" ∷ []
 help_words topic.Serve = codes "help" ∷ codes "serve" ∷ []
 help_words topic.History = codes "help" ∷ codes "history" ∷ []
+help_words topic.Prepared = codes "help" ∷ codes "prepared" ∷ []
+help_words topic.Outcome = codes "help" ∷ codes "outcome" ∷ []
 help_words topic.Help = codes "help" ∷ codes "help" ∷ []
 help_words topic.Faults = codes "help" ∷ codes "faults" ∷ []
 
@@ -131,6 +139,8 @@ asked_of (task.Create database objects types) = order (create database.now objec
 asked_of (task.Extend database objects types) = order (extend database.now objects.now (texts types.items))
 asked_of (task.Serve database fast archive drain) = serve (record { database = database.now; fast = fast; archive = option_map (λ (folder : Bor Text). folder.now) archive; drain = drain })
 asked_of (task.History database) = order (history database.now)
+asked_of (task.Prepared database) = order (prepared database.now)
+asked_of (task.Outcome database key) = order (outcome database.now key.now)
 asked_of (task.AuditDatabase database) = audit_database database.now
 asked_of (task.Help topic) = help topic
 asked_of task.Version = version
@@ -162,6 +172,8 @@ HasPlainWords (run script types) = IsPlain script × All IsPlain types
 HasPlainWords (create database objects types) = IsPlain database × IsPlain objects × All IsPlain types
 HasPlainWords (extend database objects types) = IsPlain database × IsPlain objects × All IsPlain types
 HasPlainWords (history database) = IsPlain database
+HasPlainWords (prepared database) = IsPlain database
+HasPlainWords (outcome database key) = IsPlain database × IsPlain key
 
 -- the same, and it is whole
 abbrev pub IsPlainOrder : Order → Type 0

@@ -37,6 +37,8 @@ Commands:
   serve [--fast] [--archive FOLDER] [--drain S] DATABASE
                              Answer requests at the store in a file.
   history DATABASE           Write the history of the store in a file.
+  prepared DATABASE          List the transactions that are prepared in a file.
+  outcome DATABASE KEY       Say what became of the transaction of a key.
   help [TOPIC]               Write this text, or the text on a command, on help
                              or on faults.
 
@@ -478,6 +480,48 @@ Status: 0 done, 2 a fault of the command line, or a file that is no store's, 3 a
 file that can't be opened or read, refused memory, or an output that failed.
 ";
 
+pub(crate) const PREPARED: &str = "\
+List the transactions that are prepared in the file of a store, and not decided.
+
+Usage: colock prepared DATABASE
+
+DATABASE is the path of the file of a store, as colock create makes it. Nothing
+of it changes.
+
+  KEY S.N UNTIL
+      A transaction is prepared under KEY. Its name is S.N: it began as number
+      N in the store's life S. UNTIL is the number that its client gave. The
+      lines are in the order in which the transactions were prepared, and there
+      is none where no transaction is.
+
+Example: colock prepared hall.db
+
+Status: 0 done, 2 a fault of the command line, or a file that is no store's, 3 a
+file that can't be opened or read, refused memory, or an output that failed.
+";
+
+pub(crate) const OUTCOME: &str = "\
+Say what became of the transaction of a key.
+
+Usage: colock outcome DATABASE KEY
+
+DATABASE is the path of the file of a store, as colock create makes it. Nothing
+of it changes. KEY is 1 to 64 of a-z, A-Z, 0-9 and _ : - and the point.
+
+One line is written:
+  prepared            It is prepared, and not decided.
+  committed REPLY..   It committed. The replies are there where it came in one
+                      line, with all its calls.
+  aborted             It was aborted.
+  unknown             The file knows nothing of it.
+
+Example: colock outcome hall.db order:1
+
+Status: 0 done, 1 unknown, 2 a fault of the command line, a KEY that is none, or
+a file that is no store's, 3 a file that can't be opened or read, refused
+memory, or an output that failed.
+";
+
 pub(crate) const HELP: &str = "\
 Write the text on the program, or on a topic.
 
@@ -589,6 +633,8 @@ impl Topic {
             Topic::Extend => EXTEND,
             Topic::Serve => SERVE,
             Topic::History => HISTORY,
+            Topic::Prepared => PREPARED,
+            Topic::Outcome => OUTCOME,
             Topic::Help => HELP,
             Topic::Faults => FAULTS,
         }

@@ -93,6 +93,13 @@ const DATABASE: Word = Word {
     ..OPERAND
 };
 
+/// The key of a transaction.
+const KEY: Word = Word {
+    id: "key",
+    shown: &["KEY"],
+    ..OPERAND
+};
+
 const FAMILY: Word = Word {
     id: "family",
     shown: &["FAMILY"],
@@ -166,7 +173,7 @@ const SEED: Word = Word {
 };
 
 /// The commands, but for `serve`.
-static FORMS: [Form; 11] = [
+static FORMS: [Form; 13] = [
     Form {
         name: "check",
         topic: Topic::Check,
@@ -221,6 +228,16 @@ static FORMS: [Form; 11] = [
         name: "history",
         topic: Topic::History,
         words: &[STORE],
+    },
+    Form {
+        name: "prepared",
+        topic: Topic::Prepared,
+        words: &[STORE],
+    },
+    Form {
+        name: "outcome",
+        topic: Topic::Outcome,
+        words: &[STORE, KEY],
     },
 ];
 

@@ -120,6 +120,18 @@ pub enum Task<'a> {
         /// The path of the store.
         database: &'a str,
     },
+    /// Which transactions are prepared in the store in a file, and not decided?
+    Prepared {
+        /// The path of the store.
+        database: &'a str,
+    },
+    /// What became of the transaction of a key?
+    Outcome {
+        /// The path of the store.
+        database: &'a str,
+        /// The key, or what stands in its place.
+        key: &'a str,
+    },
     /// Is that history serial, from the states where the epoch began?
     AuditDatabase {
         /// The path of the store.
@@ -163,6 +175,10 @@ pub enum Topic {
     Serve,
     /// The command `history`.
     History,
+    /// The command `prepared`.
+    Prepared,
+    /// The command `outcome`.
+    Outcome,
     /// The command `help`.
     Help,
     /// What the faults mean.

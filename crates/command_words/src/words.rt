@@ -94,6 +94,8 @@ fn topic_of(name: &str) -> Option<Topic>
         "extend" => Some(Topic::Extend),
         "serve" => Some(Topic::Serve),
         "history" => Some(Topic::History),
+        "prepared" => Some(Topic::Prepared),
+        "outcome" => Some(Topic::Outcome),
         "help" => Some(Topic::Help),
         "faults" => Some(Topic::Faults),
         _ => None,
@@ -157,7 +159,9 @@ fn command_task<'a>(
         "stress" => stress_task(alloc, values),
         "create" => create_task(alloc, values),
         "extend" => extend_task(alloc, values),
-        _ => Ok(history_task(values)),
+        "history" => Ok(history_task(values)),
+        "prepared" => Ok(prepared_task(values)),
+        _ => Ok(outcome_task(values)),
     }
 }
 
@@ -212,6 +216,25 @@ fn history_task<'a>(values: &ArgMatches<'a>) -> Task<'a>
 {
     Task::History {
         database: file_word(values),
+    }
+}
+
+fn prepared_task<'a>(values: &ArgMatches<'a>) -> Task<'a>
+    requires { (path : Text) × HasRows values.now (asked.prepared path) }
+    ensures { (path : Text) → HasRows values.now (asked.prepared path) → asked_of result ≡ asked.order (asked.prepared path) }
+{
+    Task::Prepared {
+        database: file_word(values),
+    }
+}
+
+fn outcome_task<'a>(values: &ArgMatches<'a>) -> Task<'a>
+    requires { (path key : Text) × HasRows values.now (asked.outcome path key) }
+    ensures { (path key : Text) → HasRows values.now (asked.outcome path key) → asked_of result ≡ asked.order (asked.outcome path key) }
+{
+    Task::Outcome {
+        database: file_word(values),
+        key: key_word(values),
     }
 }
 
@@ -333,6 +356,14 @@ fn database_word<'a>(values: &ArgMatches<'a>) -> &'a str
     ensures { (path : Text) → first_of (codes "database") (rows_of (found_of values.now)) ≡ Some path → result.now ≡ path }
 {
     values.get_str("database").unwrap()
+}
+
+/// The key of a transaction.
+fn key_word<'a>(values: &ArgMatches<'a>) -> &'a str
+    requires { (key : Text) × (first_of (codes "key") (rows_of (found_of values.now)) ≡ Some key) }
+    ensures { (key : Text) → first_of (codes "key") (rows_of (found_of values.now)) ≡ Some key → result.now ≡ key }
+{
+    values.get_str("key").unwrap()
 }
 
 /// The words of a command over a store's objects: the first file, and those of the types.

@@ -13,11 +13,13 @@ use Rattle.command_files.specs.declared.status.Verdict.TheVariants as verdict
 use Rattle.command_words.specs.Help.{text_of_topic, version_text}
 use Rattle.command_words.specs.Words.{AreNoTask, AreWordsOf}
 use Rattle.command_words.specs.declared.task.Task.{Task}
-use Rattle.command_words.specs.declared.task.Task.TheVariants.{Check, Explain, Make, Tables, Run, Work, Stress, Audit, AuditOrdered, Create, Extend, Serve, History, AuditDatabase, Help, Version}
+use Rattle.command_words.specs.declared.task.Task.TheVariants.{Check, Explain, Make, Tables, Run, Work, Stress, Audit, AuditOrdered, Create, Extend, Serve, History, Prepared, Outcome, AuditDatabase, Help, Version}
 use Rattle.database_commands.specs.Audited.{AuditsDatabase}
 use Rattle.database_commands.specs.Created.{CreatesStore, HasCreateFault}
 use Rattle.database_commands.specs.Extended.{ExtendsStore}
 use Rattle.database_commands.specs.History.{TellsHistory}
+use Rattle.key_commands.specs.Outcome.{TellsOutcome}
+use Rattle.key_commands.specs.Prepared.{TellsPrepared}
 use Rattle.serve_command.specs.Archived.{ArchivesEpochs}
 use Rattle.serve_command.specs.Found.{SaysFound}
 use Rattle.serve_command.specs.Served.{BeginsServing, ComesOfServing, ServesDatabase}
@@ -70,6 +72,8 @@ Answer given (AuditOrdered order history types) = AuditsOrdered given.files orde
 Answer given (Create database objects types) = CreatesStore given.clean (given.made database.now) given.files objects.now (texts types.items)
 Answer given (Extend database objects types) = ExtendsStore given.clean (given.databases database.now) (given.made database.now) given.files objects.now (texts types.items)
 Answer given (History database) = TellsHistory given.clean (given.databases database.now)
+Answer given (Prepared database) = TellsPrepared given.clean (given.databases database.now) (given.made database.now)
+Answer given (Outcome database key) = TellsOutcome given.clean (given.databases database.now) (given.made database.now) key.now
 Answer given (AuditDatabase database) = AuditsDatabase given.clean (given.databases database.now)
 Answer given (Serve database fast archive drain) = ServesAndKeeps given database.now (option_map (λ f. f.now) archive)
 Answer given (Help topic) = IsThis verdict.Yes (text_of_topic topic)
@@ -91,6 +95,8 @@ IsAmiss given (AuditOrdered order history types) = HasOrderedFault given.files o
 IsAmiss given (Create database objects types) = HasCreateFault given.files objects.now (texts types.items)
 IsAmiss given (Extend database objects types) = ⊤
 IsAmiss given (History database) = ⊤
+IsAmiss given (Prepared database) = ⊤
+IsAmiss given (Outcome database key) = ⊤
 IsAmiss given (AuditDatabase database) = ⊤
 IsAmiss given (Serve database fast archive drain) = ⊤
 IsAmiss given task = ⊥

@@ -18,6 +18,7 @@ use command_files::{Fault, Source, Status, Verdict, put_answer};
 use command_words::{Task, VERSION, WordFault, read_words};
 use database_commands::{NewStore, audit_database, create_store, extend_store, tell_history};
 use database_files::{Databases, TornWrites};
+use key_commands::{tell_outcome, tell_prepared};
 use outputs::Out;
 use serve_command::{Archives, Serving, fault_of_archive, serve_database};
 use serving::Additions;
@@ -328,6 +329,18 @@ fn do_task<
         Task::History { database } => {
             (
                 tell_history(alloc, database, &mut given.databases, out),
+                console,
+            )
+        }
+        Task::Prepared { database } => {
+            (
+                tell_prepared(alloc, database, &mut given.databases, out),
+                console,
+            )
+        }
+        Task::Outcome { database, key } => {
+            (
+                tell_outcome(alloc, database, key, &mut given.databases, out),
                 console,
             )
         }

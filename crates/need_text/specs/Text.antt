@@ -78,12 +78,12 @@ op_line t k = numbers_line (codes "  op") (0 ∷ t ∷ 0 ∷ k ∷ [])
 abbrev pub commit_line : ℕ → List ℕ
 commit_line t = numbers_line (codes "  commit") (0 ∷ t ∷ [])
 
-abbrev pub op_lines : ℕ → List ℕ → List ℕ
-op_lines t ks = flat_map (op_line t) ks
+abbrev pub operation_lines : ℕ → List ℕ → List ℕ
+operation_lines t ks = flat_map (op_line t) ks
 
 -- 0 leads to the state and commits
 abbrev pub leading_text : List ℕ → List ℕ
-leading_text lead = begin_line 0 ++ (op_lines 0 lead ++ commit_line 0)
+leading_text lead = begin_line 0 ++ (operation_lines 0 lead ++ commit_line 0)
 
 -- 1 does q, and 2, while 1 is open, p
 abbrev pub both_text : ℕ → ℕ → List ℕ
@@ -91,7 +91,7 @@ both_text p q = begin_line 1 ++ (begin_line 2 ++ (op_line 1 q ++ op_line 2 p))
 
 -- 3 tells the ends apart
 abbrev pub telling_text : List ℕ → List ℕ
-telling_text tell = begin_line 3 ++ (op_lines 3 tell ++ (commit_line 3 ++ (codes "  end" ++ 10 ∷ [])))
+telling_text tell = begin_line 3 ++ (operation_lines 3 tell ++ (commit_line 3 ++ (codes "  end" ++ 10 ∷ [])))
 
 abbrev pub object_text : TableKind → List ℕ
 object_text kind = codes "  object " ++ (table_kind_word kind ++ (codes " 0" ++ 10 ∷ []))

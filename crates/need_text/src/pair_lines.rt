@@ -6,7 +6,7 @@ ghost use Rattle.outputs.specs.Numbers.{numbers_line};
 ghost use Rattle.outputs.specs.Out.{Puts};
 ghost use Rattle.declared_types.specs.TypeFile.{is_whole};
 ghost use Rattle.pair_needs.specs.Mends.{has_line, is_dropped, is_missing};
-ghost use Rattle.need_text.specs.Text.{op_line, op_lines, begin_line, commit_line, object_text, leading_text, both_text, telling_text, history_text, fails_line, state_line, tell_line, witness_lines, witness_text, conflict_line, missing_line, dropped_line, set_text, equi_line, relation_text, missing_text, mend_text, pair_line, pair_text};
+ghost use Rattle.need_text.specs.Text.{op_line, operation_lines, begin_line, commit_line, object_text, leading_text, both_text, telling_text, history_text, fails_line, state_line, tell_line, witness_lines, witness_text, conflict_line, missing_line, dropped_line, set_text, equi_line, relation_text, missing_text, mend_text, pair_line, pair_text};
 ghost use Rattle.pair_needs.specs.Witnesses.{first_commit, second_commit, failing_order};
 
 use crate::write::{write_letter, write_ops, write_ops_line};
@@ -242,7 +242,7 @@ fn write_op_line<W: Out>(t: u32, k: u8, out: &mut W) -> Result<(), OutFault>
 
 fn write_op_lines<W: Out>(t: u32, ops: &[u8], out: &mut W) -> Result<(), OutFault>
     requires { W.fault out.old ≡ None }
-    ensures { Puts (W.taken out.old) (W.taken out.new) (W.fault out.new) (op_lines t ops.now) result }
+    ensures { Puts (W.taken out.old) (W.taken out.new) (W.fault out.new) (operation_lines t ops.now) result }
 {
     texts_in_turn();
     items_in_turn::<u8>();

@@ -1,0 +1,3 @@
+mod Marks
+mod FoundFiles
+mod Tells
