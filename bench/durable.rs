@@ -32,7 +32,7 @@ fn greeted(program: &str, database: &str, options: &[String]) -> (Child, ChildSt
     let (input, mut output) = (child.stdin.take().unwrap(), child.stdout.take().unwrap());
     let mut line = [0; 64];
     let length = output.read(&mut line).unwrap();
-    assert!(line[..length].starts_with(b"colock 4 "));
+    assert!(line[..length].starts_with(b"colock 5 "));
     (child, input, output)
 }
 

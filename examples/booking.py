@@ -20,7 +20,7 @@ class Store:
     def __init__(self, program, database):
         self.process = subprocess.Popen([program, "serve", database], stdin=subprocess.PIPE, stdout=subprocess.PIPE, text=True)
         self.lock, self.waiting, self.count = threading.Lock(), {}, 0
-        if not self.process.stdout.readline().startswith("colock 4 "):
+        if not self.process.stdout.readline().startswith("colock 5 "):
             sys.exit("no store")
         threading.Thread(target=self.read, daemon=True).start()
 

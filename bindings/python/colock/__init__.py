@@ -119,6 +119,19 @@ What has a key is done at most once, however often it is asked. So who wasn't an
 
 In a file keys stay, so what was asked before its program was lost is asked again where the file is open anew.
 
+A transaction may be prepared under a key. Then it holds what it did, whoever lets it go, until it is decided under the key:
+
+    >>> with pair.begin() as transaction:
+    ...     done = transaction.expect("one", "dec:1", "ok")
+    ...     transaction.prepare("order:9", until=1_800_000_000)
+    >>> pair.prepared(), pair.outcome("order:9")
+    ([PreparedTransaction(key='order:9', id='0.6', until=1800000000, objects=('one',))], Prepared())
+    >>> pair.decide("order:9", colock.Decision.COMMIT)
+    >>> pair.kept("one"), pair.outcome("order:9")
+    (2, Committed(replies=()))
+
+In a file that is durable: a later program finds it again, and decides.
+
 Objects may have names, by which calls then have them; and more may be added while the store lives:
 
     >>> hall = colock.Store({"A1": seat, "A2": seat}, max_events=1_000_000)
@@ -159,7 +172,11 @@ from ._errors import (
     InMemoryOnly,
     InUse,
     KeyAborted,
+    KeyCommitted,
+    KeyDecided,
+    KeyPrepared,
     KeyTaken,
+    KeyUnknown,
     NameTaken,
     NeedsEscrow,
     NoCall,
@@ -174,6 +191,7 @@ from ._errors import (
     OtherCalls,
     OtherObjects,
     OutcomeUnknown,
+    PreparedError,
     Refused,
     Retryable,
     StillOpenError,
@@ -185,9 +203,10 @@ from ._errors import (
     UnexpectedError,
 )
 from ._events import Event, EventKind
-from ._keys import Aborted, Committed, Unknown
+from ._keys import Aborted, Committed, Decision, Prepared, Unknown
 from ._limits import Limits
 from ._old_names import renamed as _renamed
+from ._prepared import PreparedTransaction
 from ._reads import Moment, Seen, States
 from ._replies import Busy, Illegal, Operation, Reply
 from ._stats import Stats
@@ -215,6 +234,7 @@ __all__ = [
     "Committed",
     "ConnectionLost",
     "DeadlockError",
+    "Decision",
     "Done",
     "Ended",
     "EpochEndedError",
@@ -229,7 +249,11 @@ __all__ = [
     "InMemoryOnly",
     "InUse",
     "KeyAborted",
+    "KeyCommitted",
+    "KeyDecided",
+    "KeyPrepared",
     "KeyTaken",
+    "KeyUnknown",
     "Kind",
     "Limits",
     "Moment",
@@ -248,6 +272,9 @@ __all__ = [
     "OtherCalls",
     "OtherObjects",
     "OutcomeUnknown",
+    "Prepared",
+    "PreparedError",
+    "PreparedTransaction",
     "Refused",
     "Reply",
     "Retryable",

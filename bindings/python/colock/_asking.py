@@ -22,9 +22,10 @@ from ._errors import (
     TooManyOpenError,
 )
 from ._events import Event, read_event
-from ._keys import UNKNOWN, Aborted, Committed, Outcome
+from ._keys import PREPARED, UNKNOWN, Aborted, Committed, Outcome
 from ._objects import Given
 from ._outcomes import Archive, outcome_in
+from ._prepared import PreparedTransaction, told_in
 from ._reads import Moment, Seen, States
 from ._replies import Operation
 
@@ -41,13 +42,13 @@ REFUSALS: Dict[str, Class[Error]] = {
     "NoMemory": NoMemory,
     "BadRollback": BadRollback,
 }
-STATS = re.compile(rb"ok events ([0-9]+) begun [0-9]+ open ([0-9]+)")
+STATS = re.compile(rb"ok events ([0-9]+) begun [0-9]+ open ([0-9]+) prepared [0-9]+")
 # What is seen: at which moment, and a word for each that was asked for; or of which of them no operation is legal.
 SEEN = re.compile(r"seen ([0-9]+)\.([0-9]+)((?: [^ ]+)*)")
 NONE = re.compile(rb"none ([0-9]+)")
 # What became of a key: with a word for each reply where it committed.
 OUTCOME = re.compile(r"committed((?: [a-z0-9_:-]{1,32})*)")
-OTHER_OUTCOMES: Dict[bytes, Outcome] = {b"aborted": Aborted(), b"unknown": UNKNOWN}
+OTHER_OUTCOMES: Dict[bytes, Outcome] = {b"aborted": Aborted(), b"prepared": PREPARED, b"unknown": UNKNOWN}
 # A request has at most this many calls, or objects; and how often several of them are asked that aren't of one moment.
 MOST_ASKED = 64
 MOST_TRIES = 10
@@ -200,10 +201,8 @@ class Asking(Backend):
         """
         if self._found is None:
             return None
-        lines, count = (yield from self._first_lines()), self._found[0]
-        if lines is None or len(lines) < count:
-            return None
-        return outcome_in(lines[:count], number) or False
+        lines = yield from self._first_lines()
+        return self._found.outcome(lines, number, self.life != self._first_life)
 
     def _first_lines(self) -> Steps[Optional[List[bytes]]]:
         """The lines of the events of the epoch in which the store was opened, where they are still to be had."""
@@ -227,6 +226,21 @@ class Asking(Backend):
         if other is None:
             self._refuse(answer)
         return other
+
+    def prepared(self) -> Steps[List[PreparedTransaction]]:
+        self._check_connection()
+        slot = self._connection.send("prepared", True)
+        answer = yield from self.answer_to(slot)
+        if answer != b"ok":
+            self._refuse(answer)
+        return list(map(self._prepared_in, slot.lines))
+
+    def _prepared_in(self, line: bytes) -> PreparedTransaction:
+        """What a line tells of a transaction that is prepared."""
+        told = told_in(line)
+        if told is None:
+            self._break(line)
+        return PreparedTransaction(told.key, told.id, told.until, tuple(map(self.name_of_object, told.objects)))
 
     # ---- what is committed
 

@@ -3,17 +3,18 @@ import threading
 from abc import ABC, abstractmethod
 from collections import deque
 from types import GeneratorType
-from typing import TYPE_CHECKING, Callable, Deque, Dict, Generator, Iterable, List, NamedTuple, Optional, Sequence, Tuple, TypeVar, Union, cast
+from typing import TYPE_CHECKING, Callable, Collection, Deque, Dict, Generator, Iterable, List, NamedTuple, Optional, Sequence, Tuple, TypeVar, Union, cast
 from weakref import ref
 
 from ._attempts import Attempt, Done, Ended
 from ._connection import Slot
-from ._errors import Error, InMemoryOnly, KeyAborted, NoCall, NoObject, OtherCalls
+from ._errors import Error, InMemoryOnly, NoCall, NoObject, OtherCalls
 from ._events import Event
-from ._keys import Aborted, Committed, Outcome
+from ._keys import Committed, Decision, Outcome, refuse_work
 from ._let_go import warn_of_transaction
 from ._library import unsigned
 from ._objects import Given, ObjectRef
+from ._prepared import PreparedTransaction, Undecided
 from ._reads import Moment, Seen, States
 from ._replies import Operation, Reply
 from ._sleepers import Blocker, Sleepers
@@ -101,6 +102,8 @@ class Backend(ABC):
         # in which a handler might raise what Python would drop.
         self.holders: Dict[int, Holder] = {}
         self.gone: Deque[Holder] = deque()
+        # the transactions that were prepared here and aren't decided, by their keys, in the order in which they were prepared
+        self.undecided: Dict[str, Undecided] = {}
         # the number of the request that was answered last
         self.answered = 0
         self._goes = cast(Callable[["ref[Transaction]"], None], self.gone.append)
@@ -144,7 +147,7 @@ class Backend(ABC):
     def interrupted(self, error: BaseException, under_key: "Optional[Transaction]" = None) -> None:
         """A call ends with this exception, which may have come at any place: the lock may be held, or something half done.
 
-        `under_key` is the transaction where the call is its commit under a key.
+        `under_key` is the transaction where the call is its commit or its prepare under a key.
         """
         if isinstance(error, Error):
             return
@@ -159,7 +162,7 @@ class Backend(ABC):
             self._give_back()
 
     def abort_behind(self, t: "Transaction") -> None:
-        """Aborts a transaction behind its commit under a key, whose answer nobody will see, where that is refused."""
+        """Aborts a transaction behind its commit or its prepare under a key, whose answer nobody will see, where that is refused."""
 
     def is_half_done(self) -> bool:
         """Whether there is something to put right."""
@@ -304,10 +307,9 @@ class Backend(ABC):
     def told_before(self, outcome: Outcome, pairs: Pairs, key: str) -> Optional[Done]:
         """What comes of an attempt of these calls whose key has this outcome; None where the key is free.
 
-        Raises `KeyAborted`, or `OtherCalls` where the replies aren't those of such calls.
+        Raises `KeyAborted`, `KeyPrepared`, or `OtherCalls` where the replies aren't those of such calls.
         """
-        if isinstance(outcome, Aborted):
-            raise KeyAborted(key)
+        refuse_work(key, outcome)
         if not isinstance(outcome, Committed):
             return None
         done = self.done_with(pairs, outcome.replies)
@@ -384,6 +386,39 @@ class Backend(ABC):
         lock, what came of it; None where none begins now, but soon."""
 
     @abstractmethod
+    def prepare(self, t: "Transaction", key: str, until: int) -> Finish:
+        """Prepares it under a key: from now on its calls and its ends are refused here, and nobody has to have it."""
+
+    @abstractmethod
+    def decide(self, key: str, decision: Decision) -> Finish:
+        """Ends the transaction that is prepared under a key: for all others it has ended after this."""
+
+    @abstractmethod
+    def prepared(self) -> Asked[List[PreparedTransaction]]:
+        """The transactions that are prepared and not decided, in the order in which they were prepared."""
+
+    def name_of_object(self, x: int) -> ObjectRef:
+        """The name of an object, or its number where it has none."""
+        return self.names.get(x, x)
+
+    def has_prepared(self, t: "Transaction", key: str, until: int, objects: Collection[int]) -> None:
+        """What follows from a prepare. It may be done twice."""
+        t._key = key
+        self.undecided[key] = Undecided(t._life, t._number, t._worker, until, objects, ref(t))
+        self.holders.pop(t._number, None)
+        # a call of its own may wait, in another thread, and is refused now
+        if t._number in self.sleepers.calls:
+            self.sleepers.begin_anew()
+
+    def has_decided(self, key: str) -> None:
+        """Whoever has the transaction under a key sees that it has ended. It may be done twice."""
+        one = self.undecided.get(key)
+        t = None if one is None else one.holder()
+        if t is not None:
+            t._ended, t._key = True, None
+        self.undecided.pop(key, None)
+
+    @abstractmethod
     def outcome(self, key: str) -> Asked[Outcome]:
         """What became of a key."""
 
@@ -436,6 +471,7 @@ class Backend(ABC):
         self.lock = threading.RLock()
         self.turn_of, self.doing = 0, None
         self.holders.clear()
+        self.undecided.clear()
         self.gone.clear()
         self.sleepers.begin_anew()
 

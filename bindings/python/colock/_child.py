@@ -23,6 +23,7 @@ from ._errors import (
     NotOpenError,
     OtherCalls,
     OutcomeUnknown,
+    PreparedError,
     TimedOut,
 )
 from ._extensions import Extending, Work, check_addition, refuse_objects
@@ -30,7 +31,7 @@ from ._keys import refusal_of
 from ._object_files import room_for_words, write_objects
 from ._objects import Given
 from ._outcomes import Archive
-from ._replies import Busy, Illegal, Operation, Reply
+from ._replies import LIVES, Busy, Illegal, Operation, Reply
 
 if TYPE_CHECKING:
     from ._transaction import Transaction
@@ -55,8 +56,9 @@ class Child(Asking):
         self._extending, self._one_extension = extending, threading.Lock()
         # the open transactions of this life, each with the number of the request by which it last rolled back
         self._open: Dict[int, int] = {}
-        # the number of the last end or rollback, and for each object of the last one that let go there
-        self._last_end = 0
+        # the number of the last end or rollback, for each object of the last one that let go there, and of the last one of
+        # which isn't known where it let go
+        self._last_end = self._let_go_anywhere = 0
         self._let_go: Dict[int, int] = {}
         self.know(0, objects)
         # the request for the end
@@ -188,8 +190,9 @@ class Child(Asking):
             self.life = life
 
     def _end_life(self) -> None:
-        """Another epoch has begun: what was open is aborted."""
-        aborts = self.counts.aborts + len(self._open)
+        """Another epoch has begun: what was open is aborted, but for what is prepared."""
+        prepared = {one.number for one in self.undecided.values() if one.life == self.life}
+        aborts = self.counts.aborts + len(self._open.keys() - prepared)
         self._together(lambda: self._forget_open(aborts))
 
     def _forget_open(self, aborts: int) -> None:
@@ -217,6 +220,8 @@ class Child(Asking):
     def check(self, t: "Transaction") -> None:
         if self._is_closed or self._connection.lost is not None:
             self._check_connection()
+        if t._key is not None:
+            raise PreparedError(t._key)
         if t._ended:
             raise NotOpenError(NotOpenError.__doc__)
         if t._life != self.life or t._number not in self._open:
@@ -226,9 +231,9 @@ class Child(Asking):
         return not self.is_lost() and life == self.life and number in self._open
 
     def is_stale(self, x: int, blocker: int) -> bool:
-        # an end or a rollback that was asked after the call, while its answer was awaited
-        rolled_back = self._open.get(blocker)
-        return rolled_back is None or rolled_back > self.answered or self._let_go.get(x, 0) > self.answered
+        # an end or a rollback that was asked after the call, while its answer was awaited; of one of an earlier life only a decision
+        rolled_back = self._open.get(blocker) if blocker < LIVES else self._let_go_anywhere
+        return rolled_back is None or max(rolled_back, self._let_go.get(x, 0), self._let_go_anywhere) > self.answered
 
     def call(self, t: "Transaction", x: int, name: str) -> Slot:
         return self._called(t, x, self._call_here(t, x, name), name)
@@ -289,8 +294,13 @@ class Child(Asking):
     def _refused(self, t: "Transaction", answer: bytes) -> Reply:
         """The reply that is no operation."""
         if answer.startswith(b"busy "):
-            return Busy(self._named(answer, answer[5:])[1])
+            return self._behind(answer, answer[5:], t._life)
         return self._refuse_transaction(t, answer)
+
+    def _behind(self, answer: bytes, name: bytes, life: int) -> Busy:
+        """Who is in the way, of a transaction of this life."""
+        of, number = self._named(answer, name)
+        return Busy(number) if of == life else Busy(number, of)
 
     def _refuse_transaction(self, t: "Transaction", answer: bytes) -> NoReturn:
         """As `_refuse`. A transaction that hasn't ended here and isn't open there is of an epoch that is over."""
@@ -329,6 +339,8 @@ class Child(Asking):
         """Asks for a commit under a key, also of a transaction that has ended: another one may have committed under it."""
         self.put_right()
         self._check_connection()
+        if t._key is not None:
+            raise PreparedError(t._key)
         was_open = not t._ended and self.is_open(t._life, t._number)
         slot = self._connection.made(f"commit {t._life}.{t._number} {key}")
         if was_open:
@@ -505,9 +517,8 @@ class Child(Asking):
         if verb == b"none":
             return Illegal()
         if verb == b"busy":
-            life, number = self._named(answer, word)
-            self._is_in(life)
-            return Busy(number)
+            self._is_in(self._named(answer, word)[0])
+            return self._behind(answer, word, self.life)
         kind = REFUSALS.get(word.decode("ascii", "replace")) if verb == b"refused" else None
         if kind is None:
             self._break(answer)

@@ -9,15 +9,18 @@ from collections import deque
 from typing import Any, Callable, Deque, Iterator, List, Optional, Tuple
 
 from ._errors import CannotOpen, ConnectionLost
+from ._outcomes import Opened
 
-# A line of an answer is shorter by far: a name has at most 32 bytes.
-LONGEST_LINE = 4096
+# A line of an answer is shorter: the longest tells of a prepared transaction at 65,536 objects.
+LONGEST_LINE = 1 << 19
 # How often who waits for a late answer asks something else: the program looks at its clock where a line comes.
 SECONDS_BETWEEN_LOOKS = 0.2
 # How long a program may take to end that has closed its output, or was killed.
 SECONDS_TO_END = 1.0
 # How much of what the program said is read.
 MOST_SAID = 65_536
+# What ends an answer of several lines but `ok`. A line of a prepared transaction may begin so too, by its key, and has more words.
+NOT_LISTED = re.compile(rb"(?:refused|fault) [^ ]*")
 FOUND = re.compile(rb": ([0-9]+) events, ([0-9]+) aborted, [0-9]+ ms$", re.MULTILINE)
 
 
@@ -59,7 +62,7 @@ class Slot:
         if not self.owns(line):
             raise NoAnswer(f"the answer {line[:80]!r} came, and not one behind {self._start!r}")
         rest = line[len(self._start) :]
-        if self.is_list and rest != b"ok" and not rest.startswith((b"refused ", b"fault ")):
+        if self.is_list and rest != b"ok" and not NOT_LISTED.fullmatch(rest):
             self.lines.append(rest)
             return False
         self.answer = rest
@@ -324,10 +327,10 @@ class Connection:
         lines = [line for line in self._all_said().split(b"\n") if not FOUND.search(line)]
         return b"\n".join(lines).decode("utf-8", "replace").strip()
 
-    def found(self) -> Optional[Tuple[int, int]]:
+    def found(self) -> Optional[Opened]:
         """How many events the file had, and how many aborts were added; None where it isn't said."""
         found = FOUND.search(self._all_said())
-        return (int(found[1]), int(found[2])) if found else None
+        return Opened(int(found[1]), int(found[2])) if found else None
 
     # ---- the end
 

@@ -20,6 +20,17 @@ class NotOpenError(Error):
     """The transaction isn't open."""
 
 
+class PreparedError(Error):
+    """The transaction is prepared, under the key `key`: nothing but `Store.decide` ends it. Nothing has changed."""
+
+    def __init__(self, key: str) -> None:
+        super().__init__(key)
+        self.key = key
+
+    def __str__(self) -> str:
+        return f"the transaction is prepared, under the key {self.key}"
+
+
 class NoObject(Error, LookupError):
     """The store has no object of this number."""
 
@@ -70,7 +81,7 @@ class BadKey(Error, ValueError):
 class KeyAborted(Error, ValueError):
     """The transaction of the key `key` was aborted, and none will commit under it.
 
-    A transaction that was to commit under it is open as before.
+    A transaction that was to commit or to be prepared under it is open as before.
     """
 
     def __init__(self, key: str) -> None:
@@ -81,10 +92,57 @@ class KeyAborted(Error, ValueError):
         return f"the transaction of the key {self.key} was aborted"
 
 
+class KeyCommitted(Error, ValueError):
+    """A transaction committed under the key `key`, so none is prepared under it. The one that was to be is open as before."""
+
+    def __init__(self, key: str) -> None:
+        super().__init__(key)
+        self.key = key
+
+    def __str__(self) -> str:
+        return f"a transaction committed under the key {self.key}"
+
+
+class KeyPrepared(Error, ValueError):
+    """Another transaction is prepared under the key `key`, and isn't decided.
+
+    Nothing was done, and a transaction that was to commit or to be prepared under it is open as before.
+    """
+
+    def __init__(self, key: str) -> None:
+        super().__init__(key)
+        self.key = key
+
+    def __str__(self) -> str:
+        return f"a transaction is prepared under the key {self.key}"
+
+
+class KeyDecided(Error, ValueError):
+    """The transaction of the key `key` ended otherwise than is asked for. `Store.outcome` says how. Nothing was done."""
+
+    def __init__(self, key: str) -> None:
+        super().__init__(key)
+        self.key = key
+
+    def __str__(self) -> str:
+        return f"the transaction of the key {self.key} ended otherwise"
+
+
+class KeyUnknown(Error, LookupError):
+    """No transaction is prepared under the key `key`, and none has ended under it: there is none to commit."""
+
+    def __init__(self, key: str) -> None:
+        super().__init__(key)
+        self.key = key
+
+    def __str__(self) -> str:
+        return f"no transaction has the key {self.key}"
+
+
 class KeyTaken(Error, ValueError):
     """The file has another key where it would keep the key `key`, which happens by a chance of one in 2^62.
 
-    Nothing was done, and a transaction that was to commit under it is open as before: it may take another key.
+    Nothing was done, and a transaction that was to commit or to be prepared under it is open as before: it may take another key.
     """
 
     def __init__(self, key: str) -> None:
@@ -160,14 +218,19 @@ class TimedOut(Retryable, TimeoutError):
 
 
 class BusyError(Retryable):
-    """What `executed` says of a `Busy`: `blocker` is the number of the transaction that is in the way."""
+    """What `executed` says of a `Busy`: `blocker` is the number of the transaction that is in the way.
 
-    def __init__(self, blocker: int) -> None:
+    `life` is None, but where that one is prepared and began in an earlier life: then it is that life.
+    """
+
+    def __init__(self, blocker: int, life: Optional[int] = None) -> None:
         super().__init__(blocker)
         self.blocker = blocker
+        self.life = life
 
     def __str__(self) -> str:
-        return f"transaction {self.blocker} is in the way"
+        who = str(self.blocker) if self.life is None else f"{self.life}.{self.blocker}, which is prepared,"
+        return f"transaction {who} is in the way"
 
 
 class IllegalError(Error):
@@ -213,20 +276,37 @@ class ConnectionLost(Error, ConnectionError):
 
 
 class OutcomeUnknown(Error, ConnectionError):
-    """A commit was in flight when the program was lost: it may be durable or not.
+    """A commit was in flight when the program was lost: it may be durable or not. So may a prepare, or a decision.
 
     `id` names the transaction: `Store.committed` of a later opening says what became of it. It is empty of an attempt,
-    whose number nobody told. Of what was asked under a key `Store.outcome` of a later opening says it; or the same is asked
-    there again under the key, and isn't done twice.
+    whose number nobody told, and of a decision. Of what was asked under a key `Store.outcome` of a later opening says it;
+    or the same is asked there again under the key, and isn't done twice. `key` is that of a prepare or a decision.
     """
+
+    key: Optional[str] = None
+    _end = "committed"
 
     def __init__(self, id: str) -> None:
         super().__init__(id)
         self.id = id
 
+    @classmethod
+    def of_prepare(cls, id: str, key: str) -> "OutcomeUnknown":
+        """A prepare under this key was in flight."""
+        return cls(id)._under(key, "prepared")
+
+    @classmethod
+    def of_decision(cls, key: str) -> "OutcomeUnknown":
+        """A decision of this key was in flight."""
+        return cls("")._under(key, "decided")
+
+    def _under(self, key: str, end: str) -> "OutcomeUnknown":
+        self.key, self._end = key, end
+        return self
+
     def __str__(self) -> str:
-        who = f"transaction {self.id}" if self.id else "the attempt"
-        return f"whether {who} is committed isn't known"
+        who = f"transaction {self.id}" if self.id else "the attempt" if self.key is None else f"the transaction of the key {self.key}"
+        return f"whether {who} is {self._end} isn't known"
 
 
 class CannotOpen(Error, OSError):

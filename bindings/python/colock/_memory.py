@@ -2,15 +2,15 @@
 import ctypes
 import time
 from functools import partial
-from typing import TYPE_CHECKING, Callable, Dict, Iterable, List, Optional, Sequence, Tuple, Union
+from typing import TYPE_CHECKING, Callable, Dict, Iterable, List, NoReturn, Optional, Sequence, Tuple, Union
 
 from . import _library
 from ._attempts import Attempt, Done, Ended
 from ._backend import NOBODY, Backend, CallAt, Finish, Pairs
-from ._errors import Error, IllegalError, NotFollowedError, NotOpenError, done, error_of
+from ._errors import Error, IllegalError, NotFollowedError, NotOpenError, PreparedError, done, error_of
 from ._events import Event, event_of, words_of
 from ._library import functions, quick, unsigned
-from ._keys import Committed, Keys, Outcome
+from ._keys import PREPARED, Committed, Keys, Outcome, refuse_work
 from ._limits import Limits
 from ._objects import Given, check_names
 from ._outcomes import outcome_among
@@ -22,7 +22,7 @@ if TYPE_CHECKING:
     from ._transaction import Transaction
 
 _BEGIN, _CALL, _CALL_OP, _WOULD, _WOULD_OP = (quick[name] for name in ("begin", "call", "call_op", "would", "would_op"))
-_COMMIT, _ABORT, _ROLLBACK = (quick[name] for name in ("commit", "abort", "rollback"))
+COMMIT, ABORT, _ROLLBACK = (quick[name] for name in ("commit", "abort", "rollback"))
 _ATTEMPT_OP, _PEEK, _COMMITTED, _COMMIT_COUNT = (quick[name] for name in ("attempt_op", "peek", "committed", "commit_count"))
 _ILLEGAL = Illegal()
 # What the library may have done of which the client doesn't know yet.
@@ -89,13 +89,23 @@ class Memory(Backend):
         if self.is_open(self.life, number):
             self.counts.aborts += 1
             self.doing = self.sleepers.begin_anew
-            _ABORT(self._handle, 0, number)
+            ABORT(self._handle, 0, number)
             self.ends += 1
             # at which objects it let go isn't known
             self.sleepers.ended(number, range(len(self.types)))
             self.doing = None
 
+    def _refuse(self, t: "Transaction") -> NoReturn:
+        """Raises what is said of a transaction that is prepared, or of an earlier life."""
+        if t._key is None:
+            raise NotOpenError(NotOpenError.__doc__)
+        # where the store is closed this raises
+        self.moment()
+        raise PreparedError(t._key)
+
     def check(self, t: "Transaction") -> None:
+        if t._key is not None:
+            self._refuse(t)
         # the transaction is looked at before the object and the call are, and to ask is no event
         code = _WOULD_OP(self._handle, t._number, 0, 0, self._answer) if t._life == self.life else _library.NOT_OPEN
         if code not in (_library.OK, _library.NO_CALL):
@@ -109,8 +119,8 @@ class Memory(Backend):
 
     def call(self, t: "Transaction", x: int, name: str) -> Reply:
         content = name.encode("utf-8", "surrogatepass")
-        if t._life != self.life:
-            raise NotOpenError(NotOpenError.__doc__)
+        if t._life != self.life or t._key is not None:
+            self._refuse(t)
         try:
             code = _CALL(self._handle, t._worker, t._number, x, content, len(content), self._answer)
             if code:
@@ -126,8 +136,8 @@ class Memory(Backend):
         return self._replies[x][self._answer.number]
 
     def call_op(self, t: "Transaction", x: int, call: int) -> Reply:
-        if t._life != self.life:
-            raise NotOpenError(NotOpenError.__doc__)
+        if t._life != self.life or t._key is not None:
+            self._refuse(t)
         try:
             code = _CALL_OP(self._handle, t._worker, t._number, x, call, self._answer)
             if code:
@@ -144,14 +154,14 @@ class Memory(Backend):
 
     def would(self, t: "Transaction", x: int, name: str) -> Reply:
         content = name.encode("utf-8", "surrogatepass")
-        if t._life != self.life:
-            raise NotOpenError(NotOpenError.__doc__)
+        if t._life != self.life or t._key is not None:
+            self._refuse(t)
         done(_WOULD(self._handle, t._number, x, content, len(content), self._answer))
         return self._replies[x][self._answer.number] if self._answer.kind == 0 else self._otherwise()
 
     def would_op(self, t: "Transaction", x: int, call: int) -> Reply:
-        if t._life != self.life:
-            raise NotOpenError(NotOpenError.__doc__)
+        if t._life != self.life or t._key is not None:
+            self._refuse(t)
         done(_WOULD_OP(self._handle, t._number, x, call, self._answer))
         return self._replies[x][self._answer.number] if self._answer.kind == 0 else self._otherwise()
 
@@ -160,8 +170,9 @@ class Memory(Backend):
 
     def rollback(self, t: "Transaction", operations: int) -> Finish:
         self.put_right()
-        if t._life != self.life:
-            raise NotOpenError(NotOpenError.__doc__)
+        if t._life != self.life or t._key is not None:
+            self._refuse(t)
+        t._took_back = True
         self.doing = self.sleepers.begin_anew
         code = _ROLLBACK(self._handle, t._worker, t._number, operations)
         if not code and self.sleepers.calls:
@@ -175,36 +186,40 @@ class Memory(Backend):
             return self._commit_under(t, key)
         if self._half is not None or self.gone:
             self.put_right()
-        if t._life != self.life:
-            raise NotOpenError(NotOpenError.__doc__)
+        if t._life != self.life or t._key is not None:
+            self._refuse(t)
         if not t._ended:
             self._half = t, self.counts.commits + 1, self.counts.aborts, None
-        return self._ended(_COMMIT(self._handle, t._worker, t._number))
+        return self._ended(COMMIT(self._handle, t._worker, t._number))
 
     def _commit_under(self, t: "Transaction", key: str) -> Finish:
         """A commit under a key. It counts as one also where another one committed under it before."""
-        was_done = isinstance(self.outcome(key), Committed)
+        outcome = self.outcome(key)
+        if t._key is not None:
+            self._refuse(t)
+        refuse_work(key, outcome)
+        was_done = isinstance(outcome, Committed)
         if was_done and not self.is_open(t._life, t._number):
             self.counts.commits += 1
             return None
         self.check(t)
         self._half = t, self.counts.commits + 1, self.counts.aborts, None if was_done else key
-        return self._ended((_ABORT if was_done else _COMMIT)(self._handle, t._worker, t._number))
+        return self._ended((ABORT if was_done else COMMIT)(self._handle, t._worker, t._number))
 
     def outcome(self, key: str) -> Outcome:
         self.put_right()
         # where it is closed this raises
         self.moment()
-        return self._keys.outcome(key)
+        return PREPARED if key in self.undecided else self._keys.outcome(key)
 
     def abort(self, t: "Transaction") -> Finish:
         if self._half is not None or self.gone:
             self.put_right()
-        if t._life != self.life:
-            raise NotOpenError(NotOpenError.__doc__)
+        if t._life != self.life or t._key is not None:
+            self._refuse(t)
         if not t._ended:
             self._half = t, self.counts.commits, self.counts.aborts + 1, None
-        return self._ended(_ABORT(self._handle, t._worker, t._number))
+        return self._ended(ABORT(self._handle, t._worker, t._number))
 
     def _ended(self, code: int) -> Finish:
         """The library was asked for an end, and told this code. Who is woken by it goes first."""
@@ -214,7 +229,7 @@ class Memory(Backend):
             raise error_of(code)
         self._has_ended()
         self._half = None
-        return _let_others_run if self.sleepers.has_woken else None
+        return let_others_run if self.sleepers.has_woken else None
 
     def _has_ended(self) -> None:
         """What follows from an end. It may be done twice."""
@@ -475,11 +490,11 @@ def _begin_store(handle: _library.Handle, objects: List[Given]) -> None:
 def _told_after(told: Attempt, has_woken: bool) -> Attempt:
     """What came of an attempt. Who was woken by it goes first."""
     if has_woken:
-        _let_others_run()
+        let_others_run()
     return told
 
 
-def _let_others_run() -> None:
+def let_others_run() -> None:
     """Else they would run when this thread sleeps, or after some milliseconds."""
     time.sleep(0)
 

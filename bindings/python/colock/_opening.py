@@ -4,7 +4,6 @@ import re
 import tempfile
 from typing import Dict, List, NamedTuple, NoReturn, Optional, Sequence, Set, Tuple
 
-from ._child import Child
 from ._connection import Connection
 from ._errors import BadText, CannotOpen, ConnectionLost, OtherObjects, Refused, TooManyObjects
 from ._extensions import Extending
@@ -13,11 +12,12 @@ from ._library import unsigned
 from ._object_files import write_objects
 from ._objects import MOST_OBJECTS, Given, check_names
 from ._outcomes import Archive
+from ._preparing_child import PreparingChild
 from ._program import find_program, refused, told
 from ._types import Kind, Type
 
 # The version of what is spoken.
-VERSION = b"4"
+VERSION = b"5"
 GREETING = re.compile(rb"colock ([^ ]+) (0|[1-9][0-9]{0,9})")
 OBJECT = re.compile(rb"object (undo|intentions|escrow) (0|[1-9][0-9]{0,4})(?: ([a-zA-Z0-9_:./-]{1,64}))?")
 
@@ -47,7 +47,7 @@ class Opening(NamedTuple):
             unsigned("the seconds of the drain", self.drain, 32)
 
 
-def open_child(opening: Opening) -> Child:
+def open_child(opening: Opening) -> PreparingChild:
     """The store in a file, over its process.
 
     Raises as `Store.open`.
@@ -109,14 +109,14 @@ def _create(program: str, opening: Opening) -> None:
 
 # ---- opening it
 
-def _greeted(connection: Connection, opening: Opening, program: str) -> Child:
+def _greeted(connection: Connection, opening: Opening, program: str) -> PreparingChild:
     """The store behind a process that was started. Raises `ConnectionLost`, `CannotOpen` or `OtherObjects`."""
     life = _life(connection)
     objects = _objects(_listed(connection, "objects"), _listed(connection, "types"))
     if opening.objects is not None:
         _compare(opening.objects, objects)
     archive = None if opening.archive is None else Archive(opening.archive, store_id(opening.path))
-    return Child(connection, life, objects, archive, Extending(program, opening.limit))
+    return PreparingChild(connection, life, objects, archive, Extending(program, opening.limit))
 
 
 def _life(connection: Connection) -> int:

@@ -1,6 +1,6 @@
 """What became of a transaction, by the history of its epoch."""
 import os
-from typing import Iterable, List, NamedTuple, Optional, Sequence, Tuple
+from typing import Iterable, List, NamedTuple, Optional, Sequence, Set, Tuple
 
 from ._events import Event, EventKind
 
@@ -28,6 +28,44 @@ def outcome_in(lines: Optional[Sequence[bytes]], number: int) -> Optional[bool]:
         if f"{kind.name.lower()} 0 {number}".encode("ascii") in lines:
             return is_committed
     return None
+
+
+class Opened(NamedTuple):
+    """What the program found as it opened a store: how many events, and how many aborts it added."""
+
+    found: int
+    aborted: int
+
+    def outcome(self, lines: Optional[Sequence[bytes]], number: int, is_over: bool) -> Optional[bool]:
+        """The same of the life before, by the lines of the epoch, of which is said whether it is over.
+
+        What wasn't found is gone for ever. What was open was aborted, but for what was prepared: that ends later, and goes on
+        behind the end of the epoch.
+        """
+        if lines is None or len(lines) < self.found:
+            return None
+        before, after = lines[: self.found], lines[self.found + self.aborted :]
+        told = outcome_in(before, number)
+        was_aborted = outcome_in(lines[self.found : self.found + self.aborted], number) is False
+        if told is not None or was_aborted or f"begin 0 {number}".encode("ascii") not in before:
+            return told or False
+        later = outcome_in(after, number)
+        return None if is_over and not later else later
+
+
+def held_at(events: Iterable[Event], number: int) -> Optional[Set[int]]:
+    """The objects at which a transaction holds operations; None where its begin isn't among the events."""
+    objects: Optional[List[int]] = None
+    for event in events:
+        if event.transaction != number:
+            continue
+        if event.kind is EventKind.BEGIN:
+            objects = []
+        elif event.kind is EventKind.OP and objects is not None:
+            objects.append(event.object)
+        elif event.kind is EventKind.ROLLBACK and objects is not None:
+            del objects[-event.other :]
+    return None if objects is None else set(objects)
 
 
 class Archive(NamedTuple):

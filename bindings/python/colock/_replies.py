@@ -5,6 +5,9 @@ from typing import Optional, Union
 from ._errors import BusyError, IllegalError, UnexpectedError
 from ._operations import number_of
 
+# The numbers of the transactions of a life are below.
+LIVES = 1 << 32
+
 
 @dataclass(frozen=True, repr=False)
 class Operation:
@@ -42,24 +45,34 @@ class Operation:
         return f"Operation({self.call!r}, {self.reply!r}, place={self.place}{amount})"
 
 
-@dataclass(frozen=True)
+@dataclass(frozen=True, repr=False)
 class Busy:
     """What another transaction, the blocker, did is in its way. Nothing was executed.
 
-    Where somebody older waits at the object the blocker may be that one, who is first in turn.
+    Where somebody older waits at the object the blocker may be that one, who is first in turn. `life` is None, but where the
+    blocker is prepared and began in an earlier life: then it is that life.
     """
 
-    __match_args__ = ("blocker",)
+    __match_args__ = ("blocker", "life")
 
     blocker: int
+    life: Optional[int] = None
+
+    @property
+    def waited_for(self) -> int:
+        """The number by which those that wait know the blocker: no transaction of this life has that of an earlier one."""
+        return self.blocker if self.life is None else self.blocker + LIVES * self.life
 
     def executed(self) -> Operation:
         """Raises `BusyError`."""
-        raise BusyError(self.blocker)
+        raise BusyError(self.blocker, self.life)
 
     def expected(self, reply: str) -> Operation:
         """Raises `BusyError`."""
-        raise BusyError(self.blocker)
+        raise BusyError(self.blocker, self.life)
+
+    def __repr__(self) -> str:
+        return f"Busy(blocker={self.blocker})" if self.life is None else f"Busy(blocker={self.blocker}, life={self.life})"
 
 
 @dataclass(frozen=True)

@@ -6,9 +6,9 @@ class Stats(NamedTuple):
     """What was counted of this client since it opened the store."""
 
     commits: int
-    """Commits and attempts that came through, those under a key that had committed before among them."""
+    """Commits, attempts and decisions to commit that came through, those under a key that had committed before among them."""
     aborts: int
-    """Aborts, those of victims and of epochs that ended among them."""
+    """Aborts, those of victims, of epochs that ended and of decisions among them."""
     busy: Tuple[int, ...]
     """By object: how often a call was answered `Busy`, and how often one went to sleep."""
     waits: int

@@ -6,22 +6,21 @@ import time
 import weakref
 from functools import partial
 from types import TracebackType
-from typing import Callable, Iterable, List, Optional, Tuple, TypeVar, Union, cast, overload
+from typing import Callable, Iterable, List, Optional, Tuple, TypeVar, Union, overload
 from typing import Type as Class
 
 from ._attempts import Attempt, Done, Ended
-from ._backend import Asked, Backend, Finish, Pairs
-from ._errors import ConnectionLost, KeyAborted, OutcomeUnknown, Retryable, TimedOut
+from ._backend import Backend, Finish, Pairs
+from ._errors import ConnectionLost, OutcomeUnknown, Retryable, TimedOut
 from ._events import Event
-from ._keys import Aborted, Committed, Outcome, Unknown, check_key
+from ._keys import Committed, check_key, refuse_work
 from ._let_go import warn_of_store
 from ._library import unsigned
 from ._limits import Limits
-from ._memory import Memory
 from ._objects import ObjectRef, Objects, given
 from ._opening import Opening, open_child
-from ._outcomes import read_id
-from ._reads import Moment, Seen, States
+from ._preparing_memory import PreparingMemory
+from ._questions import CallsOf, Questions
 from ._replies import Busy
 from ._stats import Stats
 from ._transaction import Transaction
@@ -29,8 +28,6 @@ from ._waiting import Waiting, deadline_of, finished
 
 T = TypeVar("T")
 Path = Union[str, "os.PathLike[str]"]
-# Calls, each of an object by its number or name, and the name of the call.
-CallsOf = Iterable[Tuple[ObjectRef, str]]
 
 # How long a try waits for room, where too many transactions are open.
 SECONDS_FOR_ROOM = 10.0
@@ -39,7 +36,7 @@ SECONDS_OF_DRAIN = 0.01
 NO_EPOCH = "the epoch is full, or objects are added, and the next one doesn't begin"
 
 
-class Store:
+class Store(Questions):
     """A store of objects, which are numbered from 0: in memory, or by `Store.open` in a file. A `with` closes it.
 
     An object may have a name too, of 1 to 64 bytes of a-z, A-Z, 0-9, `_`, `:`, `-`, `.` and `/`, which no other object of the
@@ -56,7 +53,7 @@ class Store:
         `Limits()`. Raises `BadName`, `NameTaken`, `NoObjects`, `TooManyObjects`, `BadMax`, `NoMemory`, or `ClosedError` of
         a type.
         """
-        self._start(Memory(given(types), Limits(max_events)), 0.0)
+        self._start(PreparingMemory(given(types), Limits(max_events)), 0.0)
 
     @classmethod
     def with_limits(cls, types: Objects, limits: Limits) -> "Store":
@@ -65,7 +62,7 @@ class Store:
         The objects are given as to `Store`. Raises what `Store` raises, `BadMax` where any limit is out of its range.
         """
         store = cls.__new__(cls)
-        store._start(Memory(given(types), limits), 0.0)
+        store._start(PreparingMemory(given(types), limits), 0.0)
         return store
 
     @classmethod
@@ -115,7 +112,7 @@ class Store:
         self._waiting = Waiting(backend)
         self._number_of = backend.number_of
         # the backend, where it answers at once
-        self._memory = backend if isinstance(backend, Memory) else None
+        self._memory = backend if isinstance(backend, PreparingMemory) else None
         self._ages = itertools.count()
         _stores.add(self)
 
@@ -128,7 +125,7 @@ class Store:
     def begin(self, worker: int = 0) -> Transaction:
         """Begins a transaction, as a worker, which is a number below 256 that its events have.
 
-        It is open until it commits or aborts, nobody has it any more, or the store is closed. In a file, where an epoch
+        It is open until it commits or aborts, nobody has it any more, or the store is closed, unless it is prepared. In a file, where an epoch
         is full or objects are added, it waits for the next one. Raises `TooManyOpenError`, `HistoryFullError`, `NoMemory` or `ClosedError`; of a store in
         a file `ConnectionLost`, `TimedOut` where the next epoch doesn't come, or `InMemoryOnly` of a worker other than 0.
         """
@@ -176,14 +173,6 @@ class Store:
         self._backend.interrupted(error)
         t._abort_quietly()
 
-    def _told(self, ask: Callable[[], Asked[T]]) -> T:
-        """What is asked under the lock, and answered perhaps after a wait without it."""
-        try:
-            return self._backend.run(ask)
-        except BaseException as error:
-            self._backend.interrupted(error)
-            raise
-
     @overload
     def retry(self, f: Callable[[Transaction], T], tries: int = 10, backoff: float = 0.001, worker: int = 0, *, key: None = None) -> T: ...
 
@@ -210,7 +199,8 @@ class Store:
         their functions and return the values, and one of the two is committed.
 
         Raises what the function and a commit raise, `ValueError` where `tries` is below 1, `backoff` negative or
-        it is used inside of `transact`, what `begin` raises, and with a key `BadKey` or `KeyAborted`.
+        it is used inside of `transact`, what `begin` raises, and with a key `BadKey`, `KeyAborted`, or `KeyPrepared` where a
+        transaction is prepared under it. One that the function prepares is neither committed nor aborted here.
         """
         if tries < 1 or not backoff >= 0:
             raise ValueError(f"{tries} tries with a backoff of {backoff} seconds")
@@ -222,10 +212,9 @@ class Store:
         return self._retried(Transaction(self, who, age), f, tries, backoff, key) if before is None else before
 
     def _committed_under(self, key: str) -> Optional[Committed]:
-        """How a transaction committed under this key, if one did. Raises `KeyAborted`."""
+        """How a transaction committed under this key, if one did. Raises `KeyAborted` or `KeyPrepared`."""
         told = self.outcome(key)
-        if isinstance(told, Aborted):
-            raise KeyAborted(key)
+        refuse_work(key, told)
         return told if isinstance(told, Committed) else None
 
     def _retried(self, t: Transaction, f: Callable[[Transaction], T], tries: int, backoff: float, key: Optional[str]) -> T:
@@ -255,15 +244,10 @@ class Store:
             t._abort_quietly()
             raise
 
-    def _check_no_turn(self) -> None:
-        """Raises `ValueError` inside of `transact`, where only its transaction may be used."""
-        if self._backend.is_in_turn():
-            raise ValueError("the store can't be asked inside of `transact`, but by calls of transactions")
-
     def transact(self, f: Callable[[Transaction], T], worker: int = 0) -> T:
         """Runs a function in a transaction, in one turn of the lock: no call of another thread comes between.
 
-        It is committed after the function where that hasn't ended it, and the function's value is returned. Calls
+        It is committed after the function where that hasn't ended or prepared it, and the function's value is returned. Calls
         can't wait there, and the store can't be asked: both raise `ValueError`. An exception of the function aborts it
         and is handed on. Raises what the function, `begin` and `commit` raise.
         """
@@ -297,7 +281,7 @@ class Store:
     def _run_in_turn(self, t: Transaction, f: Callable[[Transaction], T]) -> Tuple[T, Finish]:
         try:
             value = f(t)
-            return value, None if t._ended else self._backend.commit(t)
+            return value, None if t._ended or t._key is not None else self._backend.commit(t)
         except BaseException:
             t._abort_quietly()
             raise
@@ -321,7 +305,8 @@ class Store:
         `ClosedError`, and `ValueError` of no calls, a negative `wait` or inside of `transact`; with `wait` `TimedOut`. Nothing has
         changed then. Of a store in a file also `ConnectionLost`, `OutcomeUnknown`
         where the program was lost before it answered, `TimedOut` where the next epoch doesn't come, and `InMemoryOnly` of a
-        worker other than 0. With a key also `BadKey`, `KeyAborted`, `KeyTaken`, and `OtherCalls` where the key is of other work.
+        worker other than 0. With a key also `BadKey`, `KeyAborted`, `KeyPrepared`, `KeyTaken`, and `OtherCalls` where the key is of
+        other work.
         Where a signal handler raises in it, it may have committed: under a key it may be asked again.
         """
         who, deadline = unsigned("the worker", worker, 8), None if wait is None else deadline_of(wait)
@@ -336,7 +321,7 @@ class Store:
             if deadline is None or not (isinstance(told, Ended) and isinstance(told.how, Busy)):
                 return told
             try:
-                self._waiting.out_of_the_way(told.how.blocker, deadline)
+                self._waiting.out_of_the_way(told.how, deadline)
             except BaseException as error:
                 self._backend.interrupted(error)
                 raise
@@ -367,71 +352,6 @@ class Store:
             if time.monotonic() >= deadline:
                 raise TimedOut(NO_EPOCH)
             time.sleep(SECONDS_OF_DRAIN)
-
-    def _pairs(self, calls: CallsOf) -> Pairs:
-        """Calls by the numbers of their objects."""
-        return [(self._number_of(object), name) for object, name in calls]
-
-    def committed(self, id: str) -> Optional[bool]:
-        """What became of the transaction of this id, `S.N`, as `Transaction.id` and `OutcomeUnknown` give it.
-
-        True where it is committed, False where it never will be, and None where it is open, or where it isn't
-        certain any more: of a store in memory after `renew` or `forget`, and of one in a file where neither the
-        events nor the archive say. The life before this opening is always known until an epoch ends, and then
-        by the archive. Raises `ValueError` where it isn't an id, and `ClosedError`, `ConnectionLost` or `OSError`.
-        """
-        life, number = read_id(id)
-        self._check_no_turn()
-        return self._told(lambda: self._backend.committed(life, number))
-
-    def outcome(self, key: str) -> Union[Committed, Aborted, Unknown]:
-        """What became of a key: `Committed` with the replies of its attempt, `Aborted`, or `Unknown` where it is free.
-
-        It is durable, and once it is one of the first two it stays so; but a store in memory keeps the last 1,000,000 of them.
-        While a commit under the key is in flight in another thread it may still be `Unknown`. Raises `BadKey`, `ClosedError` or
-        `ConnectionLost`.
-        """
-        check_key(key)
-        self._check_no_turn()
-        return cast(Outcome, self._told(lambda: self._backend.outcome(key)))
-
-    # ---- what is committed
-
-    def moment(self) -> Moment:
-        """The present moment. What is read from now on is of this one or a later one.
-
-        Raises `ClosedError` or `ConnectionLost`.
-        """
-        self._check_no_turn()
-        return self._told(self._backend.moment)
-
-    def peek(self, calls: CallsOf) -> Seen:
-        """What these calls are replied to a transaction that only reads what is committed, all at one moment.
-
-        It holds nothing, is no event, and waits for nobody, and nobody waits for it. `calls` are pairs of an object and the name
-        of a call. Raises `NoObject` or `NoCall` where one isn't there. Else the first call without a reply says what is raised:
-        `IllegalError`, with its `index`, where no operation of it is legal; `Changes` where an operation of it may change
-        something. Also `ClosedError`; of a store in a file `ConnectionLost`, or `TimedOut` of more than 64 calls of which not
-        all are of one moment.
-        """
-        pairs = self._pairs(calls)
-        self._check_no_turn()
-        return self._told(lambda: self._backend.peek(pairs))
-
-    def committed_states(self, objects: Iterable[ObjectRef]) -> States:
-        """The committed states of these objects, all at one moment: what is left where open transactions are left out.
-
-        Unlike `kept` it is so of each kind. It holds nothing, is no event, and waits for nobody. Raises `NoObject`, `ClosedError`,
-        `ConnectionLost`, or `TimedOut` as `peek`.
-        """
-        numbers = list(map(self._number_of, objects))
-        self._check_no_turn()
-        return self._told(lambda: self._backend.states(numbers))
-
-    def snapshot(self) -> States:
-        """The committed states of all objects, by their numbers, at one moment. As `committed_states`."""
-        self._check_no_turn()
-        return self._told(self._backend.snapshot)
 
     # ---- what is there
 
@@ -468,12 +388,12 @@ class Store:
         return self._told(lambda: self._backend.kept(x))
 
     def open_count(self) -> int:
-        """How many transactions are open. Raises `ClosedError` or `ConnectionLost`."""
+        """How many transactions are open, those that are prepared among them. Raises `ClosedError` or `ConnectionLost`."""
         self._check_no_turn()
         return self._told(lambda: self._backend.open_count())
 
     def abort_all(self) -> None:
-        """Aborts each open transaction, in ascending order, as the worker that began it.
+        """Aborts each open transaction that isn't prepared, in ascending order, as the worker that began it.
 
         Raises `ClosedError` or `InMemoryOnly`.
         """
@@ -514,7 +434,8 @@ class Store:
     def follow(self, events: Iterable[Event]) -> None:
         """Makes events again, one after another, each as its worker: a store becomes what another was.
 
-        Raises `NotFollowedError`, with how many were made, `ClosedError` or `InMemoryOnly`.
+        Raises `NotFollowedError`, with how many were made, `PreparedError` where one is of a transaction that is prepared here, and
+        none was made, `ClosedError` or `InMemoryOnly`.
         """
         all_of_them = list(events)
         self._check_no_turn()
@@ -550,7 +471,8 @@ class Store:
     # ---- the end
 
     def close(self) -> None:
-        """Aborts what is open, and gives the memory back, or ends the epoch of the file. A second time does nothing.
+        """Aborts what is open, and gives the memory back, or ends the epoch of the file, which keeps what is prepared. A second time
+        does nothing.
 
         Raises `ConnectionLost` where the program that serves a file didn't end in order, or was gone before; what
         was committed is in the file.

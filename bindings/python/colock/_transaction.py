@@ -18,17 +18,21 @@ if TYPE_CHECKING:
 class Transaction:
     """A transaction. A `with` commits it, without a key, or aborts it where an exception leaves it.
 
-    Where it ended in the `with` already, nothing more is done; but where a deadlock ended it and nothing was said of
-    that, `DeadlockError` is raised after the `with`, so that nobody takes it for committed. `Store.begin` makes it.
+    Where it ended in the `with` already, or is prepared, nothing more is done; but where a deadlock ended it and nothing was
+    said of that, `DeadlockError` is raised after the `with`, so that nobody takes it for committed. `Store.begin` makes it.
     """
 
-    __slots__ = ("_store", "_life", "_worker", "_number", "_age", "_touched", "_ended", "_deadlock", "__weakref__")
+    __slots__ = ("_store", "_life", "_worker", "_number", "_age", "_touched", "_took_back", "_key", "_ended", "_deadlock", "__weakref__")
 
     def __init__(self, store: "Store", worker: int, age: int) -> None:
         """One that hasn't begun, whose number is -1: it is there before, so that nothing begins that nobody has."""
         self._store, self._life, self._worker, self._number, self._age = store, -1, worker, -1, age
         # the objects at which it has executed operations, under the lock
         self._touched: Set[int] = set()
+        # whether it may have rolled back some of them
+        self._took_back = False
+        # the key under which it is prepared, until it is decided
+        self._key: Optional[str] = None
         self._ended = False
         # the deadlock whose victim it was
         self._deadlock: Optional[DeadlockError] = None
@@ -54,8 +58,8 @@ class Transaction:
         may go, and is executed or illegal then. It goes after an older transaction that waits at the object and that it
         would hold up; without `wait` it is then answered `Busy`, too.
 
-        Raises `NotOpenError`, `NoObject`, `NoCall`, `HistoryFullError`, `NoMemory` or `ClosedError`; of a store in a file
-        `EpochEndedError` or `ConnectionLost`. With `wait` also `TimedOut` where the time is over, and nothing was
+        Raises `NotOpenError`, `PreparedError`, `NoObject`, `NoCall`, `HistoryFullError`, `NoMemory` or `ClosedError`; of a store in
+        a file `EpochEndedError` or `ConnectionLost`. With `wait` also `TimedOut` where the time is over, and nothing was
         executed; `DeadlockError` where transactions wait for each other in a circle and this is the youngest, which is
         aborted then; and `ValueError` where `wait` is negative, inside of `Store.transact`, or where the
         transaction waits in another thread.
@@ -150,8 +154,8 @@ class Transaction:
         """Takes back its last operations, over all objects together. It stays open, and who waits for it or at one of its
         objects may go.
 
-        Raises `NotOpenError`, `BadRollback`, `HistoryFullError`, `NoMemory` or `ClosedError`; of a store in a file `EpochEndedError` or
-        `ConnectionLost`.
+        Raises `NotOpenError`, `PreparedError`, `BadRollback`, `HistoryFullError`, `NoMemory` or `ClosedError`; of a store in a file
+        `EpochEndedError` or `ConnectionLost`.
         """
         count = unsigned("the number of operations", operations, 64)
         self._do(lambda: self._store._backend.rollback(self, count))
@@ -165,9 +169,9 @@ class Transaction:
         under one key at once, one of the two is committed, and neither learns which.
 
         Where a signal handler raises in it, `Store.committed` says what became of it, unless it is still open, and
-        `Store.outcome` what became of the key. Raises `BadKey`, and `KeyAborted` or `KeyTaken`, after which it is open as before;
-        `NotOpenError` or `ClosedError`; of a store in a file `EpochEndedError`, `ConnectionLost` where it can't be committed, or
-        `OutcomeUnknown` where the program was lost before it answered.
+        `Store.outcome` what became of the key. Raises `BadKey`, and `KeyAborted`, `KeyPrepared` or `KeyTaken`, after which it is open
+        as before; `NotOpenError`, `PreparedError` or `ClosedError`; of a store in a file `EpochEndedError`, `ConnectionLost` where it
+        can't be committed, or `OutcomeUnknown` where the program was lost before it answered.
         """
         if key is not None:
             check_key(key)
@@ -181,24 +185,44 @@ class Transaction:
             backend.interrupted(error, None if key is None else self)
             raise
 
+    def prepare(self, key: str, *, until: int = 0) -> None:
+        """Prepares it under a key: it keeps its operations until `Store.decide` ends it. Of a store in a file it is durable after this.
+
+        From then on its calls and its own ends raise `PreparedError`. It stays open where a `with` ends, where nobody has it any
+        more, and in a file where the store is closed or its program is lost, in whichever life. The key is as of `commit`. `until` is
+        a number below 2^32 that the store only keeps, for whoever decides: say a deadline, in seconds since 1970. Under the same
+        key it may be prepared twice, which changes nothing.
+
+        Raises, and it is open as before: `BadKey`, `KeyPrepared`, `KeyCommitted`, `KeyAborted` or `KeyTaken`, `OverflowError` of
+        `until`, `PreparedError` where it is prepared under another key, `NotOpenError` or `ClosedError`; of a store in a file
+        `EpochEndedError` or `ConnectionLost`. Where the program was lost before it answered it is `OutcomeUnknown`; then, and where a
+        signal handler raises in it, `Store.outcome` says whether it is prepared.
+        """
+        check_key(key)
+        seconds = unsigned("the number until", until, 32)
+        self._do(lambda: self._store._backend.prepare(self, key, seconds), self)
+
     def abort(self) -> None:
-        """Aborts it: nothing stays of its operations. Raises `NotOpenError`, `ClosedError`, `EpochEndedError` or `ConnectionLost`."""
+        """Aborts it: nothing stays of its operations.
+
+        Raises `NotOpenError`, `PreparedError`, `ClosedError`, `EpochEndedError` or `ConnectionLost`.
+        """
         self._do(lambda: self._store._backend.abort(self))
 
-    def _do(self, begin: Callable[[], Finish]) -> None:
-        """Begins an end or a rollback under the lock, and finishes it without."""
+    def _do(self, begin: Callable[[], Finish], under_key: "Optional[Transaction]" = None) -> None:
+        """Begins an end, a prepare or a rollback under the lock, and finishes it without."""
         backend = self._store._backend
         try:
             with backend.lock:
                 finish = begin()
             finished(finish)
         except BaseException as error:
-            backend.interrupted(error)
+            backend.interrupted(error, under_key)
             raise
 
     def _abort_quietly(self) -> None:
-        """Aborts it where it is open, at an exception that says more than that it isn't."""
-        if self._ended or self._number < 0:
+        """Aborts it where it is open and not prepared, at an exception that says more than that it isn't."""
+        if self._ended or self._key is not None or self._number < 0:
             return
         try:
             self.abort()
@@ -206,10 +230,10 @@ class Transaction:
             pass  # it has ended, or nobody is there who could abort it
 
     def _commit_at_end(self, key: Optional[str] = None) -> None:
-        """Commits it where it is open. Raises the `DeadlockError` that ended it, if one did."""
+        """Commits it where it is open and not prepared. Raises the `DeadlockError` that ended it, if one did."""
         if self._deadlock is not None:
             raise self._deadlock
-        if not self._ended:
+        if not self._ended and self._key is None:
             self.commit(key=key)
 
     def __enter__(self) -> "Transaction":

@@ -136,7 +136,7 @@ class Waiting:
             return reply
         # or while the answer was awaited
         self._backend.check(t)
-        return None if self._backend.is_stale(x, reply.blocker) else Ahead(reply.blocker, False)
+        return None if self._backend.is_stale(x, reply.waited_for) else Ahead(reply.waited_for, False)
 
     def _check_alone(self, sleeper: Sleeper) -> None:
         """Raises `ValueError` where the transaction waits in another thread."""
@@ -194,7 +194,7 @@ class Waiting:
         else:
             time.sleep(random.uniform(0, min(backoff * 2.0 ** min(behind - 1, 60), LONGEST_BACKOFF)))
 
-    def out_of_the_way(self, blocker: int, deadline: float) -> None:
+    def out_of_the_way(self, busy: Busy, deadline: float) -> None:
         """Sleeps until the transaction that was in the way of an attempt has ended, or for a nap. The lock isn't held.
 
         Raises `TimedOut` where the time is over.
@@ -204,7 +204,12 @@ class Waiting:
             with self._backend.lock:
                 self._counts.timeouts += 1
             raise TimedOut("the limit of a wait is over, and nothing was executed")
-        self.await_end(self._backend.life, blocker, min(deadline - start, SECONDS_OF_NAP))
+        life, seconds = self._backend.life, min(deadline - start, SECONDS_OF_NAP)
+        if busy.life is None:
+            self.await_end(life, busy.blocker, seconds)
+        else:
+            # it is prepared, and wakes all where it is decided
+            self._watch(busy.waited_for, seconds, lambda: not self._backend.is_lost())
         with self._backend.lock:
             self._counts.waits += 1
             self._counts.waited += time.monotonic() - start

@@ -215,7 +215,7 @@ def requests():
         yield tag, words
 
 
-def opened(greeting="colock 4 5\\n", kind="{kind}"):
+def opened(greeting="colock 5 5\\n", kind="{kind}"):
     '''Greets, and answers what a client asks as it opens; then the requests that follow.'''
     say(greeting)
     for tag, words in requests():
@@ -228,6 +228,22 @@ def opened(greeting="colock 4 5\\n", kind="{kind}"):
 
 
 {body}
+"""
+
+
+# It has to be asked these lines, in this order, and answers so.
+ASKED = """
+lines = {lines!r}
+for tag, words in opened():
+    if words == ["end"]:
+        say(f"{{tag}} ok\\n")
+        break
+    asked, answer = lines.pop(0)
+    if asked != " ".join(words):
+        sys.exit("it was asked " + " ".join(words) + ", and not " + asked)
+    if answer == "die":
+        sys.exit(3)
+    say("".join(f"{{tag}} {{line}}\\n" for line in answer.split("\\n")))
 """
 
 
@@ -250,3 +266,7 @@ class Fakes(unittest.TestCase):
         store = colock.Store.open(path, program=self.fake(body), limit=limit, archive=archive)
         self.addCleanup(closed, store)
         return store
+
+    def asked(self, *lines):
+        """A store whose program is asked these lines, one after another, and answers so."""
+        return self.open(ASKED.format(lines=[*lines]))

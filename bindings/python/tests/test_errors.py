@@ -18,9 +18,10 @@ KINDS = {
     "ClosedError": None, "ConnectionLost": ConnectionError,
     "DeadlockError": colock.Retryable, "EpochEndedError": colock.Retryable, "Error": None, "Forgotten": LookupError,
     "HistoryFullError": None, "IllegalError": None, "InMemoryOnly": NotImplementedError, "InUse": OSError,
-    "KeyAborted": ValueError, "KeyTaken": ValueError, "NameTaken": ValueError, "NeedsEscrow": ValueError, "NoCall": LookupError, "NoMemory": MemoryError, "NoObject": LookupError,
+    "KeyAborted": ValueError, "KeyCommitted": ValueError, "KeyDecided": ValueError, "KeyPrepared": ValueError, "KeyTaken": ValueError, "KeyUnknown": LookupError,
+    "NameTaken": ValueError, "NeedsEscrow": ValueError, "NoCall": LookupError, "NoMemory": MemoryError, "NoObject": LookupError,
     "NoObjects": ValueError, "NoOperation": LookupError, "NoState": LookupError, "NotFollowedError": None,
-    "NotMadeError": None, "NotOpenError": None, "OtherCalls": ValueError, "OtherObjects": ValueError, "OutcomeUnknown": ConnectionError,
+    "NotMadeError": None, "NotOpenError": None, "OtherCalls": ValueError, "OtherObjects": ValueError, "OutcomeUnknown": ConnectionError, "PreparedError": None,
     "Refused": ValueError, "Retryable": None, "StillOpenError": None, "TimedOut": TimeoutError, "TooLarge": ValueError,
     "TooManyObjects": ValueError, "TooManyOpenError": None, "TooManyStates": ValueError, "UnexpectedError": None,
 }
@@ -28,9 +29,11 @@ KINDS = {
 OF_PARTS = [
     colock.BadKey("a/b"), colock.BadName("A 1"), colock.BadText(3, colock.FaultKind.BadNumber), colock.BusyError(5), colock.CannotExtend("a.type: cannot read"), colock.CannotOpen("a.db: no such file"),
     colock.ConnectionLost("it is gone"), colock.DeadlockError(5), colock.IllegalError.at(2), colock.InUse("a.db: in use"),
-    colock.KeyAborted("a"), colock.KeyTaken("a"), colock.NameTaken("A1"),
+    colock.BusyError(5, 3), colock.KeyAborted("a"), colock.KeyCommitted("a"), colock.KeyDecided("a"), colock.KeyPrepared("a"), colock.KeyTaken("a"), colock.KeyUnknown("a"),
+    colock.NameTaken("A1"),
     colock.NoObject.named("A1"), colock.NotFollowedError(7),
-    colock.OtherCalls("a"), colock.OutcomeUnknown("5.1"), colock.Refused("NotClosed", (0, 1)), colock.TooManyStates("inc", "ok"),
+    colock.OtherCalls("a"), colock.OutcomeUnknown("5.1"), colock.OutcomeUnknown.of_decision("a"), colock.OutcomeUnknown.of_prepare("5.1", "a"),
+    colock.PreparedError("a"), colock.Refused("NotClosed", (0, 1)), colock.TooManyStates("inc", "ok"),
     colock.UnexpectedError("take:1", "short"),
 ]
 

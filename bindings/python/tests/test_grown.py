@@ -486,7 +486,7 @@ for tag, words in opened():
     elif words[0] == "events":
         say(f"{tag} begin 0 0\\n{tag} begin 0 1\\n{tag} ok\\n")
     else:
-        say(f"{tag} ok events 0 begun 0 open 0\\n")
+        say(f"{tag} ok events 0 begun 0 open 0 prepared 0\\n")
 """)
         for _ in range(2):
             store._backend.types[1:] = []

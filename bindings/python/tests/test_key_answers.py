@@ -5,25 +5,10 @@ from support import LONG, Fakes, Run, asleep, quietly
 from test_signals import STEP, Handler
 
 import colock
-from colock import Aborted, Busy, Committed, Done, Ended, Operation, Unknown
+from colock import Aborted, Busy, Committed, Done, Ended, Operation, Prepared, Unknown
 
 TAKEN, GIVEN = Operation("take", "ok", 0), Operation("give", "ok", 1)
 CALLS = [(0, "take"), (0, "give")]
-
-# It has to be asked these lines, in this order, and answers so.
-ASKED = """
-lines = {lines!r}
-for tag, words in opened():
-    if words == ["end"]:
-        say(f"{{tag}} ok\\n")
-        break
-    asked, answer = lines.pop(0)
-    if asked != " ".join(words):
-        sys.exit("it was asked " + " ".join(words) + ", and not " + asked)
-    if answer == "die":
-        sys.exit(3)
-    say(f"{{tag}} {{answer}}\\n")
-"""
 
 # It commits nothing under a key, and leaves a transaction open whose commit it refuses.
 REFUSING = """
@@ -41,7 +26,7 @@ for tag, words in opened():
     elif words[0] == "call":
         answer = "reply ok"
     elif words[0] == "stats":
-        answer = f"ok events 0 begun {{begun}} open {{len(open_ones)}}"
+        answer = f"ok events 0 begun {{begun}} open {{len(open_ones)}} prepared 0"
     say(f"{{tag}} {{answer}}\\n")
     if words[0] == "end":
         break
@@ -51,11 +36,8 @@ for tag, words in opened():
 class Lines(Fakes):
     """Programs that are asked these lines, one after another, and answer so."""
 
-    def asked(self, *lines):
-        return self.open(ASKED.format(lines=[*lines]))
-
     def test_a_commit(self):
-        store = self.asked(("begin", "ok 5.0"), ("commit 5.0 order:1", "ok"), ("begin", "ok 5.1"), ("commit 5.1", "ok"), ("commit 5.1 order:1", "ok"), ("stats", "ok events 4 begun 2 open 0"))
+        store = self.asked(("begin", "ok 5.0"), ("commit 5.0 order:1", "ok"), ("begin", "ok 5.1"), ("commit 5.1", "ok"), ("commit 5.1 order:1", "ok"), ("stats", "ok events 4 begun 2 open 0 prepared 0"))
         t = store.begin()
         t.commit(key="order:1")
         with store.begin() as t:
@@ -105,12 +87,12 @@ class Lines(Fakes):
         self.assertEqual(raised.exception.id, "")
 
     def test_outcomes(self):
-        store = self.asked(*(("outcome a", answer) for answer in ("committed", "committed ok", "committed ok 483 a:b_c-d", "aborted", "unknown")))
-        wanted = [Committed(()), Committed(("ok",)), Committed(("ok", "483", "a:b_c-d")), Aborted(), Unknown()]
-        self.assertEqual([store.outcome("a") for _ in range(5)], wanted)
+        store = self.asked(*(("outcome a", answer) for answer in ("committed", "committed ok", "committed ok 483 a:b_c-d", "aborted", "prepared", "unknown")))
+        wanted = [Committed(()), Committed(("ok",)), Committed(("ok", "483", "a:b_c-d")), Aborted(), Prepared(), Unknown()]
+        self.assertEqual([store.outcome("a") for _ in range(6)], wanted)
 
     def test_what_is_no_outcome(self):
-        for answer in ("ok", "committed ", "committed  ok", "committed OK", "commit", "aborted ok", "unknown ", "none", "refused", "refused Gone", "refused KeyTaken", "fault UnknownVerb", "done ok"):
+        for answer in ("ok", "prepared ", "prepared ok", "committed ", "committed  ok", "committed OK", "commit", "aborted ok", "unknown ", "none", "refused", "refused Gone", "refused KeyTaken", "fault UnknownVerb", "done ok"):
             store = self.asked(("outcome a", answer))
             self.assertRaises(colock.ConnectionLost, store.outcome, "a")
 
@@ -118,19 +100,20 @@ class Lines(Fakes):
         for answer in ("done ", "done  ok ok", "done OK OK", "ok", "committed", "none", "refused", "refused Gone", "aborted", "fault BadWords"):
             store = self.asked(("do =a 0 take 0 give", answer))
             self.assertRaises(colock.ConnectionLost, store.attempt, CALLS, key="a")
-        for answer in ("done", "committed", "busy drain", "refused", "refused Gone", "aborted", "fault BadWords"):
+        for answer in ("done", "committed", "busy drain", "refused", "refused Gone", "refused Committed", "refused Decided", "refused Unknown", "aborted", "fault BadWords"):
             store = self.asked(("begin", "ok 5.0"), ("commit 5.0 a", answer))
             # from when it was written it may be done
             self.assertRaises(colock.OutcomeUnknown, store.begin().commit, key="a")
-        for answer in "refused Aborted", "refused KeyTaken":
+        for answer in "refused Aborted", "refused KeyPrepared", "refused KeyTaken":
             store = self.asked(("do 0 take 0 give", answer))
             self.assertRaises(colock.ConnectionLost, store.attempt, CALLS)
             store = self.asked(("begin", "ok 5.0"), ("commit 5.0", answer))
             self.assertRaises(colock.OutcomeUnknown, store.begin().commit)
 
     def test_an_attempt_whose_key_is_refused(self):
-        store = self.asked(("do =a 0 take 0 give", "refused Aborted"), ("do =a 0 take 0 give", "refused KeyTaken"), ("do =a 0 take 0 give", "refused NoMemory"), ("do =a 0 take 0 give", "done ok ok"))
-        for error in colock.KeyAborted, colock.KeyTaken, colock.NoMemory:
+        refusals = ["refused Aborted", "refused KeyPrepared", "refused KeyTaken", "refused NoMemory"]
+        store = self.asked(*(("do =a 0 take 0 give", answer) for answer in [*refusals, "done ok ok"]))
+        for error in colock.KeyAborted, colock.KeyPrepared, colock.KeyTaken, colock.NoMemory:
             self.assertRaises(error, store.attempt, CALLS, LONG, key="a")
         self.assertEqual((store.stats().commits, store.stats().aborts), (0, 0))
         self.assertEqual(store.attempt(CALLS, key="a"), Done((TAKEN, GIVEN)))
@@ -170,7 +153,7 @@ class Refused(Fakes):
         return self.open(REFUSING.format(kind=kind))
 
     def test_it_is_open_as_before(self):
-        for kind, error in ("KeyTaken", colock.KeyTaken), ("Aborted", colock.KeyAborted):
+        for kind, error in ("KeyTaken", colock.KeyTaken), ("Aborted", colock.KeyAborted), ("KeyPrepared", colock.KeyPrepared):
             store = self.refusing(kind)
             t = store.begin()
             for _ in range(2):

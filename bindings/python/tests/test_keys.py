@@ -12,7 +12,7 @@ from support import LONG, PURSE, QUICK, SOON, TWO, Run, asleep, pid_of, until
 from test_signals import STEP, Handler
 
 import colock
-from colock import Aborted, Busy, Committed, Done, Ended, Illegal, Kind, Operation, Store, Type, Unknown, _keys
+from colock import Aborted, Busy, Committed, Done, Ended, Illegal, Kind, Operation, Prepared, Store, Type, Unknown, _keys
 
 COUNTER = Type.counter(1_000, [1])
 UP = Operation("inc:1", "ok", 0)
@@ -28,19 +28,21 @@ def told(outcome):
             return "committed"
         case Aborted():
             return "aborted"
+        case Prepared():
+            return "prepared"
         case Unknown():
             return "unknown"
 """
 
 
 class Words(unittest.TestCase):
-    ALL = [Committed(("ok", "483")), Committed(()), Aborted(), Unknown()]
+    ALL = [Committed(("ok", "483")), Committed(()), Aborted(), Prepared(), Unknown()]
 
     def test_words(self):
         self.assertEqual([eval(repr(one)) for one in self.ALL], self.ALL)
         self.assertEqual(repr(self.ALL[0]), "Committed(replies=('ok', '483'))")
-        self.assertEqual((Committed.__match_args__, Aborted.__match_args__, Unknown.__match_args__), (("replies",), (), ()))
-        self.assertEqual(typing.get_type_hints(Store.outcome)["return"], typing.Union[Committed, Aborted, Unknown])
+        self.assertEqual([kind.__match_args__ for kind in (Committed, Aborted, Prepared, Unknown)], [("replies",), (), (), ()])
+        self.assertEqual(typing.get_type_hints(Store.outcome)["return"], typing.Union[Committed, Aborted, Prepared, Unknown])
         self.assertEqual(str(colock.BadKey("a/b")), "'a/b' is no key of a transaction")
         self.assertEqual(str(colock.KeyAborted("a")), "the transaction of the key a was aborted")
         self.assertEqual(str(colock.KeyTaken("a")), "the file has another key in the place of a")
@@ -48,9 +50,9 @@ class Words(unittest.TestCase):
 
     @unittest.skipIf(sys.version_info < (3, 10), "`match` is of Python 3.10")
     def test_match(self):
-        names = {"Committed": Committed, "Aborted": Aborted, "Unknown": Unknown}
+        names = {"Committed": Committed, "Aborted": Aborted, "Prepared": Prepared, "Unknown": Unknown}
         exec(MATCHED, names)
-        self.assertEqual([*map(names["told"], self.ALL)], ["ok and 1 more", "committed", "aborted", "unknown"])
+        self.assertEqual([*map(names["told"], self.ALL)], ["ok and 1 more", "committed", "aborted", "prepared", "unknown"])
 
     def test_what_is_a_key(self):
         for key in ("a", "0", "-", ".", "order:1", LONGEST):

@@ -57,7 +57,7 @@ class Pipes(support.Fakes):
     def test_no_greeting(self):
         for body, words in [
             ("time.sleep(60)", "no answer within 0.4 seconds"),
-            ("say('colock 4 5'); time.sleep(60)", "no answer within 0.4 seconds"),
+            ("say('colock 5 5'); time.sleep(60)", "no answer within 0.4 seconds"),
         ]:
             with Timed() as timed:
                 with self.assertRaises(colock.CannotOpen) as raised:
@@ -67,9 +67,9 @@ class Pipes(support.Fakes):
 
     def test_wrong_greetings(self):
         for greeting, words in [
-            ("colock 1 5", "speaks version 1, and this package 4"), ("colock 2 5", "speaks version 2, and this package 4"),
-            ("colock 3 5", "speaks version 3"), ("colock 5 5", "speaks version 5"), ("colock 4.1 5", "speaks version 4.1"), ("hello", "no greeting"), ("", "no greeting"),
-            ("colock 4 05", "no greeting"), ("colock 4 5 ", "no greeting"), ("colock 4 \\xff", "no greeting"), ("t ok", "no greeting"),
+            ("colock 1 5", "speaks version 1, and this package 5"), ("colock 2 5", "speaks version 2, and this package 5"),
+            ("colock 3 5", "speaks version 3"), ("colock 4 5", "speaks version 4"), ("colock 6 5", "speaks version 6"), ("colock 5.1 5", "speaks version 5.1"), ("hello", "no greeting"), ("", "no greeting"),
+            ("colock 5 05", "no greeting"), ("colock 5 5 ", "no greeting"), ("colock 5 \\xff", "no greeting"), ("t ok", "no greeting"),
         ]:
             with self.assertRaises(colock.CannotOpen) as raised:
                 self.open(f"list(opened('{greeting}\\n'))")
@@ -78,7 +78,7 @@ class Pipes(support.Fakes):
     def test_it_ends_at_once(self):
         for body, words in [
             ("sys.exit('it has no wish')", "it has no wish"), ("sys.exit(3)", "status 3"), ("os.kill(os.getpid(), 9)", "SIGKILL"),
-            ("say('colock 4 5\\n'); sys.exit('then it ended')", "then it ended"),
+            ("say('colock 5 5\\n'); sys.exit('then it ended')", "then it ended"),
         ]:
             with self.assertRaises(colock.CannotOpen) as raised:
                 self.open(body)
@@ -93,7 +93,7 @@ class Pipes(support.Fakes):
             ("{0} object escrow 0|{0} ok", "".join(f"{{0}} {line}|" for line in ("type t", "states 2", "initial 0", "op a b", "step 0 0 1", "step 1 0 1", "end", "")) + "{0} ok"),
         ]:
             answers = {"objects": objects + "|", "types": types + "|"}
-            body = f"say('colock 4 5\\n')\nfor tag, words in requests():\n    say({answers!r}[words[0]].format(tag).replace('|', '\\n'))"
+            body = f"say('colock 5 5\\n')\nfor tag, words in requests():\n    say({answers!r}[words[0]].format(tag).replace('|', '\\n'))"
             with self.assertRaises(colock.CannotOpen):
                 self.open(body)
 
@@ -113,7 +113,7 @@ class Pipes(support.Fakes):
         for answer in (
             "say('zz ok 5.0\\n')", "say(f'{tag}\\n')", "say(f'{tag} \\n')", "say(f'{tag} ok\\n')", "say(f'{tag} ok 5\\n')", "say(f'{tag} ok 5.x\\n')",
             "say(f'{tag} busy 5.0\\n')", "say(f'{tag} none\\n')", "say(f'{tag} refused Nothing\\n')", "say(f'{tag} fault BadWords\\n')",
-            "say(f'{tag} ok 5.0')\n    sys.exit(0)", "say('\\xff\\xfe\\n')", "say('x' * 100_000)", "say(f'{tag}ok 5.0\\n')", "say(f'- fault TooLong\\n')",
+            "say(f'{tag} ok 5.0')\n    sys.exit(0)", "say('\\xff\\xfe\\n')", "say('x' * 1_000_000)", "say(f'{tag}ok 5.0\\n')", "say(f'- fault TooLong\\n')",
         ):
             with self.subTest(answer):
                 self.lost(answer)
@@ -144,8 +144,8 @@ class Pipes(support.Fakes):
             ("ok 1", lambda store: store.begin().abort()),
             ("none", lambda store: store.begin().rollback(1)),
             ("ok x", lambda store: store.kept(0)),
-            ("ok events 1 begun 1 open", lambda store: store.open_count()),
-            ("ok events  begun 1 open 1", lambda store: store.event_count()),
+            ("ok events 1 begun 1 open 1", lambda store: store.open_count()),
+            ("ok events  begun 1 open 1 prepared 0", lambda store: store.event_count()),
             ("begin 0", lambda store: store.events()),
             ("refused What", lambda store: store.events()),
         ]:

@@ -49,7 +49,7 @@ class Words(unittest.TestCase):
 
     def test_the_union(self):
         self.assertEqual(typing.get_args(colock.Reply), (Operation, Busy, Illegal))
-        self.assertEqual((Operation.__match_args__, Busy.__match_args__, Illegal.__match_args__), (("call", "reply", "place", "amount"), ("blocker",), ()))
+        self.assertEqual((Operation.__match_args__, Busy.__match_args__, Illegal.__match_args__), (("call", "reply", "place", "amount"), ("blocker", "life"), ()))
 
     @unittest.skipIf(sys.version_info < (3, 10), "`match` is of Python 3.10")
     def test_match(self):

@@ -24,6 +24,18 @@ pub enum Error {
     /// The place where the file would keep what becomes of the key has another key. Nothing was done. Of keys that differ, two have one
     /// place by a chance of one in 2^62: another key is to be taken.
     KeyTaken,
+    /// The transaction is [prepared](crate::SharedTransaction::prepare): nothing but [`SharedStore::decide`](crate::SharedStore::decide)
+    /// ends it, or changes what it holds.
+    Prepared,
+    /// A transaction is [prepared](crate::SharedTransaction::prepare) under the key and isn't decided. Nothing was done.
+    KeyPrepared,
+    /// A transaction committed under the key, so that none is prepared under it any more.
+    KeyCommitted,
+    /// Nobody has the key, so that there is nothing to commit by a [decision](crate::SharedStore::decide).
+    KeyUnknown,
+    /// The key's transaction ended otherwise than it was to be [decided](crate::SharedStore::decide): it was aborted where it is to
+    /// commit, or has committed where it is to be aborted.
+    Decided,
     /// What committed under the key aren't calls as those of this [attempt](crate::SharedStore::attempt_under): the key is of other
     /// work. Nothing was done.
     OtherCalls,
@@ -111,6 +123,10 @@ pub enum Error {
     /// it is known. [Under a key](crate::SharedStore::attempt_under) it is asked again then, with the file open again, and done once; or
     /// [`SharedStore::outcome`](crate::SharedStore::outcome) says what became of it.
     AttemptUnknown,
+    /// The child was lost while a transaction was [prepared](crate::SharedTransaction::prepare), whose id this is: it is prepared, or
+    /// was aborted. [`SharedStore::outcome`](crate::SharedStore::outcome) of its key says which, with the file open again:
+    /// [`KeyOutcome::Unknown`](crate::KeyOutcome::Unknown) where it was aborted.
+    PrepareUnknown(TransactionId),
     /// The store was closed, by [`SharedStore::close`](crate::SharedStore::close).
     Closed,
     /// A file wasn't opened or made, by the words of the program, or by why it wasn't started.
@@ -340,6 +356,11 @@ impl Error {
             Error::KeyAborted => f.write_str("the transaction of this key was aborted"),
             Error::KeyTaken => f.write_str("the file has another key in the place of this one"),
             Error::OtherCalls => f.write_str("the key is of other calls"),
+            Error::Prepared => f.write_str("the transaction is prepared, and only a decision ends it"),
+            Error::KeyPrepared => f.write_str("a transaction is prepared under this key"),
+            Error::KeyCommitted => f.write_str("the transaction of this key committed"),
+            Error::KeyUnknown => f.write_str("nobody has this key"),
+            Error::Decided => f.write_str("the transaction of this key was decided otherwise"),
             Error::Busy { blocker } => write!(f, "transaction {blocker} is in the way"),
             Error::Illegal => f.write_str("no operation of the call is legal"),
             Error::Deadlock { waited_for } => write!(f, "a deadlock: the transaction waited for {waited_for}, and was aborted"),
@@ -353,6 +374,7 @@ impl Error {
             Error::ConnectionLost(words) => write!(f, "the store is lost: {words}"),
             Error::OutcomeUnknown(id) => write!(f, "the store was lost while transaction {id} was committed"),
             Error::AttemptUnknown => f.write_str("the store was lost while an attempt was made"),
+            Error::PrepareUnknown(id) => write!(f, "the store was lost while transaction {id} was prepared"),
             Error::Closed => f.write_str("the store is closed"),
             Error::CannotOpen(words) => write!(f, "the store can't be opened: {words}"),
             Error::CannotExtend(words) => write!(f, "no objects were added: {words}"),

@@ -92,6 +92,27 @@ impl Event {
         })
     }
 
+    /// The transaction of which it is.
+    pub(crate) fn transaction(&self) -> u64 {
+        match self {
+            Event::Begin { transaction, .. }
+            | Event::Operation { transaction, .. }
+            | Event::Busy { transaction, .. }
+            | Event::None { transaction, .. }
+            | Event::Commit { transaction, .. }
+            | Event::Abort { transaction, .. }
+            | Event::Rollback { transaction, .. } => *transaction,
+        }
+    }
+
+    /// Which transaction began, and by whom, where one did.
+    pub(crate) fn begun(&self) -> Option<(u64, u8)> {
+        match self {
+            Event::Begin { worker, transaction } => Some((*transaction, *worker)),
+            _ => None,
+        }
+    }
+
     pub(crate) fn words(self) -> sys::Event {
         let words = |kind, worker: u8, transaction, object, op, other| sys::Event { transaction, other, op, object, kind, worker: worker.into(), reserved: 0 };
         match self {

@@ -36,6 +36,19 @@ impl<T: Copy + Default, const N: usize> Few<T, N> {
         }
         self.count = end;
     }
+
+    /// Takes items off the end, up to where so many are left.
+    pub(crate) fn truncate(&mut self, count: usize) {
+        if count >= self.count {
+            return;
+        }
+        self.many.truncate(count);
+        if self.count > N && count <= N {
+            self.few[..count].copy_from_slice(&self.many);
+            self.many.clear();
+        }
+        self.count = count;
+    }
 }
 
 /// Room for so many items.
@@ -116,6 +129,18 @@ mod tests {
             }
             list.append(&[]);
             assert_eq!((&*list, format!("{list:?}")), (&all[..], format!("{all:?}")));
+        }
+    }
+
+    #[test]
+    fn items_are_taken_off_the_end() {
+        let all: Vec<u32> = (1..=12).collect();
+        for (count, left) in (0..=12).flat_map(|count| (0..=13).map(move |left| (count, left))) {
+            let mut list: Few<u32, 4> = Few::from(&all[..count]);
+            list.truncate(left);
+            assert_eq!((&*list, list.many.is_empty()), (&all[..left.min(count)], list.len() <= 4));
+            list.append(&all);
+            assert_eq!((&list[..left.min(count)], &list[left.min(count)..]), (&all[..left.min(count)], &all[..]));
         }
     }
 

@@ -43,7 +43,7 @@ pub(crate) enum Doer {
 #[derive(Clone, Debug, PartialEq, Eq)]
 #[non_exhaustive]
 pub enum KeyOutcome {
-    /// None has committed under the key: it is free.
+    /// None has committed under the key, nor is prepared, nor was aborted: it is free.
     Unknown,
     /// It committed.
     Committed {
@@ -52,6 +52,8 @@ pub enum KeyOutcome {
     },
     /// It was aborted, and nothing is done under the key any more.
     Aborted,
+    /// One is [prepared](crate::SharedTransaction::prepare) under it, and isn't decided.
+    Prepared,
 }
 
 impl KeyOutcome {

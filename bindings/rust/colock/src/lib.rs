@@ -238,6 +238,29 @@
 //! # Ok::<(), Error>(())
 //! ```
 //!
+//! # Held until it is decided
+//!
+//! Where something elsewhere has to be asked before a commit, as a bank, a transaction is [prepared](SharedTransaction::prepare) under a
+//! key. It holds its operations from then on, and neither a drop nor, in a file, a crash or a restart ends it: only
+//! [`SharedStore::decide`] does. [`SharedStore::prepared`] says what isn't decided, in whatever life.
+//!
+//! ```
+//! use colock::{Decision, Error, KeyOutcome, Kind, SharedStore, Type};
+//!
+//! let store = SharedStore::new([("sold", &Type::counter(9, &[1, 2], Kind::Escrow)?)], 1_000)?;
+//! let mut transaction = store.begin()?;
+//! transaction.expect("sold", "inc:2", "ok")?;
+//! transaction.prepare("order:4711", 1_800_000_000)?;
+//! drop(transaction); // it stays
+//! // whoever comes back finds it
+//! for prepared in store.prepared()? {
+//!     let is_paid = prepared.key == "order:4711"; // as the bank says
+//!     store.decide(&prepared.key, if is_paid { Decision::Commit } else { Decision::Abort })?;
+//! }
+//! assert_eq!((store.outcome("order:4711")?, store.kept("sold")?), (KeyOutcome::Committed { replies: vec![] }, 2));
+//! # Ok::<(), Error>(())
+//! ```
+//!
 //! # What is proved
 //!
 //! What each call of the library does is proved, and so is what the program `colock serve` answers. This crate is
@@ -258,6 +281,7 @@ mod moment;
 mod object;
 mod objects;
 mod operation_id;
+mod prepared;
 mod reply;
 mod shared;
 mod stats;
@@ -278,6 +302,7 @@ pub use memory::transaction::{LeftOpen, Transaction};
 pub use moment::{Moment, Seen};
 pub use object::{NewObject, Object, ObjectRef};
 pub use operation_id::OperationId;
+pub use prepared::{Decision, Prepared};
 pub use reply::{Operation, Reply};
 pub use shared::transaction::{OwnedTransaction, SharedTransaction};
 pub use shared::turn::Turn;

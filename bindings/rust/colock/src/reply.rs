@@ -68,7 +68,7 @@ impl Reply {
     #[allow(non_upper_case_globals)]
     pub const None: Reply = Reply::Illegal;
 
-    /// An outcome in words. Whoever is in the way is of the life of the caller.
+    /// An outcome in words. Whoever is in the way is told as it is seen in the life of the caller.
     #[inline(always)]
     pub(crate) fn of(outcome: Outcome, calls: &Calls, life: u64) -> Result<Reply, Error> {
         match outcome {
@@ -76,7 +76,7 @@ impl Reply {
                 Some(operation) => Ok(Reply::Operation(operation)),
                 None => Err(Error::Unknown(id.into())),
             },
-            Outcome::Busy { blocker } => Ok(Reply::Busy { blocker: TransactionId::new(life, blocker) }),
+            Outcome::Busy { blocker } => Ok(Reply::Busy { blocker: TransactionId::of_seen(blocker, life) }),
             Outcome::Illegal => Ok(Reply::Illegal),
         }
     }

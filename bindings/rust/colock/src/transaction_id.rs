@@ -2,6 +2,12 @@ use crate::error::Error;
 use std::fmt;
 use std::str::FromStr;
 
+/// How many numbers a life has: those of its transactions are below.
+const NUMBERS: u64 = 1 << 32;
+
+/// The numbers of attempts that wait are from this one on: no transaction is seen by one.
+pub(crate) const ATTEMPTS: u64 = 1 << 63;
+
 /// The name of a transaction: the life of the store in which it began, and its number there. It is displayed as `S.N`, and
 /// read of that.
 ///
@@ -31,6 +37,29 @@ impl TransactionId {
     /// That of a life and a number.
     pub const fn new(life: u64, number: u64) -> TransactionId {
         TransactionId { life, number }
+    }
+
+    /// It in one number, as it is seen in a life: its own number there, and one that nobody has there of another life.
+    #[inline]
+    pub(crate) fn seen_in(self, life: u64) -> u64 {
+        if self.life == life {
+            return self.number;
+        }
+        (self.life.wrapping_add(1) % (ATTEMPTS / NUMBERS)) * NUMBERS + self.number % NUMBERS
+    }
+
+    /// That of a number as it is seen in a life, or of the number of an attempt.
+    #[inline]
+    pub(crate) fn of_seen(seen: u64, life: u64) -> TransactionId {
+        match seen {
+            NUMBERS..ATTEMPTS => TransactionId { life: seen / NUMBERS - 1, number: seen % NUMBERS },
+            number => TransactionId { life, number },
+        }
+    }
+
+    /// Whether a number as it is seen in a life is that of a transaction of it.
+    pub(crate) fn is_own(seen: u64) -> bool {
+        seen < NUMBERS
     }
 }
 
@@ -64,8 +93,23 @@ pub(crate) fn decimal(text: &str) -> Option<u64> {
 
 #[cfg(test)]
 mod tests {
-    use super::TransactionId;
+    use super::{TransactionId, ATTEMPTS};
     use crate::Error;
+
+    /// Of a life its own numbers, and of all others such as nobody has there.
+    #[test]
+    fn ids_are_seen_in_a_life() {
+        let ids = [(0, 0), (0, 7), (4, 7), (5, 0), (5, u32::MAX.into()), (6, 7), (2_000_000_000, u32::MAX.into())]
+            .map(|(life, number)| TransactionId::new(life, number));
+        for life in [0, 5, 6] {
+            let mut seen = ids.map(|id| id.seen_in(life));
+            assert_eq!(seen.map(|seen| TransactionId::of_seen(seen, life)), ids);
+            assert!(seen.iter().zip(ids).all(|(seen, id)| *seen < ATTEMPTS && TransactionId::is_own(*seen) == (id.life == life)));
+            seen.sort_unstable();
+            assert!(seen.windows(2).all(|two| two[0] < two[1]), "{seen:?}");
+        }
+        assert_eq!(TransactionId::of_seen(ATTEMPTS + 3, 5), TransactionId::new(5, ATTEMPTS + 3));
+    }
 
     #[test]
     fn ids_are_read_as_they_are_displayed() {

@@ -14,6 +14,7 @@ mod identity;
 pub(crate) mod opening;
 pub(crate) mod past;
 mod pipe;
+mod prepared;
 mod program;
 mod reads;
 pub(crate) mod remote;

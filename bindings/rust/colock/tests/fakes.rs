@@ -18,7 +18,7 @@ const SOON: Duration = Duration::from_secs(5);
 
 /// A program that greets, and serves one counter from 0 to 2, with more arms of its `case`.
 fn served(arms: &str) -> String {
-    format!("#!/bin/sh\necho \"colock 4 1\"\nwhile read -r tag verb rest; do\n    case \"$verb\" in\n{COUNTER_ARMS}\n    {arms}\n    esac\ndone\n")
+    format!("#!/bin/sh\necho \"colock 5 1\"\nwhile read -r tag verb rest; do\n    case \"$verb\" in\n{COUNTER_ARMS}\n    {arms}\n    esac\ndone\n")
 }
 
 /// A folder with a program. One test at a time, since some have a second for an answer.
@@ -85,16 +85,17 @@ fn lost<T: std::fmt::Debug>(act: impl FnOnce() -> Result<T, Error>) -> String {
 #[test]
 fn greetings_are_looked_at() {
     let rows = [
-        ("#!/bin/sh\necho 'colock 1 1'\nexec sleep 60\n", "the program speaks version 1, and this client version 4"),
-        ("#!/bin/sh\necho 'colock 2 1'\nexec sleep 60\n", "the program speaks version 2, and this client version 4"),
-        ("#!/bin/sh\necho 'colock 3 1'\nexec sleep 60\n", "the program speaks version 3, and this client version 4"),
+        ("#!/bin/sh\necho 'colock 1 1'\nexec sleep 60\n", "the program speaks version 1, and this client version 5"),
+        ("#!/bin/sh\necho 'colock 2 1'\nexec sleep 60\n", "the program speaks version 2, and this client version 5"),
+        ("#!/bin/sh\necho 'colock 3 1'\nexec sleep 60\n", "the program speaks version 3, and this client version 5"),
+        ("#!/bin/sh\necho 'colock 4 1'\nexec sleep 60\n", "the program speaks version 4, and this client version 5"),
         ("#!/bin/sh\necho hello\nexec sleep 60\n", "no greeting: hello"),
         ("#!/bin/sh\necho 'colock: a.db: cannot open' >&2\nexit 3\n", "colock: a.db: cannot open"),
         ("#!/bin/sh\nexec sleep 60\n", "no answer within"),
-        ("#!/bin/sh\nprintf 'colock 4 1'\n", "no whole line"),
+        ("#!/bin/sh\nprintf 'colock 5 1'\n", "no whole line"),
         ("#!/bin/sh\nprintf '\\377\\n'\nexec sleep 60\n", "no whole line"),
         ("#!/bin/sh\nhead -c 1000000 /dev/zero\nexec sleep 60\n", "no whole line"),
-        ("#!/bin/sh\necho 'colock 4 1'\necho '1 object redo 0'\necho '1 ok'\nexec sleep 60\n", ""),
+        ("#!/bin/sh\necho 'colock 5 1'\necho '1 object redo 0'\necho '1 ok'\nexec sleep 60\n", ""),
         ("#!/bin/sh\nexit 0\n", "the program ended"),
     ];
     for (text, words) in rows {
@@ -110,7 +111,7 @@ fn greetings_are_looked_at() {
 fn serving_a_purse(arms: &str) -> Fake {
     let lines = ["number purse", "max 10000", "initial 500", "take any", "give any", "value", "end", ""].map(|line| format!("echo \"$tag {line}\"; ")).concat();
     Fake::of(&format!(
-        "#!/bin/sh\necho \"colock 4 1\"\nwhile read -r tag verb rest; do\n    case \"$verb $rest\" in\n    objects*) echo \"$tag object escrow 0\"; echo \"$tag ok\" ;;\n    \
+        "#!/bin/sh\necho \"colock 5 1\"\nwhile read -r tag verb rest; do\n    case \"$verb $rest\" in\n    objects*) echo \"$tag object escrow 0\"; echo \"$tag ok\" ;;\n    \
          types*) {lines} echo \"$tag ok\" ;;\n    begin*) echo \"$tag ok 1.0\" ;;\n    {arms}\n    *) echo \"$tag refused NoCall\" ;;\n    esac\ndone\n"
     ))
 }

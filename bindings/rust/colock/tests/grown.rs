@@ -387,13 +387,13 @@ fn children_are_killed_at_any_moment() {
 
 /// A store of a child of one counter from 0 to 2, with more arms of its `case`.
 fn faked(folder: &Folder, arms: &str) -> SharedStore {
-    let text = format!("#!/bin/sh\necho \"colock 4 1\"\nwhile read -r tag verb rest; do\n    case \"$verb\" in\n{COUNTER_ARMS}\n    {arms}\n    esac\ndone\n");
+    let text = format!("#!/bin/sh\necho \"colock 5 1\"\nwhile read -r tag verb rest; do\n    case \"$verb\" in\n{COUNTER_ARMS}\n    {arms}\n    esac\ndone\n");
     write_program(&folder.file("fake"), &text);
     fs::write(folder.file("a.db"), "").unwrap();
     OpenOptions::new().program(folder.file("fake")).limit(Duration::from_secs(3)).open(folder.file("a.db")).unwrap()
 }
 
-const STATS: &str = r#"stats) echo "$tag ok events 0 begun 0 open 0" ;;"#;
+const STATS: &str = r#"stats) echo "$tag ok events 0 begun 0 open 0 prepared 0" ;;"#;
 
 #[test]
 fn answers_to_an_extension() {

@@ -16,7 +16,15 @@ use colock_waiting::{ObjectIndex, Touched};
 pub(crate) struct Tried<'s> {
     pub(crate) guard: Guard<'s>,
     pub(crate) came: Came,
-    /// Over a child, since when others may have let go, as of [`Remote::since`](crate::wire::remote::Remote::since).
+    pub(crate) asked_at: AskedAt,
+}
+
+/// When a child was asked for something; in memory nothing of it is looked at.
+#[derive(Clone, Copy, Debug, Default)]
+pub(crate) struct AskedAt {
+    /// The life, as far as it was known.
+    pub(crate) life: u64,
+    /// Since when others may have let go, as of [`Remote::since`](crate::wire::remote::Remote::since).
     pub(crate) since: u64,
 }
 
@@ -135,7 +143,7 @@ impl SharedStore {
         let mut guard = self.enter()?;
         let came = guard.memory()?.attempt_in_numbers(0, asked)?;
         guard.has_tried(asked, &came);
-        Ok(Tried { guard, came, since: 0 })
+        Ok(Tried { guard, came, asked_at: AskedAt::default() })
     }
 }
 

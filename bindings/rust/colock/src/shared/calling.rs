@@ -126,7 +126,7 @@ impl SharedStore {
             Verb::Would => Request::Would(id, object, &name),
         };
         let (mut guard, text) = self.ask(guard, request, lock);
-        let reply = text.and_then(|text| self.reply_of(&text, object, number));
+        let reply = text.and_then(|text| self.reply_of(&text, object, number, id.life));
         let told = reply.and_then(|reply| {
             let remote_state = guard.remote_state()?;
             let has_let_go = matches!(reply, Outcome::Busy { blocker } if remote_state.has_let_go(blocker, object, since));
@@ -135,11 +135,11 @@ impl SharedStore {
         (guard, told)
     }
 
-    /// The reply of a line that answers a call.
-    pub(crate) fn reply_of(&self, text: &str, object: u32, call: OperationId) -> Result<Outcome, Error> {
+    /// The reply of a line that answers a call of a transaction of this life.
+    pub(crate) fn reply_of(&self, text: &str, object: u32, call: OperationId, life: u64) -> Result<Outcome, Error> {
         let reply = match answer(text) {
             Some(Answer::Reply(name)) => self.calls_at(object)?.operation(call, name).map(Outcome::Operation),
-            Some(Answer::Busy(id)) => Some(Outcome::Busy { blocker: id.number }),
+            Some(Answer::Busy(id)) => Some(Outcome::Busy { blocker: id.seen_in(life) }),
             Some(Answer::None) => Some(Outcome::Illegal),
             Some(Answer::Refused(error)) => return Err(of_open(error)),
             _ => None,

@@ -142,7 +142,7 @@ pub(crate) fn commit_in_memory(state: &mut State, ticket: Ticket) -> Result<(), 
     Ok(())
 }
 
-fn abort_in_memory(state: &mut State, ticket: Ticket) -> Result<(), Error> {
+pub(crate) fn abort_in_memory(state: &mut State, ticket: Ticket) -> Result<(), Error> {
     state.is_of_life(ticket)?;
     ManuallyDrop::into_inner(resumed(state.memory()?, ticket.worker, ticket.id.number)).abort()?;
     state.stats.aborts += 1;

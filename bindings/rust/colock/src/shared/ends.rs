@@ -14,7 +14,8 @@ use std::thread;
 
 impl SharedStore {
     /// Closes it, whoever has it yet: what is open is aborted, and each later call of it, or of a transaction of it, fails by
-    /// [`Error::Closed`]. Over a child the epoch ends, all of it durable, and the child is reaped.
+    /// [`Error::Closed`]. Over a child the epoch ends, all of it durable, and the child is reaped; what is
+    /// [prepared](crate::SharedTransaction::prepare) stays so in the file.
     ///
     /// ```
     /// # use colock::{Error, Kind, SharedStore, Type};

@@ -3,8 +3,11 @@
 use crate::error::{Error, NotFollowed};
 use crate::event::Event;
 use crate::object::NewObject;
-use crate::shared::state::State;
+use crate::shared::commits::abort_in_memory;
+use crate::shared::state::{State, Ticket};
 use crate::shared::SharedStore;
+use crate::transaction_id::TransactionId;
+use std::collections::{BTreeMap, BTreeSet};
 
 impl SharedStore {
     /// How many of the first events were forgotten.
@@ -59,15 +62,20 @@ impl SharedStore {
     ///
     /// # Errors
     ///
-    /// As of [`Store::follow`](crate::Store::follow), and [`Error::InMemoryOnly`].
+    /// As of [`Store::follow`](crate::Store::follow), and [`Error::InMemoryOnly`]. An event of a transaction that is prepared isn't made.
     pub fn follow(&self, events: &[Event]) -> Result<(), NotFollowed> {
         let not_made = |error| NotFollowed { made: 0, error };
         let mut guard = self.enter().map_err(not_made)?;
+        let prepared = guard.prepared_numbers();
+        let free = events.iter().position(|event| prepared.contains(&event.transaction())).unwrap_or(events.len());
         let store = guard.memory().map_err(not_made)?;
-        let followed = store.follow(events);
+        let followed = store.follow(&events[..free]);
         guard.waiters.all_again();
         guard.settle();
-        followed
+        match followed {
+            Ok(()) if free < events.len() => Err(NotFollowed { made: free as u64, error: Error::NotMade }),
+            followed => followed,
+        }
     }
 
     /// Begins anew, with no event, at the states that are kept. Transactions count from 0 again.
@@ -95,8 +103,8 @@ impl SharedStore {
     /// state of its type. It gives the number of the first of them. They are given as to [`SharedStore::new`].
     ///
     /// Over a child it waits, and no transaction begins meanwhile, until all that are open have ended, or the
-    /// [`drain`](crate::OpenOptions::drain) is over, which aborts them. It is durable then. Where another thread adds objects, it
-    /// comes after that.
+    /// [`drain`](crate::OpenOptions::drain) is over, which aborts them but for what is prepared. It is durable then. Where another
+    /// thread adds objects, it comes after that.
     ///
     /// ```
     /// # use colock::{Error, Kind, SharedStore, Type};
@@ -126,8 +134,8 @@ impl SharedStore {
         Ok(first)
     }
 
-    /// Aborts each transaction that is open, in ascending order, as the worker that began it. Their owners' next calls fail with
-    /// [`Error::NotOpen`].
+    /// Aborts each transaction that is open and isn't prepared, in ascending order, as the worker that began it. Their owners' next calls
+    /// fail with [`Error::NotOpen`].
     ///
     /// ```
     /// # use colock::{Error, Kind, SharedStore, Type};
@@ -142,7 +150,41 @@ impl SharedStore {
     ///
     /// [`Error::InMemoryOnly`].
     pub fn abort_all(&self) -> Result<(), Error> {
-        abort_all(&mut *self.enter()?)
+        let mut guard = self.enter()?;
+        match guard.prepared_numbers() {
+            prepared if prepared.is_empty() => abort_all(&mut guard),
+            prepared => guard.abort_all_but(&prepared),
+        }
+    }
+}
+
+impl State {
+    /// The numbers of what is prepared in memory.
+    fn prepared_numbers(&self) -> BTreeSet<u64> {
+        self.keys.tickets().map(|ticket| ticket.id.number).collect()
+    }
+
+    /// Aborts all that is open in memory but these.
+    fn abort_all_but(&mut self, kept: &BTreeSet<u64>) -> Result<(), Error> {
+        let store = self.memory()?;
+        let mut left = store.open_count();
+        let begun: BTreeMap<u64, u8> = store.events(store.forgotten_count())?.iter().filter_map(Event::begun).collect();
+        for number in 0.. {
+            if left == 0 {
+                break;
+            }
+            if self.is_open(number) {
+                left -= 1;
+                if !kept.contains(&number) {
+                    // where the event of its begin is forgotten, nobody knows its worker any more
+                    let worker = begun.get(&number).copied().unwrap_or(0);
+                    abort_in_memory(self, Ticket::new(TransactionId::new(self.life, number), 0, worker))?;
+                }
+            }
+        }
+        self.waiters.all_again();
+        self.settle();
+        Ok(())
     }
 }
 

@@ -22,7 +22,7 @@ impl SharedStore {
     /// A key is 1 to 64 bytes of `a-z`, `A-Z`, `0-9`, `_`, `:`, `-` and `.`, which the caller chose for this work. Where a call ends it
     /// nothing is done, and the key is free. An attempt of no calls is a transaction that does nothing, which commits under the key.
     ///
-    /// A file knows its keys for ever. A store in memory knows the last 1,000,000 that committed.
+    /// A file knows its keys for ever. A store in memory knows the last 1,000,000 whose work ended.
     ///
     /// ```
     /// use colock::{Attempt, Error, Kind, SharedStore, Type};
@@ -39,8 +39,8 @@ impl SharedStore {
     /// # Errors
     ///
     /// [`Error::BadKey`], by which nothing is asked. [`Error::OtherCalls`] where what committed under the key has another number of
-    /// replies, or one that the call at its place hasn't: a commit has none. [`Error::KeyAborted`] or [`Error::KeyTaken`]. Else as of
-    /// [`SharedStore::attempt`].
+    /// replies, or one that the call at its place hasn't: a commit has none. [`Error::KeyPrepared`], [`Error::KeyAborted`] or
+    /// [`Error::KeyTaken`]. Else as of [`SharedStore::attempt`].
     pub fn attempt_under(&self, key: impl AsRef<str>, calls: impl IntoIterator<Item = (impl ObjectRef, impl AsRef<str>)>) -> Result<Attempt, Error> {
         let key = Key::of(key.as_ref())?;
         let asked = Asked::of(calls, |object| self.number_of(object));
@@ -56,8 +56,8 @@ impl SharedStore {
 
     fn tried_in_memory_under(&self, key: Key<'_>, asked: &Asked) -> Result<Came, Error> {
         let mut guard = self.enter()?;
-        if let Some(replies) = guard.keys.replies(key) {
-            return self.done_before(asked, replies);
+        if let Some(known) = guard.keys.replies(key).transpose() {
+            return self.done_before(asked, known);
         }
         let came = guard.memory()?.attempt_in_numbers(0, asked)?;
         if let Came::Done(operations) = &came {
@@ -69,10 +69,10 @@ impl SharedStore {
         Ok(came)
     }
 
-    /// What came of an attempt of these calls under a key whose transaction had these replies.
-    fn done_before(&self, asked: &Asked, replies: &str) -> Result<Came, Error> {
+    /// What came of an attempt of these calls under a key whose transaction had these replies, or by which nothing is done.
+    fn done_before(&self, asked: &Asked, known: Result<&str, Error>) -> Result<Came, Error> {
         match asked.numbers(self.objects()) {
-            Ok(calls) => Came::of_replies(asked, &calls, replies, self.objects()).ok_or(Error::OtherCalls),
+            Ok(calls) => Came::of_replies(asked, &calls, known?, self.objects()).ok_or(Error::OtherCalls),
             Err(unasked) => unasked.ended(),
         }
     }
@@ -88,7 +88,7 @@ impl SharedStore {
     }
 
     /// What became of the transaction of this key, of whatever life or epoch. In a file what it says is durable. A store in memory
-    /// knows the last 1,000,000 keys under which something committed.
+    /// knows the last 1,000,000 keys under which something ended, and those under which something is prepared.
     ///
     /// It doesn't wait for what is asked under the key at the same moment.
     ///
@@ -113,7 +113,7 @@ impl SharedStore {
     pub(crate) fn outcome_of(&self, key: Key<'_>) -> Result<KeyOutcome, Error> {
         let guard = self.enter()?;
         let Some(remote) = self.remote() else {
-            return Ok(guard.keys.replies(key).map_or(KeyOutcome::Unknown, KeyOutcome::of_replies));
+            return Ok(guard.keys.outcome(key));
         };
         let (guard, told) = self.ask(guard, Request::Outcome(key), Lock::GivenUp);
         drop(guard);
@@ -131,6 +131,7 @@ impl SharedStore {
             KeyOutcome::Unknown => Ok(None),
             KeyOutcome::Committed { replies } => Ok(Some(replies)),
             KeyOutcome::Aborted => Err(Error::KeyAborted),
+            KeyOutcome::Prepared => Err(Error::KeyPrepared),
         }
     }
 
@@ -180,9 +181,13 @@ impl SharedStore {
 }
 
 fn commit_in_memory_under(mut guard: Guard<'_>, ticket: Ticket, key: Key<'_>) -> Result<Doer, Error> {
-    if guard.keys.replies(key).is_some() {
-        abort_at_once(&mut guard, ticket);
-        return Ok(Doer::Another);
+    match guard.keys.replies(key) {
+        Ok(None) => {}
+        known => {
+            let told = known.map(|_| Doer::Another);
+            abort_at_once(&mut guard, ticket);
+            return told;
+        }
     }
     commit_in_memory(&mut guard, ticket)?;
     guard.keys.keep(key, String::new());

@@ -164,11 +164,11 @@ impl State {
         }
     }
 
-    /// A life was answered. Where it is a new one, what was open has been aborted.
+    /// A life was answered. Where it is a new one, what was open and not prepared has been aborted.
     pub(crate) fn told_life(&mut self, life: u64) {
         if let (Held::Remote(remote_state), true) = (&mut self.held, life > self.life) {
+            self.stats.aborts += remote_state.unprepared_count(self.life) as u64;
             self.life = life;
-            self.stats.aborts += remote_state.open.len() as u64;
             remote_state.open.clear();
             self.all_ended();
         }

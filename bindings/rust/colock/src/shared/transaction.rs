@@ -6,6 +6,7 @@ use crate::operation_id::OperationId;
 use crate::reply::{Outcome, Reply};
 use crate::shared::calling::{Call, Question};
 use crate::shared::commits::When;
+use crate::shared::holds::Holds;
 use crate::shared::state::Ticket;
 use crate::shared::{Lock, SharedStore};
 use crate::transaction_id::TransactionId;
@@ -22,7 +23,9 @@ use std::time::{Duration, Instant};
 const NOBODY: u64 = u32::MAX as u64;
 
 /// A transaction of a [`SharedStore`]. Where it is dropped, it aborts: over a child the abort is asked for, and neither an
-/// answer is awaited nor the disk. Where a turn of another thread has the store, the abort is asked for at its end.
+/// answer is awaited nor the disk. Where a turn of another thread has the store, the abort is asked for at its end. One that is
+/// [prepared](SharedTransaction::prepare) stays, and each call of it, its commit and its abort fail by [`Error::Prepared`]; when it is
+/// decided, by [`Error::NotOpen`].
 ///
 /// ```
 /// # use colock::{Kind, SharedStore, Type};
@@ -37,7 +40,7 @@ const NOBODY: u64 = u32::MAX as u64;
 #[derive(Debug)]
 #[must_use = "a transaction that is dropped aborts"]
 pub struct SharedTransaction<'s> {
-    store: Holder<'s>,
+    pub(super) store: Holder<'s>,
     /// Its name, where it isn't put off.
     name: OnceLock<TransactionId>,
     /// Held while it begins, where that was put off.
@@ -46,6 +49,10 @@ pub struct SharedTransaction<'s> {
     worker: u8,
     /// At which objects it has executed operations.
     touched: Touched,
+    /// At which it holds some, in memory.
+    pub(super) holds: Holds,
+    /// The key under which it was prepared.
+    pub(super) prepared_under: Option<Box<str>>,
     /// For whom it waited where it was aborted as a victim.
     victim_of: Option<TransactionId>,
     /// Whether its end was asked for.
@@ -82,6 +89,7 @@ pub(crate) struct Unended {
     age: u64,
     worker: u8,
     touched: Touched,
+    holds: Holds,
 }
 
 impl Unended {
@@ -103,18 +111,20 @@ impl<'s> SharedTransaction<'s> {
 
     /// One whose begin is put off.
     pub(crate) fn put_off(store: &'s SharedStore, age: u64) -> SharedTransaction<'s> {
-        SharedTransaction::unended(Holder::Borrows(store), Unended { name: OnceLock::new(), age, worker: 0, touched: Touched::default() })
+        let (name, touched, holds) = (OnceLock::new(), Touched::default(), Holds::default());
+        SharedTransaction::unended(Holder::Borrows(store), Unended { name, age, worker: 0, touched, holds })
     }
 
     /// One that hasn't ended, and goes on.
-    pub(crate) fn unended(store: Holder<'s>, Unended { name, age, worker, touched }: Unended) -> SharedTransaction<'s> {
-        SharedTransaction { store, name, beginning: Mutex::new(()), age, worker, touched, victim_of: None, is_over: false }
+    pub(crate) fn unended(store: Holder<'s>, Unended { name, age, worker, touched, holds }: Unended) -> SharedTransaction<'s> {
+        let (beginning, prepared_under, victim_of) = (Mutex::new(()), None, None);
+        SharedTransaction { store, name, beginning, age, worker, touched, holds, prepared_under, victim_of, is_over: false }
     }
 
     /// Takes it out of here. A drop of this does nothing any more.
     fn taken(&mut self) -> Unended {
         self.is_over = true;
-        Unended { name: mem::take(&mut self.name), age: self.age, worker: self.worker, touched: self.touched }
+        Unended { name: mem::take(&mut self.name), age: self.age, worker: self.worker, touched: self.touched, holds: mem::take(&mut self.holds) }
     }
 
     /// The same transaction, which keeps its store.
@@ -132,7 +142,7 @@ impl<'s> SharedTransaction<'s> {
     }
 
     /// What each call needs, but for the first one. Where its begin was put off it begins now.
-    fn ticket(&self) -> Result<Ticket, Error> {
+    pub(super) fn ticket(&self) -> Result<Ticket, Error> {
         self.begun().map(|id| self.ticket_of(id))
     }
 
@@ -190,10 +200,24 @@ impl<'s> SharedTransaction<'s> {
         self.begun().map_or(NOBODY, |id| id.number)
     }
 
-    fn is_open(&self) -> Result<(), Error> {
-        match self.victim_of {
-            None => Ok(()),
-            Some(_) => Err(Error::NotOpen),
+    /// That it may be called, and ended by its owner.
+    pub(super) fn is_open(&self) -> Result<(), Error> {
+        match (&self.prepared_under, self.victim_of) {
+            (None, None) => Ok(()),
+            (_, Some(_)) => Err(Error::NotOpen),
+            (Some(key), None) => Err(self.begun().map_or_else(|error| error, |id| self.store.not_undecided(key, id))),
+        }
+    }
+
+    pub(crate) fn was_prepared(&self) -> bool {
+        self.prepared_under.is_some()
+    }
+
+    /// A call at an object was answered.
+    fn note(&mut self, object: u32, outcome: &Result<Outcome, Error>) {
+        note(&mut self.touched, object, outcome);
+        if let (Ok(Outcome::Operation(_)), None) = (outcome, self.store.remote()) {
+            self.holds.note(object);
         }
     }
 
@@ -250,7 +274,7 @@ impl<'s> SharedTransaction<'s> {
                 first.reply
             }
         };
-        note(&mut self.touched, object, &outcome);
+        self.note(object, &outcome);
         outcome
     }
 
@@ -332,7 +356,7 @@ impl<'s> SharedTransaction<'s> {
     fn waited(&mut self, object: u32, call: Call<'_>, limit: Duration) -> Result<Reply, Error> {
         self.is_open()?;
         let done = self.done_by(object, call, Instant::now().checked_add(limit));
-        note(&mut self.touched, object, &done);
+        self.note(object, &done);
         if let Err(Error::Deadlock { waited_for }) = done {
             self.victim_of = Some(waited_for);
         }
@@ -470,7 +494,9 @@ impl<'s> SharedTransaction<'s> {
     pub fn rollback(&mut self, operations: u64) -> Result<(), Error> {
         self.is_open()?;
         let ticket = self.ticket()?;
-        self.store.take_back(self.store.enter()?, ticket, operations, Lock::GivenUp).1
+        self.store.take_back(self.store.enter()?, ticket, operations, Lock::GivenUp).1?;
+        self.holds.take_back(operations);
+        Ok(())
     }
 
     /// Commits it. Over a child it is durable then.
@@ -513,8 +539,8 @@ impl<'s> SharedTransaction<'s> {
     ///
     /// # Errors
     ///
-    /// [`Error::BadKey`], by which nothing else is asked; [`Error::KeyAborted`] or [`Error::KeyTaken`]. Where the key is free, as of
-    /// [`SharedTransaction::commit`].
+    /// [`Error::BadKey`], by which nothing else is asked; [`Error::KeyPrepared`], [`Error::KeyAborted`] or [`Error::KeyTaken`]. Where the
+    /// key is free, as of [`SharedTransaction::commit`].
     pub fn commit_under(self, key: impl AsRef<str>) -> Result<(), Error> {
         let key = Key::of(key.as_ref())?;
         self.committed_under(key).map(drop)
@@ -523,6 +549,9 @@ impl<'s> SharedTransaction<'s> {
     /// Commits it under a key. Whose work that is.
     pub(crate) fn committed_under(mut self, key: Key<'_>) -> Result<Doer, Error> {
         if let Err(error) = self.is_open() {
+            if self.was_prepared() {
+                return Err(error);
+            }
             return self.store.replies_under(key)?.map(|_| Doer::Another).ok_or(error);
         }
         let ticket = self.ended()?;
@@ -559,7 +588,7 @@ impl<'s> SharedTransaction<'s> {
 
 impl Drop for SharedTransaction<'_> {
     fn drop(&mut self) {
-        if self.is_over || self.victim_of.is_some() {
+        if self.is_over || self.victim_of.is_some() || self.was_prepared() {
             return;
         }
         let unended = self.taken();

@@ -145,12 +145,13 @@ pub fn cause_in<'e>(error: &'e (dyn std::error::Error + 'static)) -> Option<&'e 
 }
 
 impl SharedStore {
-    /// Does `f` as a transaction, which is committed at its end. Where `f` or the commit fails by an error that
-    /// [`is_retryable`](Error::is_retryable), the transaction is aborted and `f` runs again in another one, of the age of the first. Any other error aborts and is handed on; so does a panic.
+    /// Does `f` as a transaction, which is committed at its end, unless `f` [prepared](SharedTransaction::prepare) it. Where `f` or the
+    /// commit fails by an error that [`is_retryable`](Error::is_retryable), the transaction is aborted and `f` runs again in another one,
+    /// of the age of the first. Any other error aborts and is handed on; so does a panic.
     ///
-    /// So `f` may run several times: what it does beside its transaction isn't taken back. A victim first waits for
-    /// the end of whom it waited for, at most ten seconds; else a random time is slept before another try. Where too many
-    /// transactions are open, a begin waits for the end of one, at most ten seconds.
+    /// So `f` may run several times: what it does beside its transaction isn't taken back, nor is a transaction that it prepared
+    /// aborted. A victim first waits for the end of whom it waited for, at most ten seconds; else a random time is slept before
+    /// another try. Where too many transactions are open, a begin waits for the end of one, at most ten seconds.
     ///
     /// ```
     /// use colock::{Error, Kind, Retry, SharedStore, Type};
@@ -180,7 +181,10 @@ impl SharedStore {
         E: From<Error> + Cause,
         F: FnMut(&mut SharedTransaction<'_>) -> Result<T, E>,
     {
-        self.retried(how, f, |transaction, told| transaction.commit().map(|()| told))
+        self.retried(how, f, |transaction, told| match transaction.was_prepared() {
+            true => Ok(told),
+            false => transaction.commit().map(|()| told),
+        })
     }
 
     /// As [`SharedStore::retry`], and done once: it first asks what became of the key, and where a transaction committed under it
@@ -201,8 +205,9 @@ impl SharedStore {
     ///
     /// # Errors
     ///
-    /// [`Error::BadKey`], by which nothing is asked; [`Error::KeyAborted`] or [`Error::KeyTaken`]. Else as of [`SharedStore::retry`]: by
-    /// [`Error::OutcomeUnknown`] it is asked again, under the same key, with the file open again.
+    /// [`Error::BadKey`], by which nothing is asked; [`Error::KeyPrepared`], [`Error::KeyAborted`] or [`Error::KeyTaken`];
+    /// [`Error::Prepared`] where `f` prepared its transaction, which stays so: its key is no commit's. Else as of [`SharedStore::retry`]:
+    /// by [`Error::OutcomeUnknown`] it is asked again, under the same key, with the file open again.
     pub fn retry_under<T, E, F>(&self, key: impl AsRef<str>, retry: &Retry, f: F) -> Result<Keyed<T>, E>
     where
         E: From<Error> + Cause,

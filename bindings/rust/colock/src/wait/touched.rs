@@ -46,6 +46,12 @@ impl LetGo {
         places(touched).for_each(|place| self.last[place] = self.moment);
     }
 
+    /// Somebody lets go who may have touched anything.
+    pub(crate) fn all_let_go(&mut self) {
+        self.moment += 1;
+        self.last.fill(self.moment);
+    }
+
     /// Whether somebody has let go at an object since a moment.
     pub(crate) fn is_after(&self, object: u32, since: u64) -> bool {
         self.last[place_of(object)] > since
@@ -110,6 +116,9 @@ mod tests {
         assert!(let_go.is_after(2, 0) && !let_go.is_after(2, since) && !let_go.is_after(3, 0));
         let_go.lets_go(touched(&[2, 3]));
         assert!(let_go.is_after(2, since) && let_go.is_after(3, since) && !let_go.is_after(4, since));
+        let since = let_go.moment();
+        let_go.all_let_go();
+        assert!((0..100).all(|object| let_go.is_after(object, since) && !let_go.is_after(object, let_go.moment())));
     }
 
     #[test]

@@ -2,12 +2,10 @@
 
 use crate::objects::Objects;
 use crate::operation_id::OperationId;
+use crate::transaction_id::ATTEMPTS;
 use colock_waiting::{Age, Asker, Class, Conflicts, Decision, Number, ObjectIndex, OnlookerId, Touched, Verdict, Waiting};
 use std::collections::BTreeMap;
 use std::sync::{Arc, Condvar, OnceLock};
-
-/// The numbers of attempts that wait are greater: no transaction has one.
-const ATTEMPTS: u64 = 1 << 32;
 
 /// Why a sleep is over.
 #[derive(Clone, Copy, Debug, PartialEq, Eq)]

@@ -337,7 +337,7 @@ impl SharedStore {
         let begun = remote.link.answered(&both.begin.slot)?;
         let begun = self.lock().sees_begin(remote, both.begin.place, &begun);
         if begun == Ok(Some(both.foretold)) {
-            let reply = told.and_then(|text| self.reply_of(&text, object, number));
+            let reply = told.and_then(|text| self.reply_of(&text, object, number, both.foretold.life));
             return Ok(Some(First { id: both.foretold, told: Some(FirstTold { reply, since }) }));
         }
         // nobody had the name that was foretold

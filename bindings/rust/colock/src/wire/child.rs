@@ -21,8 +21,8 @@ use std::sync::{Arc, Mutex, OnceLock, Weak};
 use std::thread;
 use std::time::{Duration, Instant};
 
-/// The most bytes of a line that is an answer.
-const LONGEST_ANSWER: usize = 4096;
+/// The most bytes of a line that is an answer. One that tells what a transaction holds that is prepared may have the number of each object.
+const LONGEST_ANSWER: usize = 524_288;
 
 /// How many bytes of answers are read at once.
 const READ_AT_ONCE: usize = 65_536;

@@ -227,7 +227,7 @@ mod tests {
     /// A flight whose greeting is there.
     fn greeted() -> Flight {
         let mut flight = Flight::new(Pending { form: Form::Greeting, ..pending(0, false) });
-        flight.take(b"colock 4 1\n", &mut Vec::new()).unwrap();
+        flight.take(b"colock 5 1\n", &mut Vec::new()).unwrap();
         flight
     }
 

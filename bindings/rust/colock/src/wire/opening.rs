@@ -24,7 +24,7 @@ use std::sync::Arc;
 use std::time::Duration;
 
 /// The version of what is spoken with a child.
-const VERSION: &str = "4";
+const VERSION: &str = "5";
 
 /// How a store in a file is opened. A child process serves it, the program `colock serve`, in a process group of its
 /// own.
@@ -123,7 +123,7 @@ impl<'t> OpenOptions<'t> {
         self
     }
 
-    /// Opens the store at a path. What was open in it is aborted.
+    /// Opens the store at a path. What was open in it is aborted, unless it is [prepared](crate::SharedTransaction::prepare).
     ///
     /// ```no_run
     /// use colock::{Error, Kind, OpenOptions, Type};
@@ -324,12 +324,12 @@ mod tests {
 
     #[test]
     fn greetings_are_read() {
-        assert_eq!(life_of("colock 4 12"), Ok(12));
-        for other in ["1", "2", "3", "30"] {
-            let told = format!("the program speaks version {other}, and this client version 4");
+        assert_eq!(life_of("colock 5 12"), Ok(12));
+        for other in ["1", "2", "3", "4", "30"] {
+            let told = format!("the program speaks version {other}, and this client version 5");
             assert_eq!(life_of(&format!("colock {other} 12")), Err(Error::CannotOpen(told.into())));
         }
-        for wrong in ["colock 4 x", "hello", "colock", "", "colock 4 1 1"] {
+        for wrong in ["colock 5 x", "hello", "colock", "", "colock 5 1 1"] {
             assert!(matches!(life_of(wrong), Err(Error::CannotOpen(_))), "{wrong}");
         }
     }

@@ -46,7 +46,8 @@ impl SharedStore {
     ///
     /// An archived history is of the store by whose id it is named, and of the life in which its epoch ended. Of an
     /// earlier life of that epoch, which crashed, it says nothing: what such a life lost left its number to a later
-    /// transaction.
+    /// transaction. What became of one that was [prepared](crate::SharedTransaction::prepare) and decided in a later epoch is told by
+    /// [`SharedStore::outcome`] of its key, and not by this.
     ///
     /// ```
     /// # use colock::{Kind, SharedStore, Type};
@@ -114,11 +115,16 @@ impl Past {
     ///
     /// An end of that life's epoch would have made the file's life one greater, and this opening's two. So the epoch
     /// goes on, its durable events are those that were found, and a number that isn't among them was never durable:
-    /// events after them may have it again.
+    /// events after them may have it again. What began and didn't end was aborted then, or was prepared, and has its end later.
     fn before_this_opening(&self, events: &[Event], number: u64) -> Option<bool> {
         let found = usize::try_from(self.found?.events).ok()?;
         // fewer are there where another epoch has begun meanwhile
-        Some(outcome(events.get(..found)?, number) == Some(true))
+        let (found, since) = events.split_at_checked(found)?;
+        let has_begun = found.iter().any(|event| matches!(event, Event::Begin { transaction, .. } if *transaction == number));
+        match outcome(found, number) {
+            None if has_begun => outcome(since, number),
+            told => Some(told == Some(true)),
+        }
     }
 
     /// Of the events of an epoch those of its life `life`, which is this opening's first or a later one.
@@ -205,6 +211,15 @@ mod tests {
         assert_eq!(past(5, 9, 0).before_this_opening(&events, 0), None); // another epoch has begun
         let untold = Past { greeted: 5, found: None, archive: None };
         assert_eq!((untold.before_this_opening(&events, 0), untold.of_life(&events, 5)), (None, None));
+    }
+
+    /// It isn't aborted where it is found, and keeps its number in the epoch.
+    #[test]
+    fn what_was_prepared_ends_later() {
+        let events = [begin(0), begin(1), begin(2), abort(1), begin(3), commit(3), commit(0)];
+        let tells = |until: usize, number| past(5, 3, 1).before_this_opening(&events[..until], number);
+        assert_eq!([tells(7, 0), tells(7, 1), tells(7, 2), tells(7, 3)], [Some(true), Some(false), None, Some(false)]);
+        assert_eq!([tells(6, 0), tells(3, 0)], [None, None]);
     }
 
     #[test]

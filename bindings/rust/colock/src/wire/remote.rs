@@ -3,6 +3,7 @@
 use crate::error::Error;
 use crate::shared::state::Ticket;
 use crate::shared::{Guard, Guarded, Lock, SharedStore};
+use crate::transaction_id::TransactionId;
 use crate::wait::touched::{LetGo, Underway};
 use crate::wire::beginning::Begins;
 use crate::wire::child::{listed, ok, Conversation, Link};
@@ -55,11 +56,14 @@ pub(crate) struct RemoteState {
     pub(crate) open: BTreeMap<u64, u64>,
     /// When transactions let go.
     pub(crate) let_go: LetGo,
+    /// The transactions of this client that are prepared, or are asked to be, by their keys.
+    pub(crate) prepared: BTreeMap<Box<str>, Ticket>,
 }
 
 impl RemoteState {
     pub(crate) fn new(conversation: Conversation) -> RemoteState {
-        RemoteState { conversation, begins: Begins::default(), dropped: Vec::new(), open: BTreeMap::new(), let_go: LetGo::new() }
+        let (open, prepared) = (BTreeMap::new(), BTreeMap::new());
+        RemoteState { conversation, begins: Begins::default(), dropped: Vec::new(), open, let_go: LetGo::new(), prepared }
     }
 
     /// How many are open.
@@ -67,9 +71,11 @@ impl RemoteState {
         self.open.len()
     }
 
-    /// Whether a blocker in an answer about an object may have let go since a moment, or another one that touched it.
+    /// Whether a blocker in an answer about an object may have let go since a moment, or another one that touched it. One of
+    /// another life is prepared, and a decision lets go at all that it holds.
     pub(crate) fn has_let_go(&self, number: u64, object: u32, since: u64) -> bool {
-        self.let_go.is_after(object, since) || self.open.get(&number).is_none_or(|moment| *moment > since)
+        let has_ended = || TransactionId::is_own(number) && self.open.get(&number).is_none_or(|moment| *moment > since);
+        self.let_go.is_after(object, since) || has_ended()
     }
 
     /// A transaction takes operations back.
@@ -138,7 +144,9 @@ impl SharedStore {
         let words: Vec<&str> = text.split(' ').collect();
         let number = |word: &str| word.parse::<u64>().map_err(|_| remote.link.broken(&text));
         match words[..] {
-            ["events", events, "begun", _, "open", open] => Ok(Counts { events: number(events)?, open: number(open)? }),
+            ["events", events, "begun", _, "open", open] | ["events", events, "begun", _, "open", open, "prepared", _] => {
+                Ok(Counts { events: number(events)?, open: number(open)? })
+            }
             _ => Err(remote.link.broken(&text)),
         }
     }

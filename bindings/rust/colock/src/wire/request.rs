@@ -5,6 +5,7 @@ use crate::event::Event;
 use crate::key::{Key, KeyOutcome};
 use crate::moment::Moment;
 use crate::operation_id::OperationId;
+use crate::prepared::{Decision, Prepared};
 use crate::transaction_id::{decimal, TransactionId};
 use std::fmt;
 
@@ -23,6 +24,9 @@ pub(crate) enum Request<'a> {
     DoUnder(Key<'a>, &'a str),
     /// A key, of whose transaction it is asked what became of it.
     Outcome(Key<'a>),
+    Prepare(TransactionId, Key<'a>, u32),
+    Decide(Key<'a>, Decision),
+    Prepared,
     /// Calls of a read, in the same way.
     Peek(&'a str),
     /// Objects, whose committed states are asked for.
@@ -40,7 +44,7 @@ pub(crate) enum Request<'a> {
 impl<'a> Request<'a> {
     /// Whether lines come before the last one of its answer.
     pub(crate) fn is_list(&self) -> bool {
-        matches!(self, Request::Objects | Request::Types | Request::Events(..))
+        matches!(self, Request::Objects | Request::Types | Request::Events(..) | Request::Prepared)
     }
 
     /// Whether it asks for what all transactions have done.
@@ -53,14 +57,15 @@ impl<'a> Request<'a> {
         match self {
             Request::Commit(id) | Request::CommitUnder(id, _) => Commits::Transaction(*id),
             Request::Do(_) | Request::DoUnder(..) => Commits::Attempt,
+            Request::Prepare(id, ..) => Commits::Preparation(*id),
             _ => Commits::Nothing,
         }
     }
 
-    /// The key under which it is done, where it has one.
+    /// The key under which something is committed by it, where it has one.
     pub(crate) fn key(&self) -> Option<Key<'a>> {
         match self {
-            Request::CommitUnder(_, key) | Request::DoUnder(key, _) => Some(*key),
+            Request::CommitUnder(_, key) | Request::DoUnder(key, _) | Request::Decide(key, Decision::Commit) => Some(*key),
             _ => None,
         }
     }
@@ -79,6 +84,9 @@ impl fmt::Display for Request<'_> {
             Request::Do(calls) => write!(f, "do {calls}"),
             Request::DoUnder(key, calls) => write!(f, "do ={key} {calls}"),
             Request::Outcome(key) => write!(f, "outcome {key}"),
+            Request::Prepare(id, key, until) => write!(f, "prepare {id} {key} {until}"),
+            Request::Decide(key, decision) => write!(f, "decide {key} {decision}"),
+            Request::Prepared => f.write_str("prepared"),
             Request::Peek(calls) => write!(f, "peek {calls}"),
             Request::Committed(objects) => write!(f, "committed {objects}"),
             Request::Kept(object) => write!(f, "kept {object}"),
@@ -99,6 +107,8 @@ pub(crate) enum Commits {
     Transaction(TransactionId),
     /// A transaction without a name that the client knows.
     Attempt,
+    /// It is prepared, for a commit.
+    Preparation(TransactionId),
 }
 
 /// The last line of an answer, without the tag.
@@ -181,6 +191,11 @@ fn refusal(kind: &str) -> Option<Error> {
         "Changes" => Error::Changes,
         "Aborted" => Error::KeyAborted,
         "KeyTaken" => Error::KeyTaken,
+        "Prepared" => Error::Prepared,
+        "KeyPrepared" => Error::KeyPrepared,
+        "Committed" => Error::KeyCommitted,
+        "Unknown" => Error::KeyUnknown,
+        "Decided" => Error::Decided,
         _ => return None,
     })
 }
@@ -190,10 +205,22 @@ pub(crate) fn outcome(line: &str) -> Option<KeyOutcome> {
     match line.split_once(' ') {
         None if line == "unknown" => Some(KeyOutcome::Unknown),
         None if line == "aborted" => Some(KeyOutcome::Aborted),
+        None if line == "prepared" => Some(KeyOutcome::Prepared),
         None if line == "committed" => Some(KeyOutcome::of_replies("")),
         Some(("committed", replies)) if replies.split(' ').all(|reply| !reply.is_empty()) => Some(KeyOutcome::of_replies(replies)),
         _ => None,
     }
+}
+
+/// The transaction of a line that lists it as prepared; nothing where it is none.
+pub(crate) fn prepared(line: &str) -> Option<Prepared> {
+    let mut words = line.split(' ');
+    let key = Key::of(words.next()?).ok()?.as_str().to_string();
+    let id = words.next()?.parse().ok()?;
+    let number = |word: &str| decimal(word).and_then(small);
+    let until = number(words.next()?)?;
+    let objects = words.map(number).collect::<Option<Vec<u32>>>()?;
+    Some(Prepared { key, id, until, objects })
 }
 
 /// The most numbers of a line of a history.
@@ -233,9 +260,9 @@ fn small<N: TryFrom<u64>>(number: u64) -> Option<N> {
 
 #[cfg(test)]
 mod tests {
-    use super::{answer, event, outcome, Answer, Commits, Request};
+    use super::{answer, event, outcome, prepared, Answer, Commits, Request};
     use crate::key::{Key, KeyOutcome};
-    use crate::{Error, Event, Moment, OperationId, TransactionId};
+    use crate::{Decision, Error, Event, Moment, OperationId, TransactionId};
 
     #[test]
     fn requests_are_spelled() {
@@ -263,9 +290,31 @@ mod tests {
             (Request::CommitUnder(id, key), "commit 3.14 order:4711", Some(key), Commits::Transaction(id)),
             (Request::DoUnder(key, "2 inc:1 3 hold"), "do =order:4711 2 inc:1 3 hold", Some(key), Commits::Attempt),
             (Request::Outcome(key), "outcome order:4711", None, Commits::Nothing),
+            (Request::Prepare(id, key, u32::MAX), "prepare 3.14 order:4711 4294967295", None, Commits::Preparation(id)),
+            // what is decided is committed by it under the key, or isn't
+            (Request::Decide(key, Decision::Commit), "decide order:4711 commit", Some(key), Commits::Nothing),
+            (Request::Decide(key, Decision::Abort), "decide order:4711 abort", None, Commits::Nothing),
         ];
         for (request, line, key, commits) in rows {
             assert_eq!((request.to_string(), request.key(), request.commits(), request.is_list()), (line.to_string(), key, commits, false));
+        }
+        assert_eq!((Request::Prepared.to_string(), Request::Prepared.is_list()), ("prepared".to_string(), true));
+    }
+
+    #[test]
+    fn what_is_prepared_is_read() {
+        let rows = [
+            ("order:4711 3.14 1800000000 0 7 300", ("order:4711", TransactionId::new(3, 14), 1_800_000_000, vec![0, 7, 300])),
+            ("refused 3.0 0", ("refused", TransactionId::new(3, 0), 0, vec![])),
+            ("- 1.4294967294 4294967295 65535", ("-", TransactionId::new(1, 4_294_967_294), u32::MAX, vec![65_535])),
+        ];
+        for (line, (key, id, until, objects)) in rows {
+            let told = prepared(line).unwrap();
+            assert_eq!((told.key.as_str(), told.id, told.until, told.objects), (key, id, until, objects));
+        }
+        let wrong = ["", "a", "a 3.14", "a 3.14 ", "a 3 0", "a/b 3.14 0", " 3.14 0", "a 3.14 -1", "a 3.14 4294967296", "a 3.14 0 ", "a 3.14 0 x", "a  3.14 0"];
+        for line in wrong {
+            assert_eq!(prepared(line), None, "{line:?}");
         }
     }
 
@@ -275,6 +324,7 @@ mod tests {
         let rows = [
             ("unknown", Some(KeyOutcome::Unknown)),
             ("aborted", Some(KeyOutcome::Aborted)),
+            ("prepared", Some(KeyOutcome::Prepared)),
             ("committed", committed(&[])),
             ("committed ok", committed(&["ok"])),
             ("committed ok 7 short", committed(&["ok", "7", "short"])),
@@ -282,7 +332,20 @@ mod tests {
         for (line, wanted) in rows {
             assert_eq!(outcome(line), wanted, "{line}");
         }
-        for wrong in ["", "committed ", "committed  ok", "committed ok ", "unknown ok", "aborted ", "ok", "done ok", "refused KeyTaken", "seen 1.0 ok"] {
+        for wrong in [
+            "",
+            "prepared ",
+            "prepared ok",
+            "committed ",
+            "committed  ok",
+            "committed ok ",
+            "unknown ok",
+            "aborted ",
+            "ok",
+            "done ok",
+            "refused KeyTaken",
+            "seen 1.0 ok",
+        ] {
             assert_eq!(outcome(wrong), None, "{wrong}");
         }
     }
@@ -311,6 +374,11 @@ mod tests {
             ("refused Changes", Some(Answer::Refused(Error::Changes))),
             ("refused Aborted", Some(Answer::Refused(Error::KeyAborted))),
             ("refused KeyTaken", Some(Answer::Refused(Error::KeyTaken))),
+            ("refused Prepared", Some(Answer::Refused(Error::Prepared))),
+            ("refused KeyPrepared", Some(Answer::Refused(Error::KeyPrepared))),
+            ("refused Committed", Some(Answer::Refused(Error::KeyCommitted))),
+            ("refused Unknown", Some(Answer::Refused(Error::KeyUnknown))),
+            ("refused Decided", Some(Answer::Refused(Error::Decided))),
             ("done", Some(Answer::Done(""))),
             ("done ", None),
             ("busy 2 drain", None),

@@ -129,9 +129,13 @@ impl Pending {
         (tag.parse::<u64>() == Ok(self.tag)).then_some(answer)
     }
 
-    /// Whether this is the last line of its answer.
+    /// Whether this is the last line of its answer. A line of a list may begin with a key, as `refused`, but has more words then.
     pub(crate) fn ends_with(&self, answer: &str) -> bool {
-        self.form != Form::List || answer == "ok" || answer.starts_with("refused ") || answer.starts_with("fault ")
+        let ends_list = || match answer.split_once(' ') {
+            None => answer == "ok",
+            Some((word, kind)) => matches!(word, "refused" | "fault") && !kind.contains(' '),
+        };
+        self.form != Form::List || ends_list()
     }
 
     pub(crate) fn add(&self, answer: &str) {
@@ -152,6 +156,7 @@ impl Pending {
             Commits::Nothing => error.clone(),
             Commits::Transaction(id) => Error::OutcomeUnknown(id),
             Commits::Attempt => Error::AttemptUnknown,
+            Commits::Preparation(id) => Error::PrepareUnknown(id),
         };
         self.slot.close("", Err(told));
     }
@@ -182,13 +187,15 @@ mod tests {
         let (one, _) = pending(Form::One, Commits::Nothing);
         assert_eq!((one.own("12 ok 3"), one.own("13 ok"), one.own("12"), one.own("12 ")), (Some("ok 3"), None, None, Some("")));
         let (greeting, _) = pending(Form::Greeting, Commits::Nothing);
-        assert_eq!(greeting.own("colock 4 1"), Some("colock 4 1"));
+        assert_eq!(greeting.own("colock 5 1"), Some("colock 5 1"));
     }
 
     #[test]
     fn lists_end_with_ok() {
         let (list, slot) = pending(Form::List, Commits::Nothing);
         assert!(!list.ends_with("op ok ok") && !list.ends_with("") && list.ends_with("ok") && list.ends_with("refused NoMemory"));
+        // what is prepared under such keys
+        assert!(!list.ends_with("refused 3.4 0") && !list.ends_with("fault 3.4 0 1") && !list.ends_with("ok 3.4 0") && list.ends_with("fault BadWords"));
         list.add("op ok ok");
         list.add("");
         list.close("ok");
@@ -224,6 +231,9 @@ mod tests {
         let (attempt, slot) = pending(Form::One, Commits::Attempt);
         attempt.fail(&gone);
         assert_eq!(slot.answer_until(None), Some(Err(Error::AttemptUnknown)));
+        let (prepare, slot) = pending(Form::One, Commits::Preparation(TransactionId::new(3, 4)));
+        prepare.fail(&gone);
+        assert_eq!(slot.answer_until(None), Some(Err(Error::PrepareUnknown(TransactionId::new(3, 4)))));
         let (_, nothing) = pending(Form::One, Commits::Nothing);
         assert_eq!(nothing.answer_until(Some(Instant::now() + Duration::from_millis(5))), None);
     }

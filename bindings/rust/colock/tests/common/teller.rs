@@ -9,7 +9,7 @@ use std::time::Duration;
 /// 1.1; a test says what is answered after them: the third begin, the call after it, and so on, a line each.
 fn told() -> String {
     [
-        "#!/bin/sh\necho \"colock 4 1\"\nexec 3< \"$0.answers\"\nwhile read -r tag verb rest; do",
+        "#!/bin/sh\necho \"colock 5 1\"\nexec 3< \"$0.answers\"\nwhile read -r tag verb rest; do",
         "    echo \"$verb $rest\" >> \"$0.asked\"\n    case \"$verb\" in",
         COUNTER_ARMS,
         "    end) echo \"$tag ok\"; exit 0 ;;\n    *) read -r answer <&3; echo \"$tag $answer\" ;;\n    esac\ndone\n",
