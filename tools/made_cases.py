@@ -259,7 +259,7 @@ def refuses(words, fault):
 def served(life, *lines_and_answers):
     """Lines that are served in a life, each with its answer."""
     given, told = zip(*((f"a {line}", [f"a {told}" for told in answer]) for line, *answer in lines_and_answers))
-    return does(["serve", "a.db"], [f"colock 4 {life}", *(line for answer in told for line in answer)], given)
+    return does(["serve", "a.db"], [f"colock 5 {life}", *(line for answer in told for line in answer)], given)
 
 
 def file_of_many(count):
@@ -274,7 +274,7 @@ def file_of_many(count):
                    ("events 0 9", "begin 0 0", "op 0 0 0 0", f"op 0 0 {last} 0", f"op 0 0 {last} 0", f"none 0 0 {last} 0",
                     "commit 0 0", "begin 0 1", f"op 0 1 {last} 1", "ok"),
                    ("objects", *objects, "ok"))
-    second = served(3, (f"kept {last}", "ok 2"), ("kept 0", "ok 1"), ("kept 1", "ok 0"), ("stats", "ok events 0 begun 0 open 0"),
+    second = served(3, (f"kept {last}", "ok 2"), ("kept 0", "ok 1"), ("kept 1", "ok 0"), ("stats", "ok events 0 begun 0 open 0 prepared 0"),
                     ("begin", "ok 3.0"), (f"call 3.0 {last} dec:1", "reply ok"), ("commit 3.0", "ok"), ("end", "ok"))
     steps = (does(["create", "a.db", "the.objects", "ctr2.type"]), does(["history", "a.db"], empty),
              does(["audit", "--database", "a.db"], judged(count, {})), first, does(["history", "a.db"], empty),
@@ -327,7 +327,7 @@ def longest_requests():
     """Lines of requests about as long as they may be."""
     given = ["A" * 4_095, "\t" * 4_096, "a" * 4_096, "a " + "b" * 4_093, "a " + "b" * 4_094, "a begin"]
     faults = ["- fault BadTag", "- fault TooLong", "- fault TooLong", "a fault UnknownVerb", "- fault TooLong"]
-    steps = (does(["create", "a.db", "the.objects", "ctr2.type"]), does(["serve", "a.db"], ["colock 4 1", *faults, "a ok 1.0"], given))
+    steps = (does(["create", "a.db", "the.objects", "ctr2.type"]), does(["serve", "a.db"], ["colock 5 1", *faults, "a ok 1.0"], given))
     return Session("longest: requests", {"the.objects": lines("object undo 0", "end"), **COUNTER}, steps)
 
 

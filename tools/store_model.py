@@ -1,272 +1,18 @@
-"""A slow model of a store that is served: what a line asks, and what it is answered.
+"""A slow model of a store that is served: what a line is answered (tools/line_model.py says what it asks).
 
 It is written from docs/formats.md and docs/theory.md and shares nothing with the program. For each line it works out
 from the whole history, anew, who is open, what survives, what a transaction sees and who is in its way. Of a deferred
 object it keeps the serial state; so it is a model of types whose texts relate no two states. Of an object in escrow it
 goes through all fronts of what each transaction did, and through all numbers that such fronts may leave.
 """
-import re
+import dataclasses
 
-LONGEST, MOST_OPEN, MOST_TOLD, MOST_ASKED = 4_096, 1024, 65_536, 64
+from line_model import Fault, form_of, line_asked
+from type_model import Number
+
+MOST_OPEN, MOST_TOLD = 1024, 65_536
 # How many objects a text may have that doesn't say it.
 FEW = 256
-# What comes after each verb: a transaction, an object, a number, a name, the name of an object, a key, or a key behind
-# `=`; before a star what comes once or more. The last two verbs are those of requests under keys.
-WORDS = {"begin": "", "call": "ton", "would": "ton", "commit": "t", "abort": "t", "rollback": "tx", "kept": "o",
-         "objects": "", "types": "", "events": "xx", "stats": "", "end": "", "extend": "w*", "find": "m",
-         "do": "on*", "peek": "on*", "committed": "o*", "outcome": "k", "commit KEY": "tk", "do KEY": "=on*"}
-
-
-# ---- what a line asks
-
-class Fault(Exception):
-    """Why a line is no request."""
-
-
-def is_name(word):
-    return re.fullmatch(r"[a-z0-9_:-]{1,32}", word) is not None
-
-
-def is_object_name(word):
-    return re.fullmatch(r"[a-zA-Z0-9_:./-]{1,64}", word) is not None
-
-
-def is_key(word):
-    return re.fullmatch(r"[a-zA-Z0-9_:.-]{1,64}", word) is not None
-
-
-def object_asked(word):
-    """An object by its number, or by its name, which is a text."""
-    if word.startswith("@") and is_object_name(word[1:]):
-        return word[1:]
-    return number(word)
-
-
-def number(word):
-    if not re.fullmatch(r"0|[1-9][0-9]{0,9}", word) or int(word) >= 1 << 32:
-        raise Fault("BadNumber")
-    return int(word)
-
-
-def transaction(word):
-    life, point, behind = word.partition(".")
-    if not point:
-        raise Fault("BadNumber")
-    return number(life), number(behind)
-
-
-def form_of(verb, count):
-    """What so many words after a verb are, or as many as may be there."""
-    form = WORDS[verb]
-    if not form.endswith("*"):
-        return form
-    first = form.startswith("=")
-    return form[:first] + form[first:-1] * max(1, min((count - first) // len(form[first:-1]), MOST_ASKED))
-
-
-def verb_of(words):
-    """The verb, by whether there is a key."""
-    is_keyed = words[0] == "commit" and len(words) == 3 or words[0] == "do" and words[1:] and words[1].startswith("=")
-    return f"{words[0]} KEY" if is_keyed else words[0]
-
-
-def asked(words):
-    """The verb and what comes after it."""
-    if not words or words[0] not in WORDS or " " in words[0]:
-        raise Fault("UnknownVerb")
-    if words[0] == "extend":
-        if len(words) < 3:
-            raise Fault("BadWords")
-        return words
-    verb = verb_of(words)
-    form = form_of(verb, len(words) - 1)
-    tests = {"n": is_name, "m": is_object_name, "k": is_key, "=": lambda word: is_key(word[1:])}
-    if len(words) != len(form) + 1 or any(f in tests and not tests[f](word) for f, word in zip(form, words[1:])):
-        raise Fault("BadWords")
-    read = {"t": transaction, "x": number, "o": object_asked, "n": str, "m": str, "k": str, "=": lambda word: word[1:]}
-    return [verb] + [read[f](word) for f, word in zip(form, words[1:])]
-
-
-def line_asked(line):
-    """The tag, and what is asked or a fault."""
-    if len(line) + 1 > LONGEST:
-        return "-", Fault("TooLong")
-    if any(byte < 32 or byte > 126 for byte in line):
-        return "-", Fault("NotAscii")
-    tag, *words = line.decode().split(" ")
-    if not is_name(tag):
-        return "-", Fault("BadTag")
-    try:
-        return tag, asked(words)
-    except Fault as fault:
-        return tag, fault
-
-
-# ---- the model
-
-class Type:
-    """A type file, by the lines of its text."""
-
-    def __init__(self, text):
-        lines = [line.split() for line in text.splitlines()]
-        of = lambda word: [line[1:] for line in lines if line[:1] == [word]]
-        self.lines, self.initial, self.states = lines, int(of("initial")[0][0]), int(of("states")[0][0])
-        self.ops = [tuple(line) for line in of("op")]
-        self.next = {(int(s), int(k)): int(t) for s, k, t in of("step")}
-        self.conflicts = {(kind, int(p), int(q)) for kind, p, q in of("conflict")}
-        self.text = "".join(" ".join(line) + "\n" for line in lines)
-
-    def step(self, state, k):
-        """The state after an operation, or none."""
-        return self.next.get((state, k))
-
-    def run(self, state, operations):
-        """The state after these operations, or none."""
-        for k in operations:
-            state = None if state is None else self.step(state, k)
-        return state
-
-    def operations(self, call, state=0):
-        """Those of a call, whatever the state is."""
-        return [k for k, op in enumerate(self.ops) if op[0] == call]
-
-    def reply(self, k):
-        return self.ops[k][1]
-
-    def names(self, _):
-        """The calls."""
-        return sorted({call for call, _ in self.ops})
-
-    def moves(self, k):
-        """How far an operation moves each state in which it is legal."""
-        return {s: self.next[s, k] - s for s in range(self.states) if (s, k) in self.next}
-
-    def move(self, k):
-        """How far an operation of a numeric type moves each of them."""
-        return min(self.moves(k).values(), default=0)
-
-    def is_still(self, k):
-        """Whether an operation changes nothing."""
-        return not any(self.moves(k).values())
-
-    def fault(self):
-        """The first operation, and its first state, by which the type isn't numeric; or none."""
-        for k in range(len(self.ops)):
-            moves = self.moves(k)
-            for s in range(self.states):
-                is_gap = s not in moves and any(r < s for r in moves) and any(r > s for r in moves)
-                if is_gap or s in moves and moves[s] != moves[min(moves)]:
-                    return k, s
-        return None
-
-
-class NumberType(Type):
-    """A number file, by the lines of its text: a number from 0 to a greatest one, and calls of listed amounts, of any
-    amount, and of its value. It has no table, and is for escrow alone. Each call is two operations: there is enough, or
-    room for so much; or there isn't. Of a call of any amount an operation is its place and the amount; of the value it
-    is its place and the number."""
-
-    REPLIES = {"take": ("ok", "short"), "give": ("ok", "full"), "atleast": ("yes", "no")}
-    SIGNS = {"take": -1, "give": 1, "atleast": 0, "value": 0}
-
-    def __init__(self, text):
-        self.lines = [line.split() for line in text.splitlines() if line.strip() and line[0] != "#"]
-        given = {word: int(value) for word, value in self.lines[1:3]}
-        self.most, self.initial, self.conflicts = given["max"], given["initial"], set()
-        self.text = "".join(" ".join(line) + "\n" for line in self.lines)
-        self.calls = [(word, amount[0] if amount else "any") for word, *amount in self.lines[3:-1]]
-        self.ops = [(f"{word}:{amount}", reply) for word, amount in self.calls if amount != "any"
-                    for reply in self.REPLIES[word]]
-
-    def parts(self, k):
-        """The word of an operation's call, its amount, and whether it is the first of the two."""
-        place, amount = k if isinstance(k, tuple) else (k, int(self.calls[k // 2][1]))
-        return self.calls[place // 2][0], amount, place % 2 == 0
-
-    def step(self, state, k):
-        word, amount, is_done = self.parts(k)
-        if word == "value":
-            return state if state == amount else None
-        is_there = amount <= (self.most - state if word == "give" else state)
-        is_legal = 0 <= state <= self.most and is_there == is_done
-        return state + self.move(k) if is_legal else None
-
-    def move(self, k):
-        word, amount, is_done = self.parts(k)
-        return self.SIGNS[word] * amount if is_done else 0
-
-    def is_still(self, k):
-        return self.move(k) == 0
-
-    def is_any(self, word, amount):
-        """Whether it is an amount of a call of any amount, which no line lists."""
-        is_amount = word in ("take", "give") and re.fullmatch("[1-9][0-9]{0,9}", amount) and int(amount) <= self.most
-        return is_amount and (word, "any") in self.calls and (word, amount) not in self.calls
-
-    def operations(self, call, state=0):
-        """Those of a call, of the value the one that is legal."""
-        if call == "value" and ("value", "any") in self.calls:
-            return [(2 * self.calls.index(("value", "any")), state)]
-        word, _, amount = call.partition(":")
-        if self.is_any(word, amount):
-            place = 2 * self.calls.index((word, "any"))
-            return [(place, int(amount)), (place + 1, int(amount))]
-        return [2 * at + half for at, listed in enumerate(self.calls) if listed == (word, amount) != (word, "any") for half in (0, 1)]
-
-    def names(self, source):
-        """The calls that are listed, and of each call of any amount three."""
-        amounts = [source.choice([1, 2, self.initial, self.most, self.most - self.initial, source.randint(1, self.most)])
-                   for _ in range(3)]
-        anys = [f"{word}:{amount}" for word, any_ in self.calls if any_ == "any" for amount in amounts if word != "value"]
-        return sorted({call for call, _ in self.ops}) + anys + ["value"] * (("value", "any") in self.calls)
-
-    def reply(self, k):
-        word, amount, is_done = self.parts(k)
-        return str(amount) if word == "value" else self.REPLIES[word][not is_done]
-
-    def fault(self):
-        return None
-
-
-class Number:
-    """A number in escrow: what is committed, and what each open transaction did there."""
-
-    def __init__(self, type_, base, own):
-        self.type, self.base, self.own = type_, base, own
-
-    def fronts(self, t):
-        """How far each front of what a transaction did moves the number: a rollback may leave any."""
-        moves = [self.type.move(k) for k in self.own[t]]
-        return {sum(moves[:count]) for count in range(len(moves) + 1)}
-
-    def left_by_others(self, t):
-        """The numbers that the others may leave where a transaction commits, each of them a front of what it did."""
-        numbers = {self.base}
-        for u in self.own:
-            if u != t:
-                numbers = {number + move for number in numbers for move in self.fronts(u)}
-        return numbers
-
-    def is_legal_at(self, end, t):
-        """Whether what a transaction did is legal from the lowest or the highest of these."""
-        return self.type.run(end(self.left_by_others(t)), self.own[t]) is not None
-
-    def is_firm(self, t):
-        """Whether it is legal from each of these."""
-        return all(self.type.run(number, self.own[t]) is not None for number in self.left_by_others(t))
-
-    def keepers(self, t):
-        """The others that keep a transaction from what it did last."""
-        others = [u for u in self.own if u != t]
-        if self.is_firm(t):
-            return [u for u in others if not self.is_firm(u)]
-        low, high = self.is_legal_at(min, t), self.is_legal_at(max, t)
-        return [u for u in others if not low and min(self.fronts(u)) < 0 or not high and max(self.fronts(u)) > 0]
-
-    def keeps_alone(self, u, t):
-        """Whether another alone keeps a transaction from what it did last: it may leave a number from which that isn't
-        legal, where no other did anything."""
-        return any(self.type.run(self.base + move, self.own[t]) is None for move in self.fronts(u))
 
 
 class Seen:
@@ -318,15 +64,26 @@ class Seen:
         return [k for t in self.committed for k in self.at(x, t)]
 
 
+@dataclasses.dataclass(frozen=True)
+class Prepared:
+    """A transaction that is prepared: its key, the life and the number by which its client knows it, until when that waits,
+    and its number in the history of this epoch."""
+    key: str
+    name: tuple
+    until: int
+    number: int
+
+
 class Model:
     """A store in a file: the states where the epoch began, its whole history, how many of these events are answered as
-    durable, and the number of its life; and of each key the replies of its transaction, and how many events there were when
-    it committed. An object is its kind, the place of its type, and where it has one its name."""
+    durable, and the number of its life; who is prepared, in that order; and of each key the replies of its transaction, or
+    None where it was aborted, and how many events there were when that was decided. An object is its kind, the place of its
+    type, and where it has one its name."""
 
     def __init__(self, objects, types):
         self.objects, self.types = objects, types
         self.starts, self.events, self.durable = [types[place].initial for _, place, *_ in objects], [], 0
-        self.life, self.keys = 0, {}
+        self.life, self.keys, self.prepared = 0, {}, []
 
     def type_of(self, x):
         return self.types[self.objects[x][1]]
@@ -335,6 +92,25 @@ class Model:
         """The number of an object that is asked for; of a name that none has that of no object."""
         names = list(map(name_of, self.objects))
         return x if isinstance(x, int) else names.index(x) if x in names else len(names)
+
+    def name_of(self, t):
+        """The name by which its client knows an open transaction: one that is prepared keeps that of the life that began it."""
+        return self.held(t).name if self.is_prepared(t) else (self.life, t)
+
+    def open_by(self, s, name):
+        """The number of the open transaction of this name, or none: a carried one has two."""
+        return next((t for t in s.open_ones() if name in (self.name_of(t), (self.life, t))), None)
+
+    def held(self, t):
+        """The transaction of this number as it is prepared, or none."""
+        return next((p for p in self.prepared if p.number == t), None)
+
+    def is_prepared(self, t):
+        return self.held(t) is not None
+
+    def unprepared(self):
+        """Those that are open and aren't prepared."""
+        return [t for t in Seen(self.events).open_ones() if not self.is_prepared(t)]
 
     def view(self, s, x, t):
         """What a transaction sees at an object."""
@@ -393,9 +169,10 @@ class Model:
             return "NoObject" if rest[0] >= len(self.objects) else None
         if verb not in ("call", "would", "commit", "abort", "rollback"):
             return None
-        (life, t), *rest = rest
-        if life != self.life or not s.is_open(t):
-            return "NotOpen"
+        name, *rest = rest
+        t = self.open_by(s, name)
+        if t is None or self.is_prepared(t):
+            return "NotOpen" if t is None else "Prepared"
         if verb == "rollback":
             return None if 0 < rest[0] <= len(s.by(t)) else "BadRollback"
         if verb in ("call", "would") and rest[0] >= len(self.objects):
@@ -449,6 +226,9 @@ class Model:
     def under_key(self, verb, *rest):
         """What is asked under a key is answered each time, and done once. Whose commit was done before is aborted."""
         key = rest[1] if verb == "commit" else rest[0]
+        if refused := {"prepared": "KeyPrepared", "aborted": "Aborted"}.get(self.state(key)):
+            self.durable = len(self.events)
+            return f"refused {refused}"
         if key in self.keys:
             if verb == "commit" and not self.refusal(Seen(self.events), "abort", rest[0]):
                 self.events.append(("abort", rest[0][1]))
@@ -464,10 +244,45 @@ class Model:
             self.keys[key] = replies, len(self.events)
         return answer
 
+    def under(self, key):
+        """Who is prepared under a key, or none."""
+        return next((p for p in self.prepared if p.key == key), None)
+
+    def state(self, key):
+        """What became of the transaction of a key."""
+        if self.under(key) or key not in self.keys:
+            return "prepared" if self.under(key) else "unknown"
+        return "aborted" if self.keys[key][0] is None else "committed"
+
+    def prepare(self, s, name, key, until):
+        """An open transaction is prepared under a key. It is durable then."""
+        t = self.open_by(s, name)
+        if t is None or self.is_prepared(t):
+            return "refused NotOpen" if t is None else "ok" if self.under(key) == self.held(t) else "refused Prepared"
+        if self.state(key) != "unknown":
+            return "refused " + {"prepared": "KeyPrepared"}.get(self.state(key), self.state(key).capitalize())
+        self.prepared.append(Prepared(key, name, until, t))
+        self.durable = len(self.events)
+        return "ok"
+
+    def decide(self, key, how):
+        """The transaction that is prepared under a key ends; where nobody has the key an abort is kept. It is durable then."""
+        state, p = self.state(key), self.under(key)
+        if state in ("committed", "aborted"):
+            return "ok" if state.startswith(how) else "refused Decided"
+        if p:
+            self.events.append((how, p.number))
+            self.prepared.remove(p)
+        elif how == "commit":
+            return "refused Unknown"
+        self.keys[key] = [] if how == "commit" else None, len(self.events)
+        self.durable = len(self.events)
+        return "ok"
+
     def known(self, key):
         """What is known of a key. It is durable then."""
         self.durable = len(self.events)
-        return " ".join(["committed", *self.keys[key][0]]) if key in self.keys else "unknown"
+        return " ".join([self.state(key), *(self.keys.get(key, ([],))[0] or [])])
 
     def cut(self, count):
         """Only the first events are there."""
@@ -478,7 +293,7 @@ class Model:
         """What a call is answered that makes this event."""
         if event[0] == "op":
             return f"reply {self.type_of(event[2]).reply(event[3])}"
-        return f"busy {self.life}.{event[4]}" if event[0] == "busy" else "none"
+        return "busy {}.{}".format(*self.name_of(event[4])) if event[0] == "busy" else "none"
 
     def listed(self, verb, *rest):
         """The lines of an answer of several."""
@@ -486,16 +301,21 @@ class Model:
             return list(map(object_line, self.objects))
         if verb == "types":
             return [line for type_ in self.types for line in type_.text.split("\n")]
+        if verb == "prepared":
+            return ["{0} {1[0]}.{1[1]} {2}".format(p.key, p.name, p.until) for p in self.prepared]
         return [line_of(event) for event in self.events[rest[0] :][: min(rest[1], MOST_TOLD)]]
 
     def done(self, s, verb, *rest):
         """The lines of the answer to what isn't refused; what is asked is done."""
         if verb == "events":
             self.durable = len(self.events)
-        if verb in ("objects", "types", "events"):
+        if verb in ("objects", "types", "events", "prepared"):
             return self.listed(verb, *rest) + ["ok"]
         if verb == "stats":
-            return [f"ok events {len(self.events)} begun {s.begun} open {len(s.open_ones())}"]
+            counts = f"events {len(self.events)} begun {s.begun} open {len(s.open_ones())} prepared {len(self.prepared)}"
+            return [f"ok {counts}"]
+        if verb in ("prepare", "decide"):
+            return [self.prepare(s, *rest) if verb == "prepare" else self.decide(*rest)]
         if verb == "find":
             return [f"ok {rest[0]}"]
         if verb == "committed":
@@ -535,7 +355,8 @@ class Model:
         return [f"{tag} {line}\n" for line in lines]
 
     def abort_all(self):
-        self.events += [("abort", t) for t in Seen(self.events).open_ones()]
+        """What is open and isn't prepared is aborted."""
+        self.events += [("abort", t) for t in self.unprepared()]
 
     def opened(self):
         """The file is opened by a service."""
@@ -543,11 +364,17 @@ class Model:
         self.durable, self.life = len(self.events), self.life + 1
 
     def renewed(self):
-        """Another epoch begins."""
+        """Another epoch begins, at the committed states. Who is prepared begins there too, and does its operations again,
+        object by object: at each in the order in which they were done."""
         self.abort_all()
         s = Seen(self.events)
-        self.starts = [self.kept(s, x) for x in range(len(self.objects))]
-        self.events, self.durable, self.life = [], 0, self.life + 1
+        carried = {t: number for number, t in enumerate(s.open_ones())}
+        self.starts = [self.committed(s, x) for x in range(len(self.objects))]
+        self.events = [("begin", t) for t in carried.values()]
+        again = [entry for entry in s.stands if entry[0] in carried]
+        self.events += [("op", carried[t], x, k) for t, x, k in sorted(again, key=lambda entry: entry[1])]
+        self.prepared = [dataclasses.replace(p, number=carried[p.number]) for p in self.prepared]
+        self.durable, self.life = len(self.events), self.life + 1
         self.keys = {key: (replies, 0) for key, (replies, _) in self.keys.items()}
 
     def extended(self, objects, types):

@@ -1,0 +1,246 @@
+"""What tools/kill_serve asks of transactions that are prepared, and what a service then has to say of them.
+
+A vote is a transaction that was asked to be prepared under a key. Threads share the votes. Where a service is killed a vote
+that was asked and not answered is there or not, and so is a decision; the next service says which, and from then on it is
+so for ever.
+"""
+import threading
+
+OBJECTS = ["undo", "undo", "undo", "intentions", "escrow"]
+CALLS = ["inc:1", "dec:1"]
+STEPS = [1, -1]
+FULL = 200
+# The operation that an object excludes while another transaction holds one: of these counters the other one under undo,
+# the same one under intentions. In escrow it depends on the number.
+EXCLUDED = {"undo": [1, 0], "intentions": [0, 1]}
+# How many votes wait for a decision at most, and how many keys of each sort a service is asked for.
+WAITING, MOST = 4, 100
+ENDED = {"commit": "committed", "abort": "aborted"}
+
+
+class Gone(Exception):
+    """The process is gone."""
+
+
+class Wrong(Exception):
+    """An answer that may not come."""
+
+
+class Transaction:
+    """What was asked of a transaction, and what was answered."""
+
+    def __init__(self, operations=()):
+        self.calls, self.replies, self.asked, self.ended = list(operations), list(operations), None, None
+
+
+class Vote:
+    """A transaction that was asked to be prepared: its key, its name, its number in this epoch's history, until when its
+    client waits, whether that was answered, whether others may decide it, which decisions were asked in this life, and the
+    one that was answered."""
+
+    def __init__(self, key, name, t, until):
+        self.key, self.name, self.t, self.until = key, name, t, until
+        self.number, self.is_answered, self.is_offered = int(name.split(".")[1]), False, False
+        self.asked, self.decided = set(), None
+
+
+def events(lines):
+    """Each transaction's operations and its ends, by the history."""
+    there = {}
+    for words in (line.split() for line in lines):
+        if words[0] in ("begin", "op", "commit", "abort"):
+            t = there.setdefault(int(words[2]), ([], []))
+            if words[0] == "op":
+                t[0].append((int(words[3]), int(words[4])))
+            elif words[0] != "begin":
+                t[1].append(words[0])
+    return there
+
+
+def held_at(lines):
+    """At each object the transactions with an operation there, and the operation, in their order."""
+    there = {x: [] for x in range(len(OBJECTS))}
+    for words in (line.split() for line in lines):
+        if words[0] == "op":
+            there[int(words[3])].append((int(words[2]), int(words[4])))
+    return there
+
+
+def counted(states, committed):
+    """The states after the operations of these transactions."""
+    states = list(states)
+    for operations in committed:
+        for x, k in operations:
+            states[x] += STEPS[k]
+    return states
+
+
+class Votes:
+    """All votes: those of which more is to be known, and by the keys of the others what became of them."""
+
+    def __init__(self):
+        self.lock, self.open, self.ended, self.count, self.order = threading.Lock(), [], {}, 0, []
+        self.probed = 0
+
+    def __str__(self):
+        kept = len([vote for vote in self.open if vote.is_answered])
+        return f"{self.count} votes of which {len(self.ended)} are decided and {kept} wait, {self.probed} calls kept out"
+
+    # ---- what clients ask
+
+    def vote(self, service, name, t, source):
+        """A transaction is prepared; now and then by who can't be, before or after."""
+        with self.lock:
+            self.count += 1
+            vote = Vote(f"v:{self.count}", name, t, source.randrange(1 << 32))
+            is_crowded = len([other for other in self.open if other.is_answered]) >= WAITING
+        if source.randrange(16) == 0:
+            self.vote_of_a_ghost(service, vote)
+            return
+        t.asked = "vote"
+        with self.lock:
+            self.open.append(vote)
+        for _ in range(source.choice([1, 1, 1, 2])):
+            expect(service, f"prepare {name} {vote.key} {vote.until}", ["ok"])
+            vote.is_answered = True
+        vote.is_offered = True
+        if is_crowded or source.randrange(3) == 0:
+            self.decide(service, vote, source)
+
+    def vote_of_a_ghost(self, service, vote):
+        """Nobody has the key where it is decided: then nobody is prepared under it."""
+        expect(service, f"decide {vote.key} abort", ["ok"])
+        with self.lock:
+            self.ended[vote.key] = "abort"
+        expect(service, f"prepare {vote.name} {vote.key} {vote.until}", ["refused", "Aborted"])
+        expect(service, f"decide {vote.key} commit", ["refused", "Decided"])
+        vote.t.asked = "abort"
+        expect(service, f"abort {vote.name}", ["ok"])
+        vote.t.ended = "abort"
+
+    def decide_one(self, service, source):
+        """Some vote is decided, or only asked what can't be while nobody decided it."""
+        with self.lock:
+            waiting = [vote for vote in self.open if vote.is_offered]
+        if not waiting:
+            return
+        vote = source.choice(waiting)
+        if source.randrange(2):
+            self.decide(service, vote, source)
+            return
+        # Another may decide it meanwhile.
+        expect(service, f"call {vote.name} 0 inc:1", ["refused", "Prepared"], ["refused", "NotOpen"])
+        expect(service, f"abort {vote.name}", ["refused", "Prepared"], ["refused", "NotOpen"])
+        expect(service, f"outcome {vote.key}", ["prepared"], ["committed"], ["aborted"])
+        expect(service, f"do ={vote.key} 0 inc:1", ["refused", "KeyPrepared"], ["done"], ["refused", "Aborted"])
+
+    def decide(self, service, vote, source):
+        """A vote is decided; another may decide it otherwise, and then one of the two is refused."""
+        how = source.choice(["commit", "commit", "abort"])
+        with self.lock:
+            vote.asked.add(how)
+        answer = expect(service, f"decide {vote.key} {how}", ["ok"], ["refused", "Decided"])
+        came = how if answer == ["ok"] else {"commit": "abort", "abort": "commit"}[how]
+        with self.lock:
+            if came not in vote.asked or vote.decided not in (None, came):
+                raise Wrong(f"{vote.key} is decided as {came}, and {vote.asked} was asked and {vote.decided} answered")
+            self.end(vote, came)
+
+    def end(self, vote, how):
+        """It is known for ever how a vote ended."""
+        vote.decided = vote.t.ended = self.ended[vote.key] = how
+        if vote in self.open:
+            self.open.remove(vote)
+
+    # ---- what is found
+
+    def differences(self, service, lines, source):
+        """What a service says otherwise of who is prepared, and of keys that were decided. It comes first in a life."""
+        told = service.lines("prepared")[:-1]
+        by_key, there = {vote.key: vote for vote in self.open}, events(lines)
+        for words in told:
+            vote = by_key.get(words[0])
+            if vote is None or words != [vote.key, vote.name, str(vote.until)]:
+                yield f"{words} is prepared, which wasn't asked, or is decided"
+            elif there.get(vote.number) != (vote.t.replies, []):
+                yield f"{words} is prepared, and of {vote.t.replies} the history has {there.get(vote.number)}"
+        keys = [words[0] for words in told]
+        if (stayed := [key for key in self.order if key in keys]) != keys[: len(stayed)]:
+            yield f"{keys} are prepared, and these were in the order {self.order}"
+        for vote in list(self.open):
+            if vote.key in keys:
+                vote.is_answered, vote.is_offered, vote.asked = True, True, set()
+            else:
+                yield from self.settled(vote, service.ask(f"outcome {vote.key}"), there.get(vote.number))
+        self.order = keys
+        for key in source.sample(sorted(self.ended), min(len(self.ended), MOST)):
+            if (answer := service.ask(f"outcome {key}")) != [ENDED[self.ended[key]]]:
+                yield f"key {key} is {answer}, and {self.ended[key]} was answered"
+
+    def settled(self, vote, answer, found):
+        """A vote that isn't prepared was decided, or was never prepared."""
+        how = {word: how for how, word in ENDED.items()}.get(answer[0])
+        if how is None and (answer != ["unknown"] or vote.is_answered):
+            yield f"{vote.key} is {answer} and not prepared, and {vote.is_answered and 'ok'} was answered"
+        elif how is not None and (how not in vote.asked or found != (vote.t.replies, [how])):
+            yield f"{vote.key} is {answer} with {found}, and {vote.asked} was asked for {vote.t.replies}"
+        if how is None:
+            self.open.remove(vote)
+            vote.t.ended = "abort"
+        else:
+            self.end(vote, how)
+
+    def may_be_open(self, number):
+        """Whether a transaction of an earlier life may not have ended."""
+        return any(vote.number == number for vote in self.open)
+
+    def differences_of_history(self, there):
+        """What the history says otherwise of votes, where a service was killed."""
+        for vote in self.open:
+            done, ends = there.get(vote.number, ([], []))
+            if vote.is_answered and (done != vote.t.replies or ends not in [[], *[[how] for how in vote.asked]]):
+                yield f"{vote.key} is prepared with {vote.t.replies}, {vote.asked} was asked, and it has {done} {ends}"
+
+    def differences_of_epoch(self, lines):
+        """What a new epoch begins with otherwise than with those that are prepared, in the order of their numbers."""
+        with self.lock:
+            self.open = sorted((vote for vote in self.open if vote.is_answered), key=lambda vote: vote.number)
+        begins = [f"begin 0 {number}" for number in range(len(self.open))]
+        there = events(lines)
+        done = [there.get(number, ([], []))[0] for number in range(len(self.open))]
+        wanted = [sorted(vote.t.replies, key=lambda entry: entry[0]) for vote in self.open]
+        count = len(begins) + sum(map(len, wanted))
+        if lines[: len(begins)] != begins or len(lines) != count or [sorted(d, key=lambda entry: entry[0]) for d in done] != wanted:
+            yield f"{[(vote.key, vote.t.replies) for vote in self.open]} are prepared, and a new epoch has {lines}"
+        for number, vote in enumerate(self.open):
+            vote.number, vote.is_offered, vote.asked = number, True, set()
+            vote.t = Transaction(done[number])
+            vote.t.asked = "vote"
+
+    def carried(self):
+        """The transactions with which an epoch begins, by their numbers."""
+        return {vote.number: vote.t for vote in self.open}
+
+    def keep_out(self, service, lines, states, begun):
+        """Who is prepared keeps out whom it kept out, at the first object of each."""
+        votes, there = {vote.number: vote for vote in self.open}, held_at(lines)
+        seen = counted(states, [vote.t.replies for vote in self.open])
+        for x, kind in enumerate(OBJECTS):
+            held = [(votes[number], k) for number, k in there[x] if number in votes]
+            for k in EXCLUDED.get(kind, []):
+                state = (seen if kind == "undo" else states)[x] + STEPS[k]
+                first = next((vote for vote, other in held if EXCLUDED[kind][other] == k), None)
+                if first and 0 <= state <= FULL:
+                    name, t = begun()
+                    t.asked = "abort"
+                    expect(service, f"call {name} {x} {CALLS[k]}", ["busy", first.name])
+                    expect(service, f"abort {name}", ["ok"])
+                    t.ended, self.probed = "abort", self.probed + 1
+
+
+def expect(service, words, *answers):
+    """What is asked has one of these answers, which comes back."""
+    answer = service.ask(words)
+    if answer not in answers:
+        raise Wrong(f"{words}: {answer}, and not {answers}")
+    return answer
