@@ -16,4 +16,5 @@ pub mod Opened
 pub mod Naming
 pub mod Beside
 pub mod Seen
+pub mod Added
 pub mod Unseen

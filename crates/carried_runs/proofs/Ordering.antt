@@ -4,21 +4,17 @@ use Rattle.std.proofs.lemmas.Bool.{cases_Bool, eqb-true, eq-eqb}
 use Rattle.std.proofs.lemmas.Bool.Decides.{nat_tests}
 use Rattle.std.proofs.lemmas.List.Elements.{filter-append}
 use Rattle.std.proofs.lemmas.Option.{none-some, same_Some, slice_get-map, slice_get_cases}
-use Rattle.type_table.proofs.Elements.{each-weaker, filter-none}
-use Rattle.object_trait.specs.Object.{Object, object_of}
+use Rattle.object_trait.specs.Object.{object_of}
 use Rattle.object_trait.specs.Meaning.{Meaning}
-use Rattle.object_trait.specs.declared.event.Event.{Event}
 use Rattle.object_trait.specs.declared.log_entry.LogEntry.{LogEntry}
 use Rattle.serial_order.specs.Operations.{at_object}
-use Rattle.serial_order.specs.History.{surviving, IsOperation}
-use Rattle.serial_order.specs.Machine.{IsRun}
 use Rattle.serial_order.specs.Represent.{plain}
 use Rattle.serial_order.specs.declared.entry.Entry.{Entry}
-use Rattle.serial_order.proofs.Opens.{operations_in_run}
 use Rattle.committed_states.specs.Committed.{of_these}
 use Rattle.carried_runs.specs.Objects.{objects_meant}
 use Rattle.carried_runs.specs.Carried.{is_carried, carried_of_logs}
 use Rattle.carried_runs.specs.Laws.{LogsTellCarried, LogsTellOrder}
+use Rattle.carried_runs.proofs.Types.{none-there}
 
 -- ---- what the logs tell at an object
 
@@ -74,23 +70,10 @@ logs-at P (n ∷ ms) from (suc x) y m is there =
 
 -- ---- they tell an order
 
--- where no object is, nothing was done
-none-there : (ms : List Meaning) (H : List Event) (x : ℕ) → IsRun (objects_meant ms) H → slice_get ms x ≡ None → at_object x (surviving H) ≡ []
-none-there ms H x going none =
-    filter-none (λ (e : Entry). e.at == x) (surviving H) (each-weaker (λ e operation. elsewhere e operation) (surviving H) (operations_in_run (objects_meant ms) H going))
-  where
-    no-table : slice_get (map (λ (o : Object). o.table) (objects_meant ms)) x ≡ None
-    no-table =
-        slice_get-map (λ (o : Object). o.table) (objects_meant ms) x
-        ∙ ap (option_map (λ (o : Object). o.table)) (slice_get-map object_of (map (λ (m : Meaning). m.checked) ms) x
-        ∙ ap (option_map object_of) (slice_get-map (λ (m : Meaning). m.checked) ms x ∙ ap (option_map (λ (m : Meaning). m.checked)) none))
-
-    elsewhere : (e : Entry) → IsOperation (slice_get (map (λ (o : Object). o.table) (objects_meant ms)) e.at) e.op → (e.at == x) ≡ false
-    elsewhere e operation =
-        elim (cases_Bool (e.at == x)) [
-          | inl here ↦ absurd (rw (eqb-true e.at x here, no-table) at operation)
-          | inr other ↦ other
-        ]
+-- where no object is, none is meant
+none-meant : (ms : List Meaning) (x : ℕ) → slice_get ms x ≡ None → slice_get (objects_meant ms) x ≡ None
+none-meant ms x none =
+    slice_get-map object_of (map (λ (m : Meaning). m.checked) ms) x ∙ ap (option_map object_of) (slice_get-map (λ (m : Meaning). m.checked) ms x ∙ ap (option_map (λ (m : Meaning). m.checked)) none)
 
 pub logs_tell_order : LogsTellCarried → LogsTellOrder
 logs_tell_order tell = λ ms H P going represent once x.
@@ -98,7 +81,7 @@ logs_tell_order tell = λ ms H P going represent once x.
       | inl found ↦
           let m = found.0 in
           logs-at P ms 0 x x m (omega arith) found.2 ∙ tell m x H P (represent x m found.2) once
-      | inr past ↦ logs-behind P 0 x ms (omega (arith, past.0)) ∙ sym (ap (of_these P) (none-there ms H x going past.1))
+      | inr past ↦ logs-behind P 0 x ms (omega (arith, past.0)) ∙ sym (ap (of_these P) (none-there (objects_meant ms) H x going (none-meant ms x past.1)))
     ]
 
 -- ---- orders of the same are equally long

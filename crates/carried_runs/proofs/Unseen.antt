@@ -19,6 +19,7 @@ use Rattle.serial_order.specs.History.{Summary, summary, begins, commits, aborts
 use Rattle.serial_order.specs.Machine.{MayDo, MayFollow, RunsOn, IsRun, AreCovered}
 use Rattle.serial_order.specs.After.{AreInRun, summary_next}
 use Rattle.serial_order.specs.Serial.{surviving_at}
+use Rattle.serial_order.specs.Laws.{AreChecked}
 use Rattle.serial_order.specs.Epochs.{types_at, types_behind}
 use Rattle.serial_order.specs.declared.entry.Entry.{Entry}
 use Rattle.serial_order.proofs.After.{seen_after_one}
@@ -33,6 +34,7 @@ use Rattle.committed_states.proofs.Leaving.{leaving-sorts}
 use Rattle.committed_states.proofs.Fronts.{runs-front, runs-rest}
 use Rattle.carried_runs.specs.Carried.{renumbered, carried_run, carried_summary, AreOpenOnce}
 use Rattle.carried_runs.specs.OldNumbers.{owner_of, named_event, named_events}
+use Rattle.carried_runs.specs.OpenEpochs.{IsOpenEpoch}
 use Rattle.carried_runs.specs.Laws.{RenewalIsUnseen}
 use Rattle.serial_order.proofs.Checked.{checked_covered}
 use Rattle.carried_runs.proofs.Types.{type-there}
@@ -44,6 +46,7 @@ use Rattle.carried_runs.proofs.Carrying.{begins-at}
 use Rattle.carried_runs.proofs.Showing.{carried-summary}
 use Rattle.carried_runs.proofs.Beside.{AreBeside, beside-open, beside-next, after-begin, after-op, after-commit, after-abort, after-rollback, may-rollback}
 use Rattle.carried_runs.proofs.Seen.{may-old}
+use Rattle.carried_runs.proofs.Added.{all-checked, types-at-more, wider, widened}
 
 -- an object of the next epoch, and that of the old one
 pub record IsPair (objects : List Object) (H : List Event) (x : ℕ) (now : Object) : Type 0 where
@@ -198,13 +201,16 @@ module _ (along : RunsAlong) (ends : LegalEnds) (parts : PartsSort Entry) (struc
 
 pub renewal_is_unseen : RunsAlong → RunsAlike → LegalEnds → PartsSort Entry → StruckPart Entry → SortsLook Entry → SortsEqui Entry → FirmAfterApply → FirmAfterCommit → FirmAfterStrike → NothingKeeps → FirmIsLegal → FreshIsFirm
     → FirmIsSafe → SafeIsFirm → FirmKeepsNobody → CheckedIsCovered → AtIsChecked → RenewalIsUnseen
-renewal_is_unseen along alike ends parts struck look equi apply firm_commits strikes nothing firm_legal fresh safe is_firm keeps_nobody covered at = λ types epoch K worker P checked strong ended none once all behind.
-    let H = epoch.history in
-    let kept = epoch.kept in
+renewal_is_unseen along alike ends parts struck look equi apply firm_commits strikes nothing firm_legal fresh safe is_firm keeps_nobody covered at = λ were ending K worker P were_checked strong were_ended once all behind.
+    let H = ending.history in
+    let types = were ++ ending.added in
+    let kept = (widened ending).kept in
+    let checked : AreChecked types = all-checked were ending were_checked were_ended in
+    let ended : IsOpenEpoch types (widened ending) = wider were ending were_checked were_ended covered in
     let objects = map object_of types in
     let news = map object_of (types_at types kept) in
-    let same : types_behind types epoch ≡ types_at types kept = ap (λ added. types_at types kept ++ added) none ∙ append-nil (types_at types kept) in
-    let run : IsRun news (carried_run worker P H ++ K) = subst (λ (ts : List Checked). IsRun (map object_of ts) (carried_run worker P H ++ K)) same behind in
+    let same : types_at types kept ≡ types_behind were ending = types-at-more were ending.added ending.kept were_ended.as_many in
+    let run : IsRun news (carried_run worker P H ++ K) = subst (λ (ts : List Checked). IsRun (map object_of ts) (carried_run worker P H ++ K)) (sym same) behind in
     let are_covered : AreCovered objects = checked_covered covered types checked in
     let pairs : (x : ℕ) (now : Object) → slice_get news x ≡ Some now → IsPair objects H x now = λ x now there.
     let found = found-map object_of (types_at types kept) x now there in

@@ -1,5 +1,5 @@
 -- Statements of laws: of transactions that are carried into the next epoch.
-use Rattle.std.specs.Prelude.{◌≡◌, ◌<◌, ◌≤◌, ℕ, List, [], ◌∷◌, ◌++◌, length, map, filter, true, false, Some, slice_get}
+use Rattle.std.specs.Prelude.{◌≡◌, ◌<◌, ◌≤◌, ℕ, List, ◌∷◌, ◌++◌, length, map, filter, true, false, Some, slice_get}
 use Rattle.std.specs.List.{AllByRecursion}
 use Rattle.type_table.specs.declared.kind.Kind.{Kind}
 use Rattle.table_checker.specs.Checked.{Checked, IsStrong}
@@ -97,11 +97,12 @@ CarriedFits =
     (objects : List Object) (H : List Event) (worker : ℕ → ℕ) (P : List ℕ) (U : List Entry) → IsRun objects H → AreOpenOnce P H → IsCarriedOrder P H U
     → (length (carried_by worker P U) ≤ length H) × (length P ≤ open_count (summary H))
 
--- where each yes is strong and all open transactions are carried, what the next epoch does after what is carried is what the old one might have done
+-- where each yes is strong and all open transactions are carried, what the next epoch does after what is carried is what the old one might have done, had
+-- it had the objects that are added
 abbrev pub RenewalIsUnseen : Type 0
 RenewalIsUnseen =
     (types : List Checked) (e : Epoch) (K : List Event) (worker : ℕ → ℕ) (P : List ℕ) → AreChecked types
-    → ((x : ℕ) (c : Checked) → slice_get types x ≡ Some c → IsStrong c) → IsOpenEpoch types e → e.added ≡ []
+    → ((x : ℕ) (c : Checked) → slice_get (types ++ e.added) x ≡ Some c → IsStrong c) → IsOpenEpoch types e
     → AreOpenOnce P e.history → ((t : ℕ) → is_open (summary e.history) t ≡ true → is_among P t ≡ true)
     → IsRun (map object_of (types_behind types e)) (carried_run worker P e.history ++ K)
-    → IsRun (map object_of types) (e.history ++ named_events (owner_of P (begins e.history)) K)
+    → IsRun (map object_of (types ++ e.added)) (e.history ++ named_events (owner_of P (begins e.history)) K)

@@ -139,7 +139,7 @@ pub fn carried_fits()
 {}
 
 /// Where each yes is strong, a renewal that carries all open transactions is unseen: what the next epoch does,
-/// the old one might have done.
+/// the old one might have done, had it had the objects that are added.
 pub fn renewal_is_unseen()
     ensures { RenewalIsUnseen }
 {

@@ -1,0 +1,4 @@
+pub mod Alike
+pub mod Unseen
+pub mod Stepping
+pub mod Ordered
