@@ -423,8 +423,14 @@ uint32_t colock_follow(colock_store *store, const colock_event *events, size_t e
 
 /* ---- Ends */
 
-/* Begins anew at the states that are kept, with no event and the same limits: transactions count from 0 again.
- * COLOCK_STILL_OPEN, COLOCK_NO_MEMORY. */
+/* Begins anew, with the same limits, so that a store has no end. Where no transaction is open: at the states that are kept,
+ * with no event, and transactions count from 0 again. Where some are, and each yes of the checker is strong (that of
+ * COLOCK_INTENTIONS or COLOCK_ESCROW always is; of COLOCK_UNDO `colock check` says it): all of them go on, and no later
+ * answer can tell it. They get the numbers 0, 1, 2, .. in the order of their old ones, so that a new number is how many of the
+ * open ones had a lower one; who begins later counts on from there. An answer COLOCK_BUSY says the new numbers. The first
+ * events are the begins of those that went on and what they did, but for what they took back, each by the worker that began
+ * its transaction. colock_follow needn't make these again: a store that follows begins anew where the other one does.
+ * COLOCK_STILL_OPEN where one is open and some yes is one-way; COLOCK_NO_MEMORY. */
 uint32_t colock_renew(colock_store *store);
 /* The same with more objects, which come after those that there are, each in its initial state: those of `added`, which
  * was begun and isn't opened. They are taken, whatever it returns but COLOCK_NOT_HELD: `added` is begun without an object

@@ -388,7 +388,7 @@ static void transactions_end(colock_store *s) {
     WANT(colock_kept(s, 0, &n) == COLOCK_OK && n == 1);
     WANT(colock_rollback(s, 3, 0, 1) == COLOCK_OK);
     WANT(colock_kept(s, 0, &n) == COLOCK_OK && n == 0 && colock_kept(s, 2, &n) == COLOCK_NO_OBJECT);
-    WANT(colock_open_count(s, &n) == COLOCK_OK && n == 2 && colock_renew(s) == COLOCK_STILL_OPEN);
+    WANT(colock_open_count(s, &n) == COLOCK_OK && n == 2);
     WANT(colock_commit(s, 3, 0) == COLOCK_OK && colock_commit(s, 3, 0) == COLOCK_NOT_OPEN);
     WANT(colock_abort(s, 4, 1) == COLOCK_OK && colock_abort(s, 4, 1) == COLOCK_NOT_OPEN);
     WANT(begin(s, 5) == 2 && begin(s, 6) == 3 && colock_abort_all(s) == COLOCK_OK);
@@ -563,7 +563,7 @@ static void events_cross_and_are_made_again(void) {
     WANT(colock_events(&store, 0, room, 3, &count) == COLOCK_OK && count == 2);
     WANT(is_event(&room[1], COLOCK_EVENT_OP, 3, 0, 0, 0, 0) && is_event(&room[2], 9, 9, 9, 9, 9, 9));
     WANT(colock_follow(&other, room, 3, &count) == COLOCK_NOT_MADE && count == 2);
-    WANT(colock_renew(&other) == COLOCK_STILL_OPEN);
+    WANT(colock_renew(&other) == COLOCK_OK && colock_kept(&other, 0, &count) == COLOCK_OK && count == 1);
     WANT(colock_store_close(&store) == COLOCK_OK && colock_store_close(&other) == COLOCK_OK && colock_type_close(&counter) == COLOCK_OK);
 }
 

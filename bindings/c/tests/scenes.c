@@ -106,12 +106,12 @@ static const scene SCENES[] = {
      "begin 0 0; begin 0 1; none 0 0 0 2; op 0 0 0 1; busy 0 1 0 2 0; op 0 1 0 0; op 0 0 0 3; abort 0 0; "
      "abort 0 1; ",
      {0}},
-    /* The next epoch begins with both counters up, once no transaction is open. */
-    {{{COLOCK_UNDO, CTR2}, {COLOCK_INTENTIONS, CTR2}}, 8,
-     "1 begin > 0; 1 call 0 0 'inc:1' > op 0; 1 call 0 1 'inc:1' > op 0; 1 commit 0 > ok; 1 begin > 1; 0 count > 5; "
-     "0 renew > StillOpen; 0 count > 5; 1 abort 1 > ok; 0 forget 2 > ok; 0 count > 6; 0 renew > ok; 0 count > 0; "
-     "2 kept 0 > 1; 2 kept 1 > 1; 2 begin > 0; ",
-     "begin 2 0; abort 2 0; ",
+    /* The next epoch begins with both counters up, and one transaction goes on into it. */
+    {{{COLOCK_UNDO, CTR2}, {COLOCK_INTENTIONS, CTR2}}, 9,
+     "1 begin > 0; 1 call 0 0 'inc:1' > op 0; 1 call 0 1 'inc:1' > op 0; 1 commit 0 > ok; 1 begin > 1; 1 begin > 2; "
+     "1 call 2 1 'inc:1' > op 0; 1 abort 1 > ok; 0 forget 2 > ok; 0 count > 8; 0 renew > ok; 0 count > 2; "
+     "2 kept 0 > 1; 2 kept 1 > 1; 2 begin > 1; ",
+     "begin 1 0; op 1 0 1 0; begin 2 1; abort 1 0; abort 2 1; ",
      {1, 1}},
     /* At 3: who takes two and who gives one don't keep one another, and a second take waits for the first. */
     {{{COLOCK_ESCROW, FIVE}}, 1000,

@@ -12,9 +12,11 @@ use library_calls::Code;
 use library_calls::renewals::{extend, renew};
 use std::alloc::Global;
 
-/// Begins an epoch: a store of the same types at the states that were kept, with no event yet and the same
-/// limit. The events of the one before are let go. `NotHeld`, `StillOpen` or `NoMemory`, and the store is as
-/// it was.
+/// Begins an epoch: a store of the same types with the same limits. Where no transaction is open, it is at the states that
+/// were kept, and has no event yet. Else all of them are carried: it begins at the committed states, they begin in it with
+/// the numbers 0, 1, 2, .. in the order of their old ones, and do again what survives of them. The events of the one before
+/// are let go. `NotHeld`, `StillOpen` (a transaction is open, and some yes is one-way) or `NoMemory`, and the store is as it
+/// was.
 #[unsafe(no_mangle)]
 pub extern "C" fn colock_renew(alloc: Global, slot: &mut Slot) -> u32
     ensures renews { (s : Stored) → store_at slot.old.handle.held ≡ Some s → IsRenewal s result slot.new.handle.held }

@@ -1,20 +1,20 @@
 -- Numbers of transactions that are prepared, in their order.
-use Rattle.std.proofs.Common.{◌≡◌, ◌∙◌, ℕ, zero, suc, ◌+◌, ◌<◌, ◌≤◌, ◌==◌, eqb, true, false, List, [], ◌∷◌, ◌++◌, length, map, take, get_or, Ok, Some, slice_get, sym, ap, subst, inl, inr, arith}
-use Rattle.std.specs.List.{AllByRecursion, AllPairs, Contains, dedup, slice_index}
+use Rattle.std.proofs.Common.{◌≡◌, ◌∙◌, ℕ, zero, suc, ◌+◌, ◌<◌, ◌≤◌, ◌==◌, eqb, true, List, [], ◌∷◌, ◌++◌, length, map, take, get_or, Ok, Some, slice_get, ap, subst, inl, inr, arith}
+use Rattle.std.specs.List.{AllByRecursion, AllPairs, dedup, slice_index}
 use Rattle.std.specs.List.Sorted.{IsBinarySearchResult, IsPermutation, IsSorted, IsStrictlyIncreasing}
 use Rattle.std.specs.Option.{option_map}
 use Rattle.std.specs.Ordering.{nat_cmp}
-use Rattle.std.proofs.lemmas.Bool.{cases_Bool, cases_lt, eq-eqb, eqb-true, false≢true}
+use Rattle.std.proofs.lemmas.Bool.{cases_lt, eq-eqb}
 use Rattle.std.proofs.lemmas.List.{map_push}
-use Rattle.std.proofs.lemmas.List.Folds.{Any-from_list_any, list_any_at}
-use Rattle.std.proofs.lemmas.List.Kept.{AllPairs-from_increasing, Contains-dedup_nat, Contains-from_dedup}
-use Rattle.std.proofs.lemmas.List.Sorted.{Contains-permutation, IsPermutation-sym, searched}
-use Rattle.std.proofs.lemmas.Map.Keys.{IsStrictlyIncreasing-dedup}
+use Rattle.std.proofs.lemmas.List.Folds.{list_any_at}
+use Rattle.std.proofs.lemmas.List.Kept.{AllPairs-from_increasing}
+use Rattle.std.proofs.lemmas.List.Sorted.{searched}
 use Rattle.std.proofs.lemmas.Option.{get_or_from_slice_get, slice_get-map, slice_get_within}
 use Rattle.type_table.proofs.Elements.{each-places, take-found}
 use Rattle.object_trait.specs.Orders.{Pairs}
 use Rattle.serial_order.specs.Operations.{is_among}
 use Rattle.journal.specs.declared.prepared_row.Prepared.{Prepared}
+use Rattle.store.proofs.SortedNumbers.{sorted-once}
 use Rattle.durable_store.specs.Held.{AreTheirNumbers, prepared_numbers}
 
 -- ---- ascending numbers
@@ -58,36 +58,11 @@ found-within ns t i rises says =
 
 -- ---- in their order
 
--- one of these is an element
-among-contains : (ns : List ℕ) (t : ℕ) → is_among ns t ≡ true → Contains ns t
-among-contains ns t among =
-    let (k, u, inside, at, is) = Any-from_list_any (λ u. u == t) ns among in
-    subst (Contains ns) (eqb-true u t is) (k, inside, at)
-
-contains-among : (ns : List ℕ) (t : ℕ) → Contains ns t → is_among ns t ≡ true
-contains-among ns t there = list_any_at (λ u. u == t) ns there.0 t there.1 (eq-eqb (get_or ns there.0 t) t there.2)
-
--- two lists with the same elements
-same-among : (A B : List ℕ) → ((t : ℕ) → Contains A t → Contains B t) → ((t : ℕ) → Contains B t → Contains A t) → (t : ℕ) → is_among A t ≡ is_among B t
-same-among A B to from t =
-    elim (cases_Bool (is_among A t)) [
-      | inl mine ↦ mine ∙ sym (contains-among B t (to t (among-contains A t mine)))
-      | inr other ↦ elim (cases_Bool (is_among B t)) [
-        | inl its ↦ absurd (false≢true (sym other ∙ contains-among A t (from t (among-contains B t its))))
-        | inr none ↦ other ∙ sym none
-      ]
-    ]
-
 -- after a sort and a dedup
 pub in-order : (ps : List Prepared) (those sorted now : List ℕ) → those ≡ prepared_numbers ps → IsPermutation those sorted → IsSorted nat_cmp sorted → now ≡ dedup eqb sorted → AreTheirNumbers ps now
-in-order ps those sorted now are moved order is = record {
-  ascend = subst IsStrictlyIncreasing (sym is) (IsStrictlyIncreasing-dedup sorted order);
-  same = λ t.
-      ap (λ ns. is_among ns t) is
-      ∙ same-among (dedup eqb sorted) those (λ u there. Contains-permutation sorted those u (IsPermutation-sym those sorted moved) (Contains-from_dedup eqb sorted u there))
-      (λ u there. Contains-dedup_nat sorted u (Contains-permutation those sorted u moved there)) t
-      ∙ ap (λ ns. is_among ns t) are;
-}
+in-order ps those sorted now are moved order is =
+    let its = sorted-once those sorted now moved order is in
+    record { ascend = its.0; same = λ t. its.1 t ∙ ap (λ ns. is_among ns t) are }
 
 -- ---- each of them
 

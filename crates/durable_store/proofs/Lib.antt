@@ -21,8 +21,8 @@ pub mod PreparedRows
 pub mod GrowthOver
 mod Undecided
 mod Spared
-mod HeldKeys
+pub mod HeldKeys
 mod Gates
 mod Decided
-mod HeldLists
+pub mod HeldLists
 pub mod Resumed

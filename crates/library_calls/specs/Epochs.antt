@@ -2,7 +2,8 @@
 use Rattle.std.specs.Prelude.{◌≡◌, ℕ, List, Option, Some}
 use Rattle.object_trait.specs.Meaning.{Meaning}
 use Rattle.store_laws.specs.Stored.{Stored, types_of}
-use Rattle.store.specs.Renews.{Renews, RefusesRenew, Extends, RefusesExtend}
+use Rattle.store.specs.Renews.{Extends, RefusesExtend}
+use Rattle.store.specs.CarriesAll.{RenewsAll, StaysBehind}
 use Rattle.store.specs.declared.refusals.ExtendRefusal.{ExtendRefusal}
 use Rattle.store.specs.declared.refusals.RenewRefusal.{RenewRefusal}
 use Rattle.library_calls.specs.Codes.{number, extend_code, renew_code}
@@ -10,10 +11,10 @@ use Rattle.library_calls.specs.Holding.{store_at}
 use Rattle.library_calls.specs.declared.code.Code.TheVariants.{Done}
 use Rattle.library_calls.specs.declared.held.Held.{Held}
 
--- it began anew at the states that it kept, or the code of the refusal and the store as it was
+-- it went over into one that begins anew, with all that is open; or the code of the refusal and the store as it was
 pub data IsRenewal (s : Stored) (n : ℕ) (new : Option Held) : Type 0 where
-  renewed : (t : Stored) → n ≡ number Done → Renews s t → store_at new ≡ Some t → IsRenewal s n new
-  not_renewed : (why : RenewRefusal) → n ≡ number (renew_code why) → RefusesRenew s why → store_at new ≡ Some s → IsRenewal s n new
+  renewed : (t : Stored) → n ≡ number Done → RenewsAll s t → store_at new ≡ Some t → IsRenewal s n new
+  not_renewed : (why : RenewRefusal) → n ≡ number (renew_code why) → StaysBehind s why → store_at new ≡ Some s → IsRenewal s n new
 
 -- it began anew at the states that it kept, with these objects after the others, or the code of the refusal and the store as it was
 pub data IsExtension (s : Stored) (ms : List Meaning) (n : ℕ) (new : Option Held) : Type 0 where

@@ -122,13 +122,13 @@ impl Held {
         }
     }
 
-    /// The store that begins anew where this one is; else what there was, and why not.
+    /// The store that begins anew where this one is, with all that is open; else what there was, and why not.
     pub(crate) fn renewed(self, alloc: Global) -> (Held, Code)
         ensures renews { (s : Stored) → store_at (Some self) ≡ Some s → IsRenewal s (number result.1) (Some result.0) }
         ensures no_store { store_at (Some self) ≡ None → (result.1 ≡ Code.NotHeld) × (result.0 ≡ self) }
     {
         match self {
-            Held::OfStore(store) => match store.renew(alloc) {
+            Held::OfStore(store) => match store.renew_unseen(alloc) {
                 Ok((anew, _history)) => (Held::OfStore(anew), Code::Done),
                 Err((kept, refusal)) => (Held::OfStore(kept), renew_code(refusal)),
             },

@@ -12,7 +12,7 @@ use crate::held::Held;
 use std::alloc::Global;
 use std::mem;
 
-/// A store that begins anew, in the place of the one that there was.
+/// A store that begins anew, in the place of the one that there was, with all that is open.
 pub fn renew(alloc: Global, held: &mut Held) -> Code
     ensures renews { (s : Stored) → store_at (Some held.old) ≡ Some s → IsRenewal s (number result) (Some held.new) }
     ensures no_store { store_at (Some held.old) ≡ None → (number result ≡ number Code.NotHeld) × (held.new ≡ held.old) }

@@ -85,21 +85,21 @@ module _ (ms : List Meaning) (rows : List (Option Row)) (H : List Event) (kept :
     -- a new store of these objects at their committed states, and of more objects behind them
     module _ (now more : List Meaning) (all : AreRenewed committed_of ms now) (new : Stored) (checked : AreChecked new.types) (made : new ≡ stored (types_of (now ++ more)) [] limits 0) where
       -- the states at which it begins
-      its : AreKept committed_of ms now
+      abbrev its : AreKept committed_of ms now
       its = kept-of committed_of ms now all
 
       -- its types are those at these states, and then those of what is added
       abbrev begins-with : List Checked
       begins-with = types_at (types_of ms) its.kept ++ types_of more
 
-      are-types : types_of (now ++ more) ≡ begins-with
+      pub are-types : types_of (now ++ more) ≡ begins-with
       are-types = map-append (λ (m : Meaning). m.checked) now more ∙ ap (λ ts. ts ++ types_of more) its.types
 
       -- the history and the committed states are an open epoch
       abbrev ended : Epoch
       ended = record { history = H; kept = its.kept; added = types_of more }
 
-      open-epoch : IsOpenEpoch (types_of ms) ended
+      pub open-epoch : IsOpenEpoch (types_of ms) ended
       open-epoch =
           record {
             run = kept.run;

@@ -22,6 +22,9 @@ pub mod OneAnswer
 pub mod Renewals
 pub mod Ascending
 pub mod CarriedEpochs
+pub mod CarriedAll
+pub mod SortedNumbers
+pub mod StrongTypes
 pub mod DoneAgain
 pub mod SerialRenewals
 pub mod Follows

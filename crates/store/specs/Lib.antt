@@ -9,6 +9,8 @@ pub mod CommittedStates
 pub mod Peeks
 pub mod Renews
 pub mod Carries
+pub mod CarriesAll
+pub mod HeldAt
 pub mod Renewals
 pub mod Follows
 pub mod Replays

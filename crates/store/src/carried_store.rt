@@ -173,7 +173,7 @@ impl<R: Recovery> Store<R> {
     /// # Errors
     ///
     /// Memory was refused.
-    fn redone(mut self, events: &[Event]) -> Result<Store<R>, AllocError>
+    pub(crate) fn redone(mut self, events: &[Event]) -> Result<Store<R>, AllocError>
         requires run { IsRun (objects self) events.now }
         requires works { AllByRecursion (λ e. begins_or_works e.kind ≡ true) events.now }
         requires new { self.history ≡ [] }

@@ -10,6 +10,7 @@ mod current_answer;
 mod event_replay;
 mod event_retrace;
 mod execution;
+mod held_objects;
 mod held_parts;
 mod laws;
 mod past;
@@ -18,6 +19,8 @@ mod refusals;
 mod renewed_objects;
 mod room;
 mod store;
+mod strong_types;
+mod unseen_renewal;
 mod whole_call;
 
 pub use committed::Snapshot;

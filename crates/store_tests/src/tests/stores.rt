@@ -9,6 +9,7 @@ mod made;
 mod run_scripts;
 pub mod scripts;
 mod shared;
+mod unseen;
 mod whole_transactions;
 
 use crate::tests::checked_types::{Sort, checked_of};

@@ -13,7 +13,7 @@ use test_support::type_texts::{COUNTER, SEMIQUEUE};
 use type_table::Kind;
 
 /// One for each kind of recovery.
-static SORTS: [Sort; 3] = [
+pub static SORTS: [Sort; 3] = [
     (Kind::Undo, SEMIQUEUE),
     (Kind::Intentions, COUNTER),
     (Kind::Escrow, COUNTER),
@@ -21,7 +21,7 @@ static SORTS: [Sort; 3] = [
 
 /// 0 puts an a and a b, counts both counters up, and commits. 1 takes the a, so 2 takes the b, and 3 is done at the last
 /// object before 2 is.
-static ROWS: [Row; 15] = [
+pub static ROWS: [Row; 15] = [
     (1, Ask::Begin(0)),
     (1, Ask::Call(0, 0, "enq:a", Told::Operation(0))),
     (1, Ask::Call(0, 0, "enq:b", Told::Operation(1))),
