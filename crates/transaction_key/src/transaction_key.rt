@@ -16,19 +16,21 @@ use std::marker::Model;
 #[derive(Clone, Copy)]
 pub struct TransactionKey {
     name: ObjectName,
+    // Its digest is computed once: a store that is asked under a key compares it with the places of many.
+    place: u64,
 }
 
 impl Model for TransactionKey {
-    ghost use Rattle.std.specs.Prelude.{◌≡◌, ℕ, List, true};
-    ghost use Rattle.transaction_key.specs.TransactionKey.{is_transaction_key};
+    ghost use Rattle.std.specs.Prelude.{◌≡◌, ◌<◌, ◌^◌, ℕ, List, true};
+    ghost use Rattle.transaction_key.specs.TransactionKey.{is_transaction_key, key_place};
 
     ghost Value = { List ℕ };
 
     ghost view = { λ k. k.name };
 
-    ghost invariant = { λ k. is_transaction_key k.name ≡ true };
+    ghost invariant = { λ k. (is_transaction_key k.name ≡ true) × (k.place ≡ key_place k.name) × (k.place < 2 ^ 62) };
 
-    ghost inverse = { λ w. record { name = w } };
+    ghost inverse = { λ w. record { name = w; place = key_place w } };
 }
 
 impl TransactionKey {
@@ -41,7 +43,8 @@ impl TransactionKey {
         if bytes.contains(&b'/') {
             return None;
         }
-        Some(TransactionKey { name })
+        let place = place_of(bytes);
+        Some(TransactionKey { name, place })
     }
 
     /// The bytes of the key, and what is known of each key.
@@ -53,13 +56,11 @@ impl TransactionKey {
     }
 
     /// The number of the row that says what became of its transaction: the first 62 bits of the key's SHA-256.
-    #[tactic(auto, unfolding(crate::specs::TransactionKey::key_place))]
     pub fn place(&self) -> u64
         ensures exact { result ≡ key_place self.now }
         ensures short { result < 2 ^ 62 }
     {
-        let digest = Sha256::digest(self.as_bytes());
-        first_eight(&digest) / 4
+        self.place
     }
 }
 
@@ -76,6 +77,16 @@ impl PartialEq for TransactionKey {
 
 impl Eq for TransactionKey {
     ghost laws = { nat_list_eq_equiv };
+}
+
+/// The first 62 bits of the SHA-256 of these bytes.
+#[tactic(auto, unfolding(crate::specs::TransactionKey::key_place))]
+fn place_of(bytes: &[u8]) -> u64
+    ensures exact { result ≡ key_place bytes.now }
+    ensures short { result < 2 ^ 62 }
+{
+    let digest = Sha256::digest(bytes);
+    first_eight(&digest) / 4
 }
 
 /// The first eight bytes of a digest as a number, the highest byte first.
