@@ -43,7 +43,8 @@ pub enum Error {
     NoCall,
     /// As many transactions are open as may be: 1,024, or what its [`Limits`](crate::Limits) say.
     TooManyOpen,
-    /// The history has no room for the event, and for the end of each open transaction.
+    /// The history has no room for the event, and for the end of each open transaction. A store in memory whose events are forgotten goes
+    /// on ([`Store::forget_when_full`](crate::Store::forget_when_full)).
     HistoryFull,
     /// Memory was refused.
     NoMemory,

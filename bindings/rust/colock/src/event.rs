@@ -74,16 +74,18 @@ pub enum Event {
 }
 
 impl Event {
-    /// The event of these words, or the number that is unknown.
-    pub(crate) fn of(words: &sys::Event) -> Result<Event, u64> {
+    /// The event of these words, with the numbers of its transactions out of those that the library gave them; or the number that is
+    /// unknown.
+    pub(crate) fn of(words: &sys::Event, number: impl Fn(u64) -> u64) -> Result<Event, u64> {
         let sys::Event { transaction, other, op, object, kind, worker, .. } = *words;
+        let transaction = number(transaction);
         let worker = u8::try_from(worker).map_err(|_| u64::from(worker))?;
         let operation = || OperationId::try_from(op).map_err(|_| op);
         let call = || u8::try_from(op).map_err(|_| op);
         Ok(match kind {
             0 => Event::Begin { worker, transaction },
             1 => Event::Operation { worker, transaction, object, operation: operation()? },
-            2 => Event::Busy { worker, transaction, object, call: call()?, blocker: other },
+            2 => Event::Busy { worker, transaction, object, call: call()?, blocker: number(other) },
             3 => Event::None { worker, transaction, object, call: call()? },
             4 => Event::Commit { worker, transaction },
             5 => Event::Abort { worker, transaction },
@@ -113,12 +115,16 @@ impl Event {
         }
     }
 
-    pub(crate) fn words(self) -> sys::Event {
-        let words = |kind, worker: u8, transaction, object, op, other| sys::Event { transaction, other, op, object, kind, worker: worker.into(), reserved: 0 };
+    /// Its words, with the numbers of its transactions in the library.
+    pub(crate) fn words(self, in_library: impl Fn(u64) -> u64) -> sys::Event {
+        let words = |kind, worker: u8, transaction, object, op, other| {
+            let (transaction, worker) = (in_library(transaction), worker.into());
+            sys::Event { transaction, other, op, object, kind, worker, reserved: 0 }
+        };
         match self {
             Event::Begin { worker, transaction } => words(0, worker, transaction, 0, 0, 0),
             Event::Operation { worker, transaction, object, operation } => words(1, worker, transaction, object, operation.into(), 0),
-            Event::Busy { worker, transaction, object, call, blocker } => words(2, worker, transaction, object, call.into(), blocker),
+            Event::Busy { worker, transaction, object, call, blocker } => words(2, worker, transaction, object, call.into(), in_library(blocker)),
             Event::None { worker, transaction, object, call } => words(3, worker, transaction, object, call.into(), 0),
             Event::Commit { worker, transaction } => words(4, worker, transaction, 0, 0, 0),
             Event::Abort { worker, transaction } => words(5, worker, transaction, 0, 0, 0),

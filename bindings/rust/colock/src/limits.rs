@@ -12,7 +12,8 @@
 #[derive(Clone, Copy, Debug, PartialEq, Eq, Hash)]
 // it may be built by its fields, so it isn't `non_exhaustive`
 pub struct Limits {
-    /// The events of its history, 2 to 4,294,967,295, those that were forgotten among them.
+    /// The events of its history, 2 to 4,294,967,295, those that were forgotten among them: then it is full, or begins anew
+    /// ([`Store::forget_when_full`](crate::Store::forget_when_full)).
     pub events: u64,
     /// The transactions that are open at once, 1 to 65,536.
     pub open: u32,

@@ -1,6 +1,6 @@
 use crate::error::Error;
 use crate::operation_id::OperationId;
-use crate::transaction_id::TransactionId;
+use crate::transaction_id::{Sight, TransactionId};
 use crate::types::calls::Calls;
 use crate::word::Word;
 use std::fmt;
@@ -68,25 +68,25 @@ impl Reply {
     #[allow(non_upper_case_globals)]
     pub const None: Reply = Reply::Illegal;
 
-    /// An outcome in words. Whoever is in the way is told as it is seen in the life of the caller.
+    /// An outcome in words.
     #[inline(always)]
-    pub(crate) fn of(outcome: Outcome, calls: &Calls, life: u64) -> Result<Reply, Error> {
+    pub(crate) fn of(outcome: Outcome, calls: &Calls, sight: Sight) -> Result<Reply, Error> {
         match outcome {
             Outcome::Operation(id) => match calls.in_words(id) {
                 Some(operation) => Ok(Reply::Operation(operation)),
                 None => Err(Error::Unknown(id.into())),
             },
-            Outcome::Busy { blocker } => Ok(Reply::Busy { blocker: TransactionId::of_seen(blocker, life) }),
+            Outcome::Busy { blocker } => Ok(Reply::Busy { blocker: sight.id(blocker) }),
             Outcome::Illegal => Ok(Reply::Illegal),
         }
     }
 
     /// The operation of an outcome that has this reply. Its words are made only where it has another one.
     #[inline]
-    pub(crate) fn expected_of(outcome: Outcome, calls: &Calls, life: u64, reply: &str) -> Result<OperationId, Error> {
+    pub(crate) fn expected_of(outcome: Outcome, calls: &Calls, sight: Sight, reply: &str) -> Result<OperationId, Error> {
         match outcome {
             Outcome::Operation(id) if calls.replies(id, reply) => Ok(id),
-            other => Reply::of(other, calls, life)?.expected(reply),
+            other => Reply::of(other, calls, sight)?.expected(reply),
         }
     }
 

@@ -25,7 +25,7 @@ use crate::reply::{Outcome, Reply};
 use crate::shared::in_turn::InTurn;
 use crate::shared::state::{Held, State, Ticket};
 use crate::shared::transaction::{OwnedTransaction, SharedTransaction};
-use crate::transaction_id::TransactionId;
+use crate::transaction_id::{Sight, TransactionId};
 use crate::types::calls::Calls;
 use crate::wire::remote::{Remote, RemoteState};
 use std::fmt;
@@ -72,8 +72,8 @@ pub(crate) enum Lock {
 }
 
 impl SharedStore {
-    /// A store in memory, of these objects. Its history will have at most `max_events` events; the other limits are
-    /// [`Limits::STANDARD`]. An object is given as its type, or as a pair of a name and its type ([`NewObject`]).
+    /// A store in memory, of these objects. Its history will have at most `max_events` events, until it begins anew
+    /// ([`SharedStore::forget_when_full`]); the other limits are [`Limits::STANDARD`]. An object is given as its type, or as a pair of a name and its type ([`NewObject`]).
     ///
     /// ```
     /// use colock::{Kind, SharedStore, Type};
@@ -219,7 +219,17 @@ impl SharedStore {
     /// What was answered to a transaction of this life, with its words.
     #[inline]
     pub(crate) fn in_words(&self, object: u32, outcome: Outcome, life: u64) -> Result<Reply, Error> {
-        Reply::of(outcome, self.calls_at(object)?, life)
+        Reply::of(outcome, self.calls_at(object)?, self.sight(life))
+    }
+
+    /// How the transactions are seen that answers of this life tell.
+    #[inline]
+    pub(crate) fn sight(&self, life: u64) -> Sight {
+        if self.remote.is_some() {
+            Sight::OverChild(life)
+        } else {
+            Sight::InMemory(life)
+        }
     }
 
     // ---- transactions

@@ -2,7 +2,7 @@ use crate::error::Error;
 use std::fmt;
 use std::str::FromStr;
 
-/// How many numbers a life has: those of its transactions are below.
+/// How many numbers a life over a child has: those of its transactions are below.
 const NUMBERS: u64 = 1 << 32;
 
 /// The numbers of attempts that wait are from this one on: no transaction is seen by one.
@@ -11,7 +11,8 @@ pub(crate) const ATTEMPTS: u64 = 1 << 63;
 /// The name of a transaction: the life of the store in which it began, and its number there. It is displayed as `S.N`, and
 /// read of that.
 ///
-/// In a file each opening is a life, and each epoch. In memory a life ends where the store begins anew, and they count from 0.
+/// In a file each opening is a life, and each epoch. In memory a life ends where the store begins anew while nobody is open, and they
+/// count from 0; where it begins anew by itself, or others go on, they count on.
 ///
 /// ```
 /// use colock::{Error, Kind, SharedStore, TransactionId, Type};
@@ -29,7 +30,7 @@ pub(crate) const ATTEMPTS: u64 = 1 << 63;
 pub struct TransactionId {
     /// The life of the store in which it began.
     pub life: u64,
-    /// How many transactions began before it in the epoch, by which events tell it.
+    /// How many transactions began before it in the life, or in its epoch, by which events tell it.
     pub number: u64,
 }
 
@@ -39,7 +40,7 @@ impl TransactionId {
         TransactionId { life, number }
     }
 
-    /// It in one number, as it is seen in a life: its own number there, and one that nobody has there of another life.
+    /// It in one number, as it is seen in a life over a child: its own number there, and one that nobody has there of another life.
     #[inline]
     pub(crate) fn seen_in(self, life: u64) -> u64 {
         if self.life == life {
@@ -48,7 +49,7 @@ impl TransactionId {
         (self.life.wrapping_add(1) % (ATTEMPTS / NUMBERS)) * NUMBERS + self.number % NUMBERS
     }
 
-    /// That of a number as it is seen in a life, or of the number of an attempt.
+    /// That of a number as it is seen in a life over a child, or of the number of an attempt.
     #[inline]
     pub(crate) fn of_seen(seen: u64, life: u64) -> TransactionId {
         match seen {
@@ -60,6 +61,26 @@ impl TransactionId {
     /// Whether a number as it is seen in a life is that of a transaction of it.
     pub(crate) fn is_own(seen: u64) -> bool {
         seen < NUMBERS
+    }
+}
+
+/// How the transactions are seen that answers of a life tell by their numbers.
+#[derive(Clone, Copy, Debug)]
+pub(crate) enum Sight {
+    /// All are of this life, which has as many numbers as it needs.
+    InMemory(u64),
+    /// As of [`TransactionId::seen_in`] this life.
+    OverChild(u64),
+}
+
+impl Sight {
+    /// The id of a number.
+    #[inline]
+    pub(crate) fn id(self, seen: u64) -> TransactionId {
+        match self {
+            Sight::InMemory(life) => TransactionId { life, number: seen },
+            Sight::OverChild(life) => TransactionId::of_seen(seen, life),
+        }
     }
 }
 
@@ -93,7 +114,7 @@ pub(crate) fn decimal(text: &str) -> Option<u64> {
 
 #[cfg(test)]
 mod tests {
-    use super::{TransactionId, ATTEMPTS};
+    use super::{Sight, TransactionId, ATTEMPTS};
     use crate::Error;
 
     /// Of a life its own numbers, and of all others such as nobody has there.
@@ -109,6 +130,14 @@ mod tests {
             assert!(seen.windows(2).all(|two| two[0] < two[1]), "{seen:?}");
         }
         assert_eq!(TransactionId::of_seen(ATTEMPTS + 3, 5), TransactionId::new(5, ATTEMPTS + 3));
+    }
+
+    /// In memory a life may have more numbers than over a child.
+    #[test]
+    fn sights_differ_beyond_a_life_of_a_child() {
+        let seen = 9 * (1 << 32) + 7;
+        assert_eq!((Sight::InMemory(5).id(seen), Sight::OverChild(5).id(seen)), (TransactionId::new(5, seen), TransactionId::new(8, 7)));
+        assert_eq!((Sight::InMemory(5).id(7), Sight::OverChild(5).id(7)), (TransactionId::new(5, 7), TransactionId::new(5, 7)));
     }
 
     #[test]

@@ -250,8 +250,9 @@ fn what_has_ended_is_not_open() {
     drop(store.resume(id).unwrap()); // aborts nothing
     assert_eq!(store.event_count(), 2);
     assert_eq!(counters(1, 9).resume(id).err(), Some(Error::NotOpen)); // another store's
-    store.begin().unwrap().leave();
-    assert_eq!(store.renew(), Err(Error::StillOpen));
+    let open = store.begin().unwrap().leave();
+    store.renew().unwrap(); // what is open goes on
+    assert_eq!((store.resume(open).unwrap().leave(), store.resume(id).unwrap().commit()), (open, Err(Error::NotOpen)));
     store.abort_all();
     store.renew().unwrap();
     let _new = store.begin().unwrap().leave();

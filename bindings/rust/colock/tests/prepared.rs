@@ -386,11 +386,12 @@ fn a_store_that_is_closed_decides_nothing(make: Make) {
 // ---- in memory alone
 
 #[test]
-fn a_store_in_memory_doesnt_begin_anew_meanwhile() {
+fn it_goes_on_where_a_store_in_memory_begins_anew() {
     let of = counter();
     let store = in_memory(&[&of]);
     prepared_under(&store, "a").unwrap();
-    assert_eq!((store.renew(), store.extend([&of])), (Err(Error::StillOpen), Err(Error::StillOpen)));
+    assert_eq!((store.renew(), store.extend([&of])), (Ok(()), Err(Error::StillOpen)));
+    assert_eq!((store.open_count(), store.outcome("a"), store.event_count(), store.forgotten_count()), (Ok(1), Ok(KeyOutcome::Prepared), Ok(2), Ok(2)));
     store.decide("a", Decision::Commit).unwrap();
     assert_eq!((store.renew(), store.extend([&of]), store.outcome("a"), store.kept(0)), (Ok(()), Ok(1), committed(), Ok(1)));
 }

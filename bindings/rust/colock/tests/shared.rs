@@ -436,7 +436,6 @@ fn what_only_a_store_in_memory_does() {
     let store = common::in_memory(&[&counter()]);
     let mut t = store.begin_as(7).unwrap();
     assert_eq!(t.call(0, "inc:1").told(), Ok(Told::Operation(0.into())));
-    assert_eq!(store.renew(), Err(Error::StillOpen));
     store.abort_all().unwrap();
     assert_eq!((t.call(0, "inc:1"), t.rollback(1)), (Err(Error::NotOpen), Err(Error::NotOpen)));
     assert_eq!(lines(&store, 0), ["begin 7 0", "op 7 0 0 0", "abort 7 0"]);

@@ -11,6 +11,7 @@ use crate::operation_id::OperationId;
 use crate::reply::Reply;
 use crate::transaction_id::TransactionId;
 use colock_sys as sys;
+use std::cell::Cell;
 
 impl Store {
     /// A whole transaction in one call: it begins, makes these calls in their order, and commits; or aborts at the first that
@@ -97,22 +98,14 @@ impl Store {
     /// What the library says of an attempt of calls at these objects. There is a room for an operation of each.
     #[inline]
     fn attempted(&self, worker: u8, objects: &[u32], calls: &[u64], operations: &mut [u64]) -> Result<sys::Outcome, Error> {
-        let mut outcome = sys::Outcome::default();
+        let (at, outcome) = (self.handle().at(), Cell::new(sys::Outcome::default()));
+        let (objects_at, calls_at, room_at) = (objects.as_ptr(), calls.as_ptr(), operations.as_mut_ptr());
+        let counts = (objects.len(), calls.len(), operations.len());
         // SAFETY: a handle as `Handle::at` says; the objects, the calls and the operations are a slice each.
-        done(unsafe {
-            sys::colock_attempt_op(
-                self.handle().at(),
-                worker,
-                objects.as_ptr(),
-                objects.len(),
-                calls.as_ptr(),
-                calls.len(),
-                operations.as_mut_ptr(),
-                operations.len(),
-                &mut outcome,
-            )
-        })?;
-        Ok(outcome)
+        let attempt = || unsafe { sys::colock_attempt_op(at, worker, objects_at, counts.0, calls_at, counts.1, room_at, counts.2, outcome.as_ptr()) };
+        done(self.in_room(attempt))?;
+        self.epoch().have_begun(1);
+        Ok(outcome.get())
     }
 
     /// How a call ended an attempt; nothing where it is done. Whoever is in the way is of the present life.
@@ -120,7 +113,7 @@ impl Store {
     fn how_ended(&self, outcome: &sys::Outcome) -> Result<Option<Ending>, Error> {
         match outcome.kind {
             0 => Ok(None),
-            1 => Ok(Some(Ending::Busy { blocker: TransactionId::new(self.life(), outcome.number) })),
+            1 => Ok(Some(Ending::Busy { blocker: TransactionId::new(self.life(), self.epoch().number(outcome.number)) })),
             2 => Ok(Some(Ending::Illegal)),
             3 => refusal(outcome.number).map(|error| Some(Ending::Refused(error))),
             kind => Err(Error::Unknown(kind)),

@@ -10,9 +10,10 @@ use crate::moment::{Moment, Seen};
 use crate::object::ObjectRef;
 use crate::reply::{Operation, Outcome};
 use colock_sys as sys;
+use std::cell::Cell;
 
 impl Store {
-    /// The present moment: how many transactions have committed since the store began, or began anew.
+    /// The present moment: how many transactions have committed since the store began, or began anew while nobody was open.
     ///
     /// ```
     /// # use colock::{Kind, Moment, Store, Type};
@@ -27,7 +28,12 @@ impl Store {
         let mut commits = 0;
         // SAFETY: a handle as `Handle::at` says, as in all below. It holds a store, of which this is always known.
         unsafe { sys::colock_commit_count(self.handle().at(), &mut commits) };
-        Moment::new(self.life(), commits)
+        self.moment_of(commits)
+    }
+
+    /// The moment at which so many transactions have committed in the present epoch of the library.
+    fn moment_of(&self, commits: u64) -> Moment {
+        Moment::new(self.life(), self.epoch().before().commits + commits)
     }
 
     /// What calls would be answered to a transaction that only reads what is committed, all of them at one moment. A call is
@@ -71,9 +77,9 @@ impl Store {
     }
 
     fn peeked(&self, object: u32, name: &str) -> Result<Outcome, Error> {
-        let mut commits = 0;
+        let commits = Cell::new(0);
         // SAFETY: `answered` gives an answer of its own; the name is one slice.
-        answered(|answer| unsafe { sys::colock_peek(self.handle().at(), object, name.as_ptr(), name.len(), answer, &mut commits) })
+        answered(self, |answer| unsafe { sys::colock_peek(self.handle().at(), object, name.as_ptr(), name.len(), answer, commits.as_ptr()) })
     }
 
     /// The committed states of objects, all of them at one moment. The numbers are those of the type's states. Of
@@ -125,6 +131,6 @@ impl Store {
         let (mut states, mut commits) = (room_of(self.types().len())?, 0);
         // SAFETY: as in `moment`; the states are one slice.
         done(unsafe { sys::colock_snapshot(self.handle().at(), states.as_mut_ptr(), states.len(), &mut commits) })?;
-        Ok(Seen { at: Moment::new(self.life(), commits), value: states })
+        Ok(Seen { at: self.moment_of(commits), value: states })
     }
 }

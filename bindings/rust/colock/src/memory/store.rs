@@ -1,6 +1,8 @@
 use crate::error::{Error, NotFollowed};
 use crate::event::Event;
+use crate::few::room_of;
 use crate::limits::Limits;
+use crate::memory::epoch::Epoch;
 use crate::memory::handle::{done, Handle};
 use crate::memory::transaction::{LeftOpen, Transaction};
 use crate::object::{NewObject, Object, ObjectRef};
@@ -9,6 +11,7 @@ use crate::operation_id::OperationId;
 use crate::types::calls::Calls;
 use crate::types::Type;
 use colock_sys as sys;
+use std::cell::Cell;
 use std::fmt;
 use std::sync::atomic::{AtomicU64, Ordering};
 use std::sync::Arc;
@@ -16,10 +19,17 @@ use std::sync::Arc;
 /// A store of objects. Where it is dropped, what is open aborts.
 pub struct Store {
     handle: Handle,
-    /// That of no other store, nor of this one before it began anew: it is a mark of what is left open.
+    /// That of no other store, nor of this one in an earlier life: it is a mark of what is left open.
     mark: u64,
-    /// How often it began anew.
+    /// How often it began anew while nobody was open.
     life: u64,
+    epoch: Epoch,
+    /// Whether it forgets its events where its history is full.
+    forgets: Cell<bool>,
+    /// Whether the library has said that some yes is one-way.
+    is_one_way: Cell<bool>,
+    /// Its limit of events.
+    most_events: u64,
     /// Of each object.
     types: Vec<Type>,
     /// The same, with their names; a shared store has it too.
@@ -27,9 +37,9 @@ pub struct Store {
 }
 
 /// How many events there were, and how many of them were forgotten.
-struct Counts {
-    all: u64,
-    forgotten: u64,
+pub(crate) struct Counts {
+    pub(crate) all: u64,
+    pub(crate) forgotten: u64,
 }
 
 fn next_mark() -> u64 {
@@ -39,7 +49,8 @@ fn next_mark() -> u64 {
 
 impl Store {
     /// A store of these objects, each in the initial state of its type. Its history will have at most `max_events` events,
-    /// those that were forgotten among them; the other limits are [`Limits::STANDARD`].
+    /// those that were forgotten among them, until it begins anew ([`Store::forget_when_full`]); the other limits are
+    /// [`Limits::STANDARD`].
     ///
     /// An object is given as its type, or as a pair of a name and its type ([`NewObject`]).
     ///
@@ -90,7 +101,9 @@ impl Store {
         done(unsafe { sys::colock_store_open_with(handle.at(), limits.events, limits.open, limits.objects) })?;
         let types = first.iter().map(|known| known.of().clone()).collect();
         let most = usize::try_from(limits.objects).unwrap_or(usize::MAX);
-        Ok(Store { handle, mark: next_mark(), life: 0, types, objects: Arc::new(Objects::of(first, most)) })
+        let (epoch, forgets, is_one_way, most_events) = (Epoch::default(), Cell::new(false), Cell::new(false), limits.events);
+        let objects = Arc::new(Objects::of(first, most));
+        Ok(Store { handle, mark: next_mark(), life: 0, epoch, forgets, is_one_way, most_events, types, objects })
     }
 
     #[inline]
@@ -102,10 +115,27 @@ impl Store {
         self.mark
     }
 
-    /// How often it began anew.
+    /// How often it began anew while nobody was open.
     #[inline]
     pub(crate) fn life(&self) -> u64 {
         self.life
+    }
+
+    #[inline]
+    pub(crate) fn epoch(&self) -> &Epoch {
+        &self.epoch
+    }
+
+    pub(crate) fn forgets(&self) -> &Cell<bool> {
+        &self.forgets
+    }
+
+    pub(crate) fn is_one_way(&self) -> &Cell<bool> {
+        &self.is_one_way
+    }
+
+    pub(crate) fn most_events(&self) -> u64 {
+        self.most_events
     }
 
     /// The types of its objects, in the order of the objects.
@@ -200,7 +230,8 @@ impl Store {
     ///
     /// # Errors
     ///
-    /// [`Error::TooManyOpen`], [`Error::HistoryFull`] or [`Error::NoMemory`].
+    /// [`Error::TooManyOpen`], [`Error::NoMemory`], or [`Error::HistoryFull`] where events are kept
+    /// ([`Store::forget_when_full`]).
     pub fn begin(&self) -> Result<Transaction<'_>, Error> {
         self.begin_as(0)
     }
@@ -220,10 +251,11 @@ impl Store {
     /// As of [`Store::begin`].
     #[inline]
     pub fn begin_as(&self, worker: u8) -> Result<Transaction<'_>, Error> {
-        let mut number = 0;
-        // SAFETY: as in `new`.
-        done(unsafe { sys::colock_begin(self.handle.at(), worker, &mut number) })?;
-        Ok(Transaction::of(self, worker, number))
+        let begun = Cell::new(0);
+        // SAFETY: as in `new`; the cell is this call's own.
+        done(self.in_room(|| unsafe { sys::colock_begin(self.handle.at(), worker, begun.as_ptr()) }))?;
+        self.epoch.has_begun(begun.get());
+        Ok(Transaction::of(self, worker, self.epoch.number(begun.get())))
     }
 
     /// Takes up a transaction of this store that was left open.
@@ -234,15 +266,15 @@ impl Store {
     /// let left = store.begin()?.leave();
     /// store.resume(left)?.commit()?;
     /// assert_eq!(store.resume(left)?.commit(), Err(Error::NotOpen));
-    /// store.renew()?;
+    /// store.renew()?; // while nobody is open
     /// assert_eq!(store.resume(left).err(), Some(Error::NotOpen));
     /// # Ok::<(), Error>(())
     /// ```
     ///
     /// # Errors
     ///
-    /// [`Error::NotOpen`] where it is another store's, or this one began anew since. Where it has ended, its calls
-    /// say so.
+    /// [`Error::NotOpen`] where it is another store's, or this one began anew since while nobody was open. Where it has ended,
+    /// its calls say so.
     pub fn resume(&self, left: LeftOpen) -> Result<Transaction<'_>, Error> {
         if left.mark != self.mark {
             return Err(Error::NotOpen);
@@ -338,16 +370,15 @@ impl Store {
     ///
     /// [`Error::Forgotten`] where `from` is below [`Store::forgotten_count`].
     pub fn events(&self, from: u64) -> Result<Vec<Event>, Error> {
-        let count = usize::try_from(self.event_count().saturating_sub(from)).map_err(|_| Error::NoMemory)?;
-        let mut room = Vec::new();
-        // before the library is asked, which knows whether they were forgotten
-        let places = if from < self.forgotten_count() { 0 } else { count };
-        room.try_reserve_exact(places).map_err(|_| Error::NoMemory)?;
-        room.resize(places, sys::Event::default());
-        let mut copied = 0;
+        let Counts { all, forgotten } = self.counts();
+        if from < forgotten {
+            return Err(Error::Forgotten);
+        }
+        let mut room = room_of(usize::try_from(all.saturating_sub(from)).map_err(|_| Error::NoMemory)?)?;
+        let (in_library, mut copied) = (from - self.epoch.before().events, 0);
         // SAFETY: as in `new`; the room is one slice.
-        done(unsafe { sys::colock_events(self.handle.at(), from, room.as_mut_ptr(), room.len(), &mut copied) })?;
-        room.iter().map(|words| Event::of(words).map_err(Error::Unknown)).collect()
+        done(unsafe { sys::colock_events(self.handle.at(), in_library, room.as_mut_ptr(), room.len(), &mut copied) })?;
+        room.iter().map(|words| Event::of(words, |number| self.epoch.number(number)).map_err(Error::Unknown)).collect()
     }
 
     /// How many events there were, those that were forgotten among them.
@@ -379,13 +410,15 @@ impl Store {
     }
 
     fn counts(&self) -> Counts {
-        let mut counts = Counts { all: 0, forgotten: 0 };
-        // SAFETY: as in `new`. The handle holds a store, of which this is always known.
-        unsafe { sys::colock_event_count(self.handle.at(), &mut counts.all, &mut counts.forgotten) };
-        counts
+        let (Counts { all, forgotten }, before) = (self.counts_in_library(), self.epoch.before().events);
+        Counts { all: all + before, forgotten: forgotten + before }
     }
 
     /// Forgets the first events, this many of those that are in memory, or all of them.
+    ///
+    /// A store whose events are all forgotten has no end: where its history would be full it begins anew by itself, as
+    /// [`Store::forget_when_full`] says. It does so here too, where half of its room is used. So who forgets all events before
+    /// the next half is used never meets [`Error::HistoryFull`], but where open transactions hold nearly all of the limit.
     ///
     /// ```
     /// # use colock::{Kind, Store, Type};
@@ -398,6 +431,7 @@ impl Store {
     pub fn forget(&self, events: u64) {
         // SAFETY: as in `new`. The handle holds a store, of which this is always done.
         unsafe { sys::colock_forget(self.handle.at(), events) };
+        self.make_room_early();
     }
 
     /// Makes events again, one after another, each as its worker: a store becomes what another was.
@@ -421,47 +455,42 @@ impl Store {
     ///
     /// [`Error::NotMade`] or [`Error::NoMemory`], with how many were made.
     pub fn follow(&self, events: &[Event]) -> Result<(), NotFollowed> {
+        let mut made = 0;
+        loop {
+            let rest = &events[made..];
+            let told = self.followed(rest);
+            let (count, is_made) = match &told {
+                Ok(()) => (rest.len(), true),
+                Err(refused) => (usize::try_from(refused.made).unwrap_or(rest.len()), false),
+            };
+            made += count;
+            self.epoch.have_begun(rest[..count].iter().filter(|event| event.begun().is_some()).count() as u64);
+            if is_made || !self.is_full() || self.made_room().is_err() {
+                return told.map_err(|refused| NotFollowed { made: made as u64, ..refused });
+            }
+        }
+    }
+
+    /// The same, in the present epoch of the library.
+    fn followed(&self, events: &[Event]) -> Result<(), NotFollowed> {
         let mut room = Vec::new();
         room.try_reserve_exact(events.len()).map_err(|_| NotFollowed { made: 0, error: Error::NoMemory })?;
-        room.extend(events.iter().map(|event| event.words()));
+        room.extend(events.iter().map(|event| event.words(|number| self.epoch.in_library(number))));
         let mut made = 0;
         // SAFETY: as in `new`; the events are one slice.
         let code = unsafe { sys::colock_follow(self.handle.at(), room.as_ptr(), room.len(), &mut made) };
         done(code).map_err(|error| NotFollowed { made, error })
     }
 
-    /// Begins anew, with no event, at the states that are kept. Transactions count from 0 again.
-    ///
-    /// ```
-    /// # use colock::{Error, Kind, Store, Type};
-    /// # let mut store = Store::new([&Type::counter(5, &[1], Kind::Undo)?], 100)?;
-    /// let mut transaction = store.begin()?;
-    /// let _reply = transaction.call(0, "inc:1")?;
-    /// let left = transaction.leave();
-    /// assert_eq!(store.renew(), Err(Error::StillOpen));
-    /// store.resume(left)?.commit()?;
-    /// store.renew()?;
-    /// assert_eq!((store.kept(0)?, store.event_count()), (1, 0));
-    /// # Ok::<(), Error>(())
-    /// ```
-    ///
-    /// # Errors
-    ///
-    /// [`Error::StillOpen`] where a transaction was left open, or [`Error::NoMemory`].
-    pub fn renew(&mut self) -> Result<(), Error> {
-        // SAFETY: as in `new`.
-        done(unsafe { sys::colock_renew(self.handle.at()) })?;
-        self.has_begun_anew();
-        Ok(())
-    }
-
-    fn has_begun_anew(&mut self) {
+    /// A life has ended: nobody was open.
+    pub(crate) fn has_begun_anew(&mut self) {
         self.mark = next_mark();
         self.life += 1;
+        self.epoch.begins_anew();
     }
 
-    /// Begins anew, as [`Store::renew`], with more objects: they come after those that there are, each in the initial state
-    /// of its type. It gives the number of the first of them. They are given as to [`Store::new`].
+    /// Begins anew, as [`Store::renew`] while nobody is open, with more objects: they come after those that there are, each in the
+    /// initial state of its type. It gives the number of the first of them. They are given as to [`Store::new`].
     ///
     /// ```
     /// # use colock::{Error, Kind, Store, Type};

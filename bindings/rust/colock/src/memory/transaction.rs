@@ -4,8 +4,9 @@ use crate::memory::store::Store;
 use crate::object::ObjectRef;
 use crate::operation_id::OperationId;
 use crate::reply::{Outcome, Reply};
-use crate::transaction_id::TransactionId;
+use crate::transaction_id::{Sight, TransactionId};
 use colock_sys as sys;
+use std::cell::Cell;
 use std::mem;
 
 /// A transaction that is open. Where it is dropped, it aborts.
@@ -72,6 +73,12 @@ impl<'s> Transaction<'s> {
         self.number
     }
 
+    /// Its number in the library.
+    #[inline]
+    fn in_library(&self) -> u64 {
+        self.store.epoch().in_library(self.number)
+    }
+
     /// Calls the call of this name at an object.
     ///
     /// ```
@@ -96,9 +103,10 @@ impl<'s> Transaction<'s> {
 
     #[inline]
     pub(crate) fn call_in_numbers(&mut self, object: u32, name: &str) -> Result<Outcome, Error> {
-        let Transaction { store, worker, number } = *self;
+        let (store, worker) = (self.store, self.worker);
         // SAFETY: `answered` gives an answer of its own; the handle is as `Handle::at` says, as in all below.
-        answered(|answer| unsafe { sys::colock_call(store.handle().at(), worker, number, object, name.as_ptr(), name.len(), answer) })
+        let call = |answer| unsafe { sys::colock_call(store.handle().at(), worker, self.in_library(), object, name.as_ptr(), name.len(), answer) };
+        answered(store, call)
     }
 
     /// Calls the call that [`Store::call_number`] gave.
@@ -124,9 +132,9 @@ impl<'s> Transaction<'s> {
 
     #[inline]
     pub(crate) fn call_op_in_numbers(&mut self, object: u32, call: OperationId) -> Result<Outcome, Error> {
-        let (Transaction { store, worker, number }, call) = (&*self, u64::from(call));
+        let (store, worker, call) = (self.store, self.worker, u64::from(call));
         // SAFETY: as in `call`.
-        answered(|answer| unsafe { sys::colock_call_op(store.handle().at(), *worker, *number, object, call, answer) })
+        answered(store, |answer| unsafe { sys::colock_call_op(store.handle().at(), worker, self.in_library(), object, call, answer) })
     }
 
     /// Calls, and makes an error of each reply but one.
@@ -175,13 +183,13 @@ impl<'s> Transaction<'s> {
 
     #[inline]
     fn expected(&self, object: u32, outcome: Outcome, reply: &str) -> Result<OperationId, Error> {
-        Reply::expected_of(outcome, self.store.calls_at(object)?, self.store.life(), reply)
+        Reply::expected_of(outcome, self.store.calls_at(object)?, Sight::InMemory(self.store.life()), reply)
     }
 
     /// What was answered, with its words.
     #[inline]
     fn in_words(&self, object: u32, outcome: Outcome) -> Result<Reply, Error> {
-        Reply::of(outcome, self.store.calls_at(object)?, self.store.life())
+        Reply::of(outcome, self.store.calls_at(object)?, Sight::InMemory(self.store.life()))
     }
 
     /// What [`Transaction::call`] would be answered now. Nothing is executed, and it is no event.
@@ -203,8 +211,9 @@ impl<'s> Transaction<'s> {
     }
 
     pub(crate) fn would_in_numbers(&self, object: u32, name: &str) -> Result<Outcome, Error> {
+        let at = self.store.handle().at();
         // SAFETY: as in `call`.
-        answered(|answer| unsafe { sys::colock_would(self.store.handle().at(), self.number, object, name.as_ptr(), name.len(), answer) })
+        answered(self.store, |answer| unsafe { sys::colock_would(at, self.in_library(), object, name.as_ptr(), name.len(), answer) })
     }
 
     /// What [`Transaction::call_op`] would be answered now.
@@ -226,9 +235,9 @@ impl<'s> Transaction<'s> {
     }
 
     pub(crate) fn would_op_in_numbers(&self, object: u32, call: OperationId) -> Result<Outcome, Error> {
-        let call = u64::from(call);
+        let (at, call) = (self.store.handle().at(), u64::from(call));
         // SAFETY: as in `call`.
-        answered(|answer| unsafe { sys::colock_would_op(self.store.handle().at(), self.number, object, call, answer) })
+        answered(self.store, |answer| unsafe { sys::colock_would_op(at, self.in_library(), object, call, answer) })
     }
 
     /// Takes back its last operations, over all objects together. It stays open.
@@ -250,8 +259,9 @@ impl<'s> Transaction<'s> {
     ///
     /// [`Error::NotOpen`], [`Error::BadRollback`], [`Error::HistoryFull`] or [`Error::NoMemory`].
     pub fn rollback(&mut self, operations: u64) -> Result<(), Error> {
+        let at = self.store.handle().at();
         // SAFETY: as in `call`.
-        done(unsafe { sys::colock_rollback(self.store.handle().at(), self.worker, self.number, operations) })
+        done(self.store.in_room(|| unsafe { sys::colock_rollback(at, self.worker, self.in_library(), operations) }))
     }
 
     /// Commits it.
@@ -269,11 +279,10 @@ impl<'s> Transaction<'s> {
     /// [`Error::NotOpen`] where another [`LeftOpen`] of it ended it.
     #[inline]
     pub fn commit(self) -> Result<(), Error> {
-        let LeftOpen { worker, number, .. } = self.left();
-        let store = self.store;
+        let (at, worker, number) = (self.store.handle().at(), self.worker, self.in_library());
         mem::forget(self);
         // SAFETY: as in `call`.
-        done(unsafe { sys::colock_commit(store.handle().at(), worker, number) })
+        done(unsafe { sys::colock_commit(at, worker, number) })
     }
 
     /// Aborts it: nothing stays of its operations. A drop does the same and reports no error.
@@ -317,7 +326,7 @@ impl<'s> Transaction<'s> {
 
     fn aborted(&self) -> Result<(), Error> {
         // SAFETY: as in `call`.
-        done(unsafe { sys::colock_abort(self.store.handle().at(), self.worker, self.number) })
+        done(unsafe { sys::colock_abort(self.store.handle().at(), self.worker, self.in_library()) })
     }
 }
 
@@ -343,14 +352,15 @@ impl LeftOpen {
     }
 }
 
-/// What a call of the library answers.
+/// What a call of the library answers. Where the history is full it is called once more, if the store could begin anew.
 #[inline(always)]
-pub(crate) fn answered(call: impl FnOnce(*mut sys::Answer) -> u32) -> Result<Outcome, Error> {
-    let mut answer = sys::Answer::default();
-    done(call(&mut answer))?;
+pub(crate) fn answered(store: &Store, call: impl Fn(*mut sys::Answer) -> u32) -> Result<Outcome, Error> {
+    let told = Cell::new(sys::Answer::default());
+    done(store.in_room(|| call(told.as_ptr())))?;
+    let answer = told.get();
     match answer.kind {
         0 => OperationId::try_from(answer.number).map(Outcome::Operation).map_err(|_| Error::Unknown(answer.number)),
-        1 => Ok(Outcome::Busy { blocker: answer.number }),
+        1 => Ok(Outcome::Busy { blocker: store.epoch().number(answer.number) }),
         2 => Ok(Outcome::Illegal),
         kind => Err(Error::Unknown(kind)),
     }

@@ -28,7 +28,8 @@ impl SharedStore {
         Ok(self.enter()?.memory()?.forgotten_count())
     }
 
-    /// Forgets the first events, this many of those that are in memory, or all of them.
+    /// Forgets the first events, this many of those that are in memory, or all of them. Who forgets all of them now and then has a store
+    /// without an end, as of [`Store::forget`](crate::Store::forget).
     ///
     /// ```
     /// # use colock::{Kind, SharedStore, Type};
@@ -44,6 +45,50 @@ impl SharedStore {
     /// [`Error::InMemoryOnly`].
     pub fn forget(&self, events: u64) -> Result<(), Error> {
         self.enter()?.memory()?.forget(events);
+        Ok(())
+    }
+
+    /// The events that weren't forgotten, oldest first, which are forgotten now, as of
+    /// [`Store::take_events`](crate::Store::take_events): no event of another thread comes between.
+    ///
+    /// ```
+    /// # use colock::{Event, Kind, SharedStore, Type};
+    /// # let store = SharedStore::new([&Type::counter(5, &[1], Kind::Undo)?], 100)?;
+    /// store.begin()?.commit()?;
+    /// assert_eq!(store.take_events()?, [Event::Begin { worker: 0, transaction: 0 }, Event::Commit { worker: 0, transaction: 0 }]);
+    /// assert_eq!((store.take_events()?, store.event_count()), (vec![], Ok(2)));
+    /// # Ok::<(), colock::Error>(())
+    /// ```
+    ///
+    /// # Errors
+    ///
+    /// [`Error::InMemoryOnly`], or [`Error::NoMemory`]: nothing is forgotten.
+    pub fn take_events(&self) -> Result<Vec<Event>, Error> {
+        self.enter()?.memory()?.take_events()
+    }
+
+    /// Where its history is full, it is to forget all events and to go on, by itself, as of
+    /// [`Store::forget_when_full`](crate::Store::forget_when_full). Calls that wait go on, too.
+    ///
+    /// ```
+    /// # use colock::{Kind, SharedStore, Type};
+    /// let store = SharedStore::new([&Type::counter(1_000, &[1], Kind::Undo)?], 40)?;
+    /// store.forget_when_full()?;
+    /// let mut long = store.begin()?;
+    /// long.expect(0, "inc:1", "ok")?;
+    /// for _ in 0..500 {
+    ///     store.transact(|turn| turn.expect(0, "inc:1", "ok"))?;
+    /// }
+    /// long.commit()?;
+    /// assert_eq!((store.kept(0), store.event_count()), (Ok(501), Ok(1_503)));
+    /// # Ok::<(), colock::Error>(())
+    /// ```
+    ///
+    /// # Errors
+    ///
+    /// [`Error::InMemoryOnly`].
+    pub fn forget_when_full(&self) -> Result<(), Error> {
+        self.enter()?.memory()?.forget_when_full();
         Ok(())
     }
 
@@ -78,7 +123,9 @@ impl SharedStore {
         }
     }
 
-    /// Begins anew, with no event, at the states that are kept. Transactions count from 0 again.
+    /// Begins anew, at the states that are kept. Where no transaction is open it has no event then, and transactions count from 0
+    /// again. Where some are open, or prepared, and each yes of the checker is strong, all of them go on, also those that wait, as of
+    /// [`Store::renew`](crate::Store::renew).
     ///
     /// ```
     /// # use colock::{Kind, SharedStore, Type};
@@ -91,15 +138,16 @@ impl SharedStore {
     ///
     /// # Errors
     ///
-    /// [`Error::StillOpen`], [`Error::NoMemory`] or [`Error::InMemoryOnly`].
+    /// [`Error::StillOpen`] where one is open and some yes is one-way, [`Error::NoMemory`] or [`Error::InMemoryOnly`].
     pub fn renew(&self) -> Result<(), Error> {
         let mut guard = self.enter()?;
-        guard.memory()?.renew()?;
-        guard.renewed();
+        if guard.memory()?.renewed()? {
+            guard.renewed();
+        }
         Ok(())
     }
 
-    /// Begins anew, as [`SharedStore::renew`], with more objects: they come after those that there are, each in the initial
+    /// Begins anew, as [`SharedStore::renew`] while nobody is open, with more objects: they come after those that there are, each in the initial
     /// state of its type. It gives the number of the first of them. They are given as to [`SharedStore::new`].
     ///
     /// Over a child it waits, and no transaction begins meanwhile, until all that are open have ended, or the
@@ -167,20 +215,12 @@ impl State {
     /// Aborts all that is open in memory but these.
     fn abort_all_but(&mut self, kept: &BTreeSet<u64>) -> Result<(), Error> {
         let store = self.memory()?;
-        let mut left = store.open_count();
+        let open = store.open_numbers()?;
         let begun: BTreeMap<u64, u8> = store.events(store.forgotten_count())?.iter().filter_map(Event::begun).collect();
-        for number in 0.. {
-            if left == 0 {
-                break;
-            }
-            if self.is_open(number) {
-                left -= 1;
-                if !kept.contains(&number) {
-                    // where the event of its begin is forgotten, nobody knows its worker any more
-                    let worker = begun.get(&number).copied().unwrap_or(0);
-                    abort_in_memory(self, Ticket::new(TransactionId::new(self.life, number), 0, worker))?;
-                }
-            }
+        for number in open.into_iter().filter(|number| !kept.contains(number)) {
+            // where the event of its begin is forgotten, nobody knows its worker any more
+            let worker = begun.get(&number).copied().unwrap_or(0);
+            abort_in_memory(self, Ticket::new(TransactionId::new(self.life, number), 0, worker))?;
         }
         self.waiters.all_again();
         self.settle();

@@ -48,7 +48,7 @@ pub(crate) struct State {
     pub(crate) held: Held,
     pub(crate) waiters: Waiters,
     pub(crate) stats: Stats,
-    /// Of a child the life that was answered last, in memory how often the store began anew.
+    /// Of a child the life that was answered last, in memory how often the store began anew while nobody was open.
     pub(crate) life: u64,
     /// How often a transaction has ended, or all of them.
     pub(crate) ends: u64,
@@ -61,7 +61,7 @@ impl State {
         State { held, stats: Stats::new(objects.len()), waiters: Waiters::new(objects), life, ends: 0, keys: Keys::default() }
     }
 
-    /// The store in memory has begun anew.
+    /// A life of the store in memory has ended: it has begun anew.
     pub(crate) fn renewed(&mut self) {
         self.life += 1;
         self.all_ended();
@@ -159,7 +159,7 @@ impl State {
     /// Whether a transaction of the present life is open.
     pub(crate) fn is_open(&self, number: u64) -> bool {
         match &self.held {
-            Held::Memory(store) => resumed(store, 0, number).would_op_in_numbers(0, 0.into()) != Err(Error::NotOpen),
+            Held::Memory(store) => store.is_open(number),
             Held::Remote(remote_state) => remote_state.open.contains_key(&number),
         }
     }

@@ -19,7 +19,8 @@ use std::ops::Deref;
 use std::sync::{Arc, Mutex, OnceLock};
 use std::time::{Duration, Instant};
 
-/// The number of what couldn't begin, which is no transaction's: a history has fewer events than that.
+/// The number of what couldn't begin, which no transaction has over a child: a history has fewer events than that. In memory one begins at
+/// once.
 const NOBODY: u64 = u32::MAX as u64;
 
 /// A transaction of a [`SharedStore`]. Where it is dropped, it aborts: over a child the abort is asked for, and neither an
@@ -280,7 +281,8 @@ impl<'s> SharedTransaction<'s> {
 
     fn expected(&mut self, object: u32, call: Call<'_>, reply: &str) -> Result<OperationId, Error> {
         let outcome = self.called(object, call)?;
-        Reply::expected_of(outcome, self.store.calls_at(object)?, self.life().unwrap_or_default(), reply)
+        let sight = self.store.sight(self.life().unwrap_or_default());
+        Reply::expected_of(outcome, self.store.calls_at(object)?, sight, reply)
     }
 
     /// What was answered, with its words. It has begun, since else it would have failed.

@@ -107,7 +107,7 @@ impl<'s> Turn<'s> {
     #[inline]
     fn expected(&mut self, object: u32, call: Call<'_>, reply: &str) -> Result<OperationId, Error> {
         let outcome = self.called(object, call)?;
-        Reply::expected_of(outcome, self.store.calls_at(object)?, self.ticket.id.life, reply)
+        Reply::expected_of(outcome, self.store.calls_at(object)?, self.store.sight(self.ticket.id.life), reply)
     }
 
     /// The shortest way, in memory and where nobody waits: no life ends in a turn.
