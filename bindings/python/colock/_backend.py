@@ -75,7 +75,7 @@ class Backend(ABC):
     has to do together is noted in `doing` first; and what the call left there is put right before the next one.
     """
 
-    # how often the store began anew, or the number of its life: a transaction is of one life
+    # how often the store began anew while nobody was open, or the number of its life: a transaction is of one life
     life: int
     # puts a request, and waits for its answer, outside the lock
     put: Callable[[Slot], None]
@@ -485,6 +485,14 @@ class Backend(ABC):
 
     def forget(self, events: int) -> None:
         """Forgets the first events, this many."""
+        raise InMemoryOnly(InMemoryOnly.__doc__)
+
+    def take_events(self) -> Callable[[], List[Event]]:
+        """As `events` of those that weren't forgotten, which are forgotten now."""
+        raise InMemoryOnly(InMemoryOnly.__doc__)
+
+    def forget_when_full(self) -> None:
+        """From now on all events are forgotten where the history is full."""
         raise InMemoryOnly(InMemoryOnly.__doc__)
 
     def follow(self, events: Iterable[Event]) -> None:

@@ -1,6 +1,6 @@
 """The events of a store."""
 import enum
-from typing import NamedTuple, Optional, Sequence
+from typing import Callable, NamedTuple, Optional, Sequence
 
 from . import _library
 from ._operations import number_of, parts_of
@@ -50,10 +50,12 @@ class Event(NamedTuple):
         return " ".join(map(str, words))
 
 
-def event_of(words: _library.Event) -> Event:
-    """The event as it came over."""
+def event_of(words: _library.Event, number: Callable[[int], int]) -> Event:
+    """The event as it came over, with the numbers of its transactions out of those that the library gave them."""
     place, amount = parts_of(words.op)
-    return Event(EventKind(words.kind), words.worker, words.transaction, words.object, place, words.other, amount)
+    kind = EventKind(words.kind)
+    other = number(words.other) if kind is EventKind.BUSY else words.other
+    return Event(kind, words.worker, number(words.transaction), words.object, place, other, amount)
 
 
 def read_event(words: Sequence[str]) -> Event:
@@ -69,13 +71,14 @@ def read_event(words: Sequence[str]) -> Event:
     return Event(kind, worker, transaction, x, op, other, amount)
 
 
-def words_of(event: Event) -> _library.Event:
-    """The event as it goes over."""
+def words_of(event: Event, in_library: Callable[[int], int]) -> _library.Event:
+    """The event as it goes over, with the numbers of its transactions in the library."""
     unsigned = _library.unsigned
+    transaction, other = unsigned("the transaction", event.transaction, 64), unsigned("the other number", event.other, 64)
     amount = None if event.amount is None else unsigned("the amount", event.amount, 32)
     return _library.Event(
-        transaction=unsigned("the transaction", event.transaction, 64),
-        other=unsigned("the other number", event.other, 64),
+        transaction=in_library(transaction),
+        other=in_library(other) if event.kind == EventKind.BUSY else other,
         object=unsigned("the object", event.object, 32),
         op=number_of(unsigned("the place of the operation", event.op, 8), amount),
         kind=unsigned("the kind", event.kind, 32),

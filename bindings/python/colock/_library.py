@@ -4,12 +4,12 @@ import os
 from operator import index
 from typing import Callable, Dict
 
-from ._declarations import BAD_TEXT, LONGEST_NAME, NO_CALL, NO_OPERATION, NOT_HELD, NOT_LEGAL, NOT_OPEN, OK, REFUSED
-from ._declarations import SIGNATURES, VERSION, Answer, Event, Fault, Handle, Outcome, Shape
+from ._declarations import BAD_TEXT, FORGOTTEN, HISTORY_FULL, LONGEST_NAME, NO_CALL, NO_OPERATION, NOT_HELD, NOT_LEGAL, NOT_MADE, NOT_OPEN, OK, REFUSED
+from ._declarations import SIGNATURES, STILL_OPEN, VERSION, Answer, Event, Fault, Handle, Outcome, Shape
 
 # what other modules have of this one: parts of the declarations, the functions and their numbers
 __all__ = [
-    "BAD_TEXT", "LONGEST_NAME", "NO_CALL", "NO_OPERATION", "NOT_HELD", "NOT_LEGAL", "NOT_OPEN", "OK", "REFUSED",
+    "BAD_TEXT", "FORGOTTEN", "HISTORY_FULL", "LONGEST_NAME", "NO_CALL", "NO_OPERATION", "NOT_HELD", "NOT_LEGAL", "NOT_MADE", "NOT_OPEN", "OK", "REFUSED", "STILL_OPEN",
     "Answer", "Event", "Fault", "Handle", "Outcome", "Shape", "functions", "quick", "unsigned",
 ]
 

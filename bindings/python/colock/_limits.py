@@ -7,7 +7,7 @@ class Limits:
     """How many events, open transactions and objects a store in memory may have, for `Store.with_limits`."""
 
     events: int = 1_000_000
-    """The events of its history, 2 to 4,294,967,295, those that were forgotten among them."""
+    """The events of its history, 2 to 4,294,967,295, those that were forgotten among them: then it is full, or begins anew (`Store.forget_when_full`)."""
     open: int = 1_024
     """The transactions that are open at once, 1 to 65,536."""
     objects: int = 256

@@ -2,19 +2,22 @@
 import ctypes
 import time
 from functools import partial
+from itertools import islice
 from typing import TYPE_CHECKING, Callable, Dict, Iterable, List, NoReturn, Optional, Sequence, Tuple, Union
+from weakref import ref
 
 from . import _library
 from ._attempts import Attempt, Done, Ended
-from ._backend import NOBODY, Backend, CallAt, Finish, Pairs
+from ._backend import NOBODY, CallAt, Finish, Pairs
 from ._errors import Error, IllegalError, NotFollowedError, NotOpenError, PreparedError, done, error_of
-from ._events import Event, event_of, words_of
+from ._events import Event, EventKind, event_of, words_of
 from ._library import functions, quick, unsigned
 from ._keys import PREPARED, Committed, Keys, Outcome, refuse_work
 from ._limits import Limits
 from ._objects import Given, check_names
 from ._outcomes import outcome_among
 from ._reads import Moment, Seen, States
+from ._renewals import ALL, NO_CALL, Renewing
 from ._replies import Busy, Illegal, Operation, Reply
 from ._sleepers import Blocker, Sleeper
 
@@ -23,33 +26,31 @@ if TYPE_CHECKING:
 
 _BEGIN, _CALL, _CALL_OP, _WOULD, _WOULD_OP = (quick[name] for name in ("begin", "call", "call_op", "would", "would_op"))
 COMMIT, ABORT, _ROLLBACK = (quick[name] for name in ("commit", "abort", "rollback"))
-_ATTEMPT_OP, _PEEK, _COMMITTED, _COMMIT_COUNT = (quick[name] for name in ("attempt_op", "peek", "committed", "commit_count"))
+_ATTEMPT_OP, _PEEK, _COMMITTED = (quick[name] for name in ("attempt_op", "peek", "committed"))
 _ILLEGAL = Illegal()
 # What the library may have done of which the client doesn't know yet.
 Half = Tuple[Optional["Transaction"], int, int, Optional[str]]
 # That a transaction was begun.
 _BEGINS: Half = (None, 0, 0, None)
-# What is no call's number, and no kind of an outcome.
-_NO_CALL = _NO_KIND = (1 << 64) - 1
+# What is no kind of an outcome.
+_NO_KIND = (1 << 64) - 1
 
 
-class Memory(Backend):
+class Memory(Renewing):
     """Transactions over the library. What it is asked is done when it answers."""
 
     def __init__(self, first: List[Given], limits: Limits) -> None:
-        self._handle = _library.Handle()
+        # before anything is refused, since it is closed where it goes
+        super().__init__(_blocker_in(ref(self)), limits.events)
         check_names(first, ())
         events, opens = unsigned("the limit of events", limits.events, 64), unsigned("the limit of open transactions", limits.open, 32)
         objects = unsigned("the limit of objects", limits.objects, 32)
         _begin_store(self._handle, first)
-        super().__init__(_blocker_in(self._handle))
-        self.life = 0
-        # the replies are made once, and what a call writes into is used again: all of it is under the lock
+        # the replies are made once, under the lock
         self._replies: List[Dict[int, Operation]] = []
         self.know(0, first)
-        self._answer, self._number, self._commits = _library.Answer(), ctypes.c_uint64(), ctypes.c_uint64()
-        # the number that was begun last
-        self._begun = ctypes.c_uint64(NOBODY)
+        # what says who is in the way of a sleeper writes into it
+        self._told_of_sleeper = _library.Answer()
         # a transaction that ends, how many commits and aborts there are with it, and the key under which it commits; or `_BEGINS`
         self._half: Optional[Half] = None
         self._keys = Keys()
@@ -60,12 +61,14 @@ class Memory(Backend):
     def begin(self, t: "Transaction") -> bool:
         if self._half is not None or self.doing is not None or self.gone:
             self.put_right()
-        self._half = _BEGINS
-        code = _BEGIN(self._handle, t._worker, self._begun)
+        self._half, epoch = _BEGINS, self.epoch
+        code = _BEGIN(self._handle, t._worker, epoch.begun)
         if code:
             self._half = None
-            raise error_of(code)
-        t._life, t._number = self.life, self._begun.value
+            self.make_room(code)
+            return self.begin(t)
+        t._in_library = epoch.begun.value
+        t._life, t._number, t._epoch = self.life, t._in_library + epoch.shift, epoch
         self.hold(t)
         self._half = None
         return True
@@ -78,8 +81,10 @@ class Memory(Backend):
             t = self._half[0]
             # the library does all of what it is asked, or nothing
             if t is None:
-                if self._begun.value not in self.holders:
-                    self.abort_forsaken(self._begun.value)
+                number = self.epoch.begun.value + self.epoch.shift
+                # it may be the one before, which nobody has to have where it is prepared
+                if number not in self.holders and all(one.number != number for one in self.undecided.values()):
+                    self.abort_forsaken(number)
             elif not self.is_open(self.life, t._number):
                 self._has_ended()
             self._half = None
@@ -89,7 +94,7 @@ class Memory(Backend):
         if self.is_open(self.life, number):
             self.counts.aborts += 1
             self.doing = self.sleepers.begin_anew
-            ABORT(self._handle, 0, number)
+            ABORT(self._handle, 0, self.epoch.in_library(number))
             self.ends += 1
             # at which objects it let go isn't known
             self.sleepers.ended(number, range(len(self.types)))
@@ -103,28 +108,33 @@ class Memory(Backend):
         self.moment()
         raise PreparedError(t._key)
 
+    def _know_again(self, t: "Transaction") -> None:
+        """A transaction is used in the present epoch of the library. Raises what is said where it can't be used."""
+        if t._life != self.life or t._key is not None:
+            self._refuse(t)
+        epoch = self.epoch
+        t._in_library = epoch.in_library(t._number)
+        t._epoch = epoch
+
     def check(self, t: "Transaction") -> None:
         if t._key is not None:
             self._refuse(t)
-        # the transaction is looked at before the object and the call are, and to ask is no event
-        code = _WOULD_OP(self._handle, t._number, 0, 0, self._answer) if t._life == self.life else _library.NOT_OPEN
-        if code not in (_library.OK, _library.NO_CALL):
+        code = self._code_of(self.epoch.in_library(t._number)) if t._life == self.life else _library.NOT_OPEN
+        if code != _library.NO_CALL:
             raise error_of(code)
-
-    def is_open(self, life: int, number: int) -> bool:
-        return life == self.life and _WOULD_OP(self._handle, number, 0, 0, self._answer) in (_library.OK, _library.NO_CALL)
 
     def is_stale(self, x: int, blocker: int) -> bool:
         return False
 
     def call(self, t: "Transaction", x: int, name: str) -> Reply:
         content = name.encode("utf-8", "surrogatepass")
-        if t._life != self.life or t._key is not None:
-            self._refuse(t)
+        if t._epoch is not self.epoch or t._key is not None:
+            self._know_again(t)
         try:
-            code = _CALL(self._handle, t._worker, t._number, x, content, len(content), self._answer)
+            code = _CALL(self._handle, t._worker, t._in_library, x, content, len(content), self._answer)
             if code:
-                raise error_of(code)
+                self.make_room(code)
+                return self.call(t, x, name)
             if self._answer.kind:
                 return self._otherwise()
             t._touched.add(x)
@@ -136,12 +146,13 @@ class Memory(Backend):
         return self._replies[x][self._answer.number]
 
     def call_op(self, t: "Transaction", x: int, call: int) -> Reply:
-        if t._life != self.life or t._key is not None:
-            self._refuse(t)
+        if t._epoch is not self.epoch or t._key is not None:
+            self._know_again(t)
         try:
-            code = _CALL_OP(self._handle, t._worker, t._number, x, call, self._answer)
+            code = _CALL_OP(self._handle, t._worker, t._in_library, x, call, self._answer)
             if code:
-                raise error_of(code)
+                self.make_room(code)
+                return self.call_op(t, x, call)
             if self._answer.kind:
                 return self._otherwise()
             t._touched.add(x)
@@ -152,33 +163,48 @@ class Memory(Backend):
             raise
         return self._replies[x][self._answer.number]
 
+    def blocker_of(self, sleeper: Sleeper) -> Optional[int]:
+        """Who is in the way of a sleeper, if anyone."""
+        told, number = self._told_of_sleeper, self.epoch.in_library(sleeper.asker.number)
+        # where it is refused, or there is no room for it, the sleeper is to see that itself
+        code = _WOULD_OP(self._handle, number, sleeper.asker.object, sleeper.call, told)
+        return self.epoch.number(told.number) if code == _library.OK and told.kind == 1 else None
+
     def would(self, t: "Transaction", x: int, name: str) -> Reply:
         content = name.encode("utf-8", "surrogatepass")
-        if t._life != self.life or t._key is not None:
-            self._refuse(t)
-        done(_WOULD(self._handle, t._number, x, content, len(content), self._answer))
+        if t._epoch is not self.epoch or t._key is not None:
+            self._know_again(t)
+        code = _WOULD(self._handle, t._in_library, x, content, len(content), self._answer)
+        if code:
+            self.make_room(code)
+            return self.would(t, x, name)
         return self._replies[x][self._answer.number] if self._answer.kind == 0 else self._otherwise()
 
     def would_op(self, t: "Transaction", x: int, call: int) -> Reply:
-        if t._life != self.life or t._key is not None:
-            self._refuse(t)
-        done(_WOULD_OP(self._handle, t._number, x, call, self._answer))
+        if t._epoch is not self.epoch or t._key is not None:
+            self._know_again(t)
+        code = _WOULD_OP(self._handle, t._in_library, x, call, self._answer)
+        if code:
+            self.make_room(code)
+            return self.would_op(t, x, call)
         return self._replies[x][self._answer.number] if self._answer.kind == 0 else self._otherwise()
 
     def _otherwise(self) -> Reply:
-        return Busy(self._answer.number) if self._answer.kind == 1 else _ILLEGAL
+        return Busy(self.epoch.number(self._answer.number)) if self._answer.kind == 1 else _ILLEGAL
 
     def rollback(self, t: "Transaction", operations: int) -> Finish:
         self.put_right()
-        if t._life != self.life or t._key is not None:
-            self._refuse(t)
+        if t._epoch is not self.epoch or t._key is not None:
+            self._know_again(t)
         t._took_back = True
         self.doing = self.sleepers.begin_anew
-        code = _ROLLBACK(self._handle, t._worker, t._number, operations)
+        code = _ROLLBACK(self._handle, t._worker, t._in_library, operations)
         if not code and self.sleepers.calls:
             self.sleepers.took_back(t._number, t._touched)
         self.doing = None
-        done(code)
+        if code:
+            self.make_room(code)
+            return self.rollback(t, operations)
         return None
 
     def commit(self, t: "Transaction", key: Optional[str] = None) -> Finish:
@@ -186,11 +212,11 @@ class Memory(Backend):
             return self._commit_under(t, key)
         if self._half is not None or self.gone:
             self.put_right()
-        if t._life != self.life or t._key is not None:
-            self._refuse(t)
+        if t._epoch is not self.epoch or t._key is not None:
+            self._know_again(t)
         if not t._ended:
             self._half = t, self.counts.commits + 1, self.counts.aborts, None
-        return self._ended(COMMIT(self._handle, t._worker, t._number))
+        return self._ended(COMMIT(self._handle, t._worker, t._in_library))
 
     def _commit_under(self, t: "Transaction", key: str) -> Finish:
         """A commit under a key. It counts as one also where another one committed under it before."""
@@ -203,8 +229,9 @@ class Memory(Backend):
             self.counts.commits += 1
             return None
         self.check(t)
+        self._know_again(t)
         self._half = t, self.counts.commits + 1, self.counts.aborts, None if was_done else key
-        return self._ended((ABORT if was_done else COMMIT)(self._handle, t._worker, t._number))
+        return self._ended((ABORT if was_done else COMMIT)(self._handle, t._worker, t._in_library))
 
     def outcome(self, key: str) -> Outcome:
         self.put_right()
@@ -215,11 +242,11 @@ class Memory(Backend):
     def abort(self, t: "Transaction") -> Finish:
         if self._half is not None or self.gone:
             self.put_right()
-        if t._life != self.life or t._key is not None:
-            self._refuse(t)
+        if t._epoch is not self.epoch or t._key is not None:
+            self._know_again(t)
         if not t._ended:
             self._half = t, self.counts.commits, self.counts.aborts + 1, None
-        return self._ended(ABORT(self._handle, t._worker, t._number))
+        return self._ended(ABORT(self._handle, t._worker, t._in_library))
 
     def _ended(self, code: int) -> Finish:
         """The library was asked for an end, and told this code. Who is woken by it goes first."""
@@ -256,28 +283,32 @@ class Memory(Backend):
         numbers = ctypes.c_uint64 * count
         objects, calls = (ctypes.c_uint32 * count)(*(x for x, _ in pairs)), numbers(*(self._call_or_none(x, name) for x, name in pairs))
         operations, outcome = numbers(), _library.Outcome(_NO_KIND)
-        self.sleepers.has_woken = False
-        self.doing = partial(self._put_attempt_right, pairs, key, operations, outcome)
+        self.sleepers.has_woken, numbered = False, self.epoch.next_in_library() + 1
+        self.doing = partial(self._put_attempt_right, pairs, key, operations, outcome, numbered)
         code = _ATTEMPT_OP(self._handle, worker, objects, count, calls, count, operations, count, outcome)
-        told = None if code else self._came(pairs, key, operations, outcome)
+        told = None if code else self._came(pairs, key, operations, outcome, numbered)
         self.doing = None
         if told is None:
-            raise error_of(code)
+            self.make_room(code)
+            return self.attempt(pairs, worker, key)
         return partial(_told_after, told, self.sleepers.has_woken)
 
     def _call_or_none(self, x: int, name: str) -> int:
         """The number of a call, as the library refuses it where it isn't there."""
         call = self.call_of(x, name)
-        return _NO_CALL if call is None else call
+        return NO_CALL if call is None else call
 
-    def _put_attempt_right(self, pairs: Pairs, key: Optional[str], operations: Iterable[int], outcome: _library.Outcome) -> None:
+    def _put_attempt_right(self, pairs: Pairs, key: Optional[str], operations: Iterable[int], outcome: _library.Outcome, numbered: int) -> None:
         """An attempt was interrupted: who sleeps may be free behind it, and where it committed its key is kept."""
         self.sleepers.begin_anew()
+        if outcome.kind != _NO_KIND:
+            self.epoch.numbered = numbered
         if not outcome.kind:
             self._done(pairs, key, operations)
 
-    def _came(self, pairs: Pairs, key: Optional[str], operations: Iterable[int], outcome: _library.Outcome) -> Attempt:
+    def _came(self, pairs: Pairs, key: Optional[str], operations: Iterable[int], outcome: _library.Outcome, numbered: int) -> Attempt:
         """What came of an attempt, which is counted. Whoever sleeps at an object that it changed may be free by now."""
+        self.epoch.numbered = numbered
         if outcome.kind:
             self.counts.aborts += 1
             return Ended(outcome.at, self._how(pairs[outcome.at][0], outcome))
@@ -298,7 +329,7 @@ class Memory(Backend):
         """How a call at an object ended it."""
         if outcome.kind == 1:
             self.counts.busy[x] += 1
-            return Busy(outcome.number)
+            return Busy(self.epoch.number(outcome.number))
         return _ILLEGAL if outcome.kind == 2 else error_of(outcome.number)
 
     def abort_all(self) -> int:
@@ -314,8 +345,7 @@ class Memory(Backend):
     # ---- what is committed
 
     def moment(self) -> Moment:
-        done(_COMMIT_COUNT(self._handle, self._number))
-        return Moment(self.life, self._number.value)
+        return Moment(self.life, self.commit_count())
 
     def peek(self, pairs: Pairs) -> Seen:
         replies = [self._peeked(index, call) for index, call in enumerate(self.calls_at(pairs))]
@@ -342,7 +372,7 @@ class Memory(Backend):
         count = len(self.types)
         room = (ctypes.c_uint64 * count)()
         done(functions["snapshot"](self._handle, room, count, self._number))
-        return States(Moment(self.life, self._number.value), tuple(room))
+        return States(Moment(self.life, self.epoch.commits + self._number.value), tuple(room))
 
     # ---- the store
 
@@ -355,16 +385,19 @@ class Memory(Backend):
         done(functions["kept"](self._handle, x, self._number))
         return self._number.value
 
-    def open_count(self) -> int:
-        done(functions["open_count"](self._handle, self._number))
-        return self._number.value
-
     def events(self, start: int) -> Callable[[], List[Event]]:
-        count, forgotten = self._event_counts()
-        size = max(count - start, 0) if start >= forgotten else 0
+        (count, forgotten), epoch = self._event_counts(), self.epoch
+        if start < forgotten:
+            raise error_of(_library.FORGOTTEN)
+        size = max(count - start, 0)
         room, copied = (_library.Event * max(size, 1))(), ctypes.c_uint64()
-        done(functions["events"](self._handle, start, room, size, copied))
-        return lambda: [event_of(room[i]) for i in range(copied.value)]
+        done(functions["events"](self._handle, start - epoch.events, room, size, copied))
+        return lambda: [event_of(room[i], epoch.number) for i in range(copied.value)]
+
+    def take_events(self) -> Callable[[], List[Event]]:
+        told = self.events(self.forgotten_count())
+        self.forget(ALL)
+        return told
 
     def event_count(self) -> int:
         return self._event_counts()[0]
@@ -373,48 +406,43 @@ class Memory(Backend):
         return self._event_counts()[1]
 
     def _event_counts(self) -> Tuple[int, int]:
-        count, forgotten = ctypes.c_uint64(), ctypes.c_uint64()
-        done(functions["event_count"](self._handle, count, forgotten))
-        return count.value, forgotten.value
-
-    def forget(self, events: int) -> None:
-        done(functions["forget"](self._handle, events))
+        """How many events there were, and how many of them were forgotten."""
+        counts = self.counts_in_library()
+        return self.epoch.events + counts.all, self.epoch.events + counts.forgotten
 
     def follow(self, events: Iterable[Event]) -> None:
-        words = list(map(words_of, events))
-        room, made = (_library.Event * max(len(words), 1))(*words), ctypes.c_uint64()
+        all_of_them = list(events)
         self.put_right()
-        # the events may have ended whom somebody waits for
-        self.doing = self.sleepers.begin_anew
-        code = functions["follow"](self._handle, room, len(words), made)
-        self.sleepers.begin_anew()
-        self.doing = None
+        place = 0
+        while True:
+            code, made = self._followed(all_of_them[place:])
+            place += made
+            if code != _library.NOT_MADE or not self.is_full():
+                break
+            try:
+                self.make_room(_library.HISTORY_FULL)
+            except Error:
+                break
         if code == _library.NOT_HELD:
             raise error_of(code)
         if code != _library.OK:
-            raise NotFollowedError(made.value) from error_of(code)
+            raise NotFollowedError(place) from error_of(code)
 
-    def renew(self) -> None:
-        self.put_right()
-        life = self.life + 1
-        self.doing = lambda: self._put_renewal_right(life)
-        code = functions["renew"](self._handle)
-        if not code:
-            self._has_renewed(life)
+    def _followed(self, events: List[Event]) -> Tuple[int, int]:
+        """Makes events again in the present epoch of the library. The code of that, and how many were made."""
+        words = [words_of(event, self.epoch.in_library) for event in events]
+        room, made = (_library.Event * max(len(words), 1))(*words), ctypes.c_uint64()
+        # the events may have ended whom somebody waits for
+        self.doing = has_followed = partial(self._has_followed, events, made, self.epoch.next_in_library())
+        code = functions["follow"](self._handle, room, len(words), made)
+        has_followed()
         self.doing = None
-        done(code)
+        return code, made.value
 
-    def _put_renewal_right(self, life: int) -> None:
-        """A renewal was interrupted: where it was done there are no events."""
-        if not self.event_count():
-            self._has_renewed(life)
-
-    def _has_renewed(self, life: int) -> None:
-        """What follows from a renewal. It may be done twice, and a signal handler may have gone on in this life meanwhile."""
-        if self.life != life:
-            self.holders.clear()
-            self._begun.value = NOBODY
-            self.life = life
+    def _has_followed(self, events: List[Event], made: ctypes.c_uint64, numbered: int) -> None:
+        """The first of these events were made, when so many transactions were numbered. It may be done twice."""
+        self.epoch.numbered = numbered + sum(event.kind is EventKind.BEGIN for event in islice(events, made.value))
+        self.sleepers.begin_anew()
 
     def extend(self, added: List[Given]) -> int:
         return self.run(lambda: self._extend(added))
@@ -433,7 +461,7 @@ class Memory(Backend):
 
     def _put_extension_right(self, life: int, first: int, added: List[Given]) -> None:
         """An extension was interrupted: where it was done the first new object is there; as a renewal where none is new."""
-        is_done = functions["kept"](self._handle, first, self._number) == _library.OK if added else not self.event_count()
+        is_done = functions["kept"](self._handle, first, self._number) == _library.OK if added else not self.counts_in_library().all
         if is_done:
             self._has_extended(life, first, added)
 
@@ -441,7 +469,7 @@ class Memory(Backend):
         """What follows from an extension. It may be done twice, as what follows from a renewal."""
         if self.life != life:
             self.know(first, added)
-            self._has_renewed(life)
+            self.has_renewed(life)
 
     def know(self, first: int, added: List[Given]) -> None:
         super().know(first, added)
@@ -499,13 +527,11 @@ def let_others_run() -> None:
     time.sleep(0)
 
 
-def _blocker_in(handle: _library.Handle) -> Blocker:
-    """What says who is in the way of a sleeper. It has no store, which goes as soon as nobody has it."""
-    answer = _library.Answer()
+def _blocker_in(memory: "ref[Memory]") -> Blocker:
+    """What says who is in the way of a sleeper. It doesn't have the store, which goes as soon as nobody has it."""
 
     def blocker(sleeper: Sleeper) -> Optional[int]:
-        # where it is refused the sleeper is to see that itself
-        code = _WOULD_OP(handle, sleeper.asker.number, sleeper.asker.object, sleeper.call, answer)
-        return answer.number if code == _library.OK and answer.kind == 1 else None
+        store = memory()
+        return None if store is None else store.blocker_of(sleeper)
 
     return blocker

@@ -1,7 +1,6 @@
 """Prepared transactions of a store in memory. The library doesn't know of them: all is kept here, under the lock of the store."""
 from functools import partial
-from itertools import chain
-from typing import TYPE_CHECKING, Iterable, List, Sequence, Set
+from typing import TYPE_CHECKING, Iterable, List, Sequence
 
 from ._backend import Finish
 from ._errors import KeyCommitted, PreparedError, StillOpenError, done
@@ -45,7 +44,7 @@ class PreparingMemory(Memory):
         self.sleepers.has_woken = False
         if one is not None:
             self.doing = partial(self._put_decision_right, key, one, end, commits, aborts)
-            code = (COMMIT if is_commit else ABORT)(self._handle, one.worker, one.number)
+            code = (COMMIT if is_commit else ABORT)(self._handle, one.worker, self.epoch.in_library(one.number))
             if not code:
                 self._has_decided(key, one, end, commits, aborts)
             self.doing = None
@@ -94,19 +93,11 @@ class PreparingMemory(Memory):
                 raise PreparedError(key)
         super().follow(made)
 
-    def renew(self) -> None:
-        self._check_decided()
-        super().renew()
-
     def _extend(self, added: List[Given]) -> int:
-        self._check_decided()
-        return super()._extend(added)
-
-    def _check_decided(self) -> None:
-        """Raises `StillOpenError` where a transaction is prepared."""
         self.put_right()
         if self.undecided:
             raise StillOpenError(StillOpenError.__doc__)
+        return super()._extend(added)
 
     def close(self) -> Finish:
         finish = super().close()
@@ -115,17 +106,11 @@ class PreparingMemory(Memory):
 
     def _abort_others(self) -> int:
         """Aborts each transaction that isn't prepared, in ascending order, and returns how many there were."""
-        count, kept = self.open_count(), {one.number for one in self.undecided.values()}
-        others: Set[int] = set()
-        # those of `follow` are held by nobody, and each was begun by an event
-        for number in chain(self.holders, range(self.event_count())):
-            if len(others) == count - len(kept):
-                break
-            if number not in kept and self.is_open(self.life, number):
-                others.add(number)
+        kept = {one.number for one in self.undecided.values()}
+        others = [number for number in self.open_numbers() if number not in kept]
         self.doing = self.sleepers.begin_anew
-        for number in sorted(others):
-            done(ABORT(self._handle, self._worker_of(number), number))
+        for number in others:
+            done(ABORT(self._handle, self._worker_of(number), self.epoch.in_library(number)))
         self.ends += 1
         self.sleepers.begin_anew()
         self.doing = None

@@ -49,8 +49,8 @@ class Store(Questions):
         """A store in memory of an object of each of these types, each in its initial state.
 
         In place of a type there may be a pair of a name and a type, and in place of all a dict of types by names. Its
-        history will have at most `max_events` events, those that were forgotten among them; the other limits are those of
-        `Limits()`. Raises `BadName`, `NameTaken`, `NoObjects`, `TooManyObjects`, `BadMax`, `NoMemory`, or `ClosedError` of
+        history will have at most `max_events` events, those that were forgotten among them, until it begins anew
+        (`forget_when_full`); the other limits are those of `Limits()`. Raises `BadName`, `NameTaken`, `NoObjects`, `TooManyObjects`, `BadMax`, `NoMemory`, or `ClosedError` of
         a type.
         """
         self._start(PreparingMemory(given(types), Limits(max_events)), 0.0)
@@ -126,8 +126,8 @@ class Store(Questions):
         """Begins a transaction, as a worker, which is a number below 256 that its events have.
 
         It is open until it commits or aborts, nobody has it any more, or the store is closed, unless it is prepared. In a file, where an epoch
-        is full or objects are added, it waits for the next one. Raises `TooManyOpenError`, `HistoryFullError`, `NoMemory` or `ClosedError`; of a store in
-        a file `ConnectionLost`, `TimedOut` where the next epoch doesn't come, or `InMemoryOnly` of a worker other than 0.
+        is full or objects are added, it waits for the next one. Raises `TooManyOpenError`, `HistoryFullError` where events are kept (`forget_when_full`),
+        `NoMemory` or `ClosedError`; of a store in a file `ConnectionLost`, `TimedOut` where the next epoch doesn't come, or `InMemoryOnly` of a worker other than 0.
         """
         t = Transaction(self, unsigned("the worker", worker, 8), next(self._ages))
         if self._backend.turn_of:
@@ -425,11 +425,34 @@ class Store(Questions):
     def forget(self, events: int) -> None:
         """Forgets the first events, this many of those that are in memory, or all of them.
 
-        Raises `ClosedError` or `InMemoryOnly`.
+        A store whose events are all forgotten has no end: where its history would be full it begins anew by itself, as
+        `forget_when_full` says. It does so here too, where half of its room is used. So who forgets all events before the next
+        half is used never meets `HistoryFullError`, but where open transactions hold nearly all of the limit. Raises
+        `ClosedError` or `InMemoryOnly`.
         """
         count = unsigned("the number of events", events, 64)
         self._check_no_turn()
         self._told(lambda: self._backend.forget(count))
+
+    def take_events(self) -> List[Event]:
+        """The events that weren't forgotten, oldest first, which are forgotten now: what is read so is read once.
+
+        No event of another thread comes between. So a store that is asked now and then, before half of its limit was used, has
+        no end, and no event of it is lost; but where a signal handler raises in it they may be forgotten. Raises `ClosedError`,
+        `MemoryError` or `InMemoryOnly`.
+        """
+        self._check_no_turn()
+        return self._told(self._backend.take_events)()
+
+    def forget_when_full(self) -> None:
+        """Where its history is full, it is to forget all events and to go on, by itself.
+
+        Else it does so only where they were forgotten before: who keeps a history doesn't lose it. What is open goes on, and
+        nothing tells that the store began anew: neither numbers of transactions and of events, nor moments. Where a yes of the
+        checker is one-way, it goes on only while no transaction is open. Raises `ClosedError` or `InMemoryOnly`.
+        """
+        self._check_no_turn()
+        self._told(self._backend.forget_when_full)
 
     def follow(self, events: Iterable[Event]) -> None:
         """Makes events again, one after another, each as its worker: a store becomes what another was.
@@ -442,15 +465,19 @@ class Store(Questions):
         self._told(lambda: self._backend.follow(all_of_them))
 
     def renew(self) -> None:
-        """Begins anew, with no event, at the states that are kept. Transactions count from 0 again.
+        """Begins anew, at the states that are kept.
 
-        Raises `StillOpenError`, `NoMemory`, `ClosedError` or `InMemoryOnly`.
+        Where no transaction is open it has no event then, and transactions and events count from 0 again. Where some are open, or
+        prepared, and each yes of the checker is strong, all of them go on, also those that wait, and only the events are
+        forgotten: numbers count on, so that nothing else can be told.
+
+        Raises `StillOpenError` where one is open and some yes is one-way, `NoMemory`, `ClosedError` or `InMemoryOnly`.
         """
         self._check_no_turn()
         self._told(self._backend.renew)
 
     def extend(self, types: Objects) -> int:
-        """Begins anew, as `renew`, with more objects, and returns the number of the first of them.
+        """Begins anew, as `renew` while nobody is open, with more objects, and returns the number of the first of them.
 
         They come after those that there are, each in its initial state, and are given as to `Store`. In a file it waits, and
         no transaction begins meanwhile, until all that are open have ended or the `drain` of `open` is over, which aborts them;

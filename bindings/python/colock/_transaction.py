@@ -4,6 +4,7 @@ from typing import TYPE_CHECKING, Callable, Optional, Set, cast
 from typing import Type as Class
 
 from ._backend import Asked, Finish
+from ._epoch import Epoch
 from ._errors import DeadlockError, Error
 from ._keys import check_key
 from ._library import unsigned
@@ -22,7 +23,7 @@ class Transaction:
     said of that, `DeadlockError` is raised after the `with`, so that nobody takes it for committed. `Store.begin` makes it.
     """
 
-    __slots__ = ("_store", "_life", "_worker", "_number", "_age", "_touched", "_took_back", "_key", "_ended", "_deadlock", "__weakref__")
+    __slots__ = ("_store", "_life", "_worker", "_number", "_age", "_touched", "_took_back", "_key", "_ended", "_deadlock", "_epoch", "_in_library", "__weakref__")
 
     def __init__(self, store: "Store", worker: int, age: int) -> None:
         """One that hasn't begun, whose number is -1: it is there before, so that nothing begins that nobody has."""
@@ -36,6 +37,9 @@ class Transaction:
         self._ended = False
         # the deadlock whose victim it was
         self._deadlock: Optional[DeadlockError] = None
+        # of a store in memory: the epoch of the library in which it was used last, and its number there
+        self._epoch: Optional[Epoch] = None
+        self._in_library = -1
 
     @property
     def number(self) -> int:
@@ -46,7 +50,7 @@ class Transaction:
     def id(self) -> str:
         """Its life and its number, `S.N`, by which `Store.committed` says what became of it.
 
-        Of a store in memory the life is how often it was renewed.
+        Of a store in memory the life is how often it was renewed while no transaction was open.
         """
         return f"{self._life}.{self._number}"
 

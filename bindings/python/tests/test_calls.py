@@ -89,10 +89,10 @@ class Calls:
         where, name = (_asking, "read_event") if self.is_child else (_memory, "event_of")
         read = getattr(where, name)
 
-        def slowly(words):
+        def slowly(words, *more):
             """Reads an event while another thread asks the store."""
             asked.append(Run(store.kept, 0).result())
-            return read(words)
+            return read(words, *more)
 
         with mock.patch.object(where, name, slowly):
             self.assertEqual([str(event) for event in store.events()], ["begin 0 0", "commit 0 0"])

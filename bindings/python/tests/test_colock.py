@@ -216,7 +216,6 @@ class Stores(unittest.TestCase):
         t.rollback(1)
         self.assertEqual((store.kept(0), store.open_count()), (0, 2))
         self.assertRaises(colock.NoObject, store.kept, 2)
-        self.assertRaises(colock.StillOpenError, store.renew)
         t.commit()
         u.abort()
         wanted = ["begin 3 0", "begin 4 1", "op 3 0 0 0", "busy 4 1 0 1 0", "none 4 1 1 1", "rollback 3 0 1", "commit 3 0", "abort 4 1"]

@@ -360,7 +360,6 @@ class EscrowInMemory(support.InMemory, Numbers, Waits, LetsGo, unittest.TestCase
     def test_it_begins_anew(self):
         store, t = self.number(1)
         t.call(0, "give:1")
-        self.assertRaises(colock.StillOpenError, store.renew)
         t.commit()
         events = store.events()
         store.renew()

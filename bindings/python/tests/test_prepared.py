@@ -318,11 +318,12 @@ class PreparingInMemory(support.InMemory, Preparing, unittest.TestCase):
         self.ready(store)
         self.assertEqual(self.make([COUNTER]).outcome("a"), Unknown())
 
-    def test_the_store_doesnt_begin_anew(self):
+    def test_it_goes_on_where_the_store_begins_anew(self):
         store = self.make([COUNTER])
         self.ready(store)
-        for act in (store.renew, lambda: store.extend([COUNTER])):
-            self.assertRaises(colock.StillOpenError, act)
+        store.renew()
+        self.assertRaises(colock.StillOpenError, store.extend, [COUNTER])
+        self.assertEqual((store.outcome("a"), store.open_count(), store.event_count(), store.forgotten_count()), (Prepared(), 1, 2, 2))
         store.decide("a", COMMIT)
         store.renew()
         self.assertEqual((store.kept(0), store.outcome("a"), store.extend([COUNTER])), (1, Committed(()), 1))
