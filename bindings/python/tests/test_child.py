@@ -150,7 +150,7 @@ class Opening(Files):
 
     def test_in_memory_only(self):
         with self.open([COUNTER], create=True) as store:
-            for act in (store.forgotten_count, lambda: store.forget(1), lambda: store.follow([]), store.renew, store.abort_all, lambda: store.begin(1)):
+            for act in (store.forgotten_count, lambda: store.forget(1), store.forget_when_full, store.take_events, lambda: store.follow([]), store.renew, store.abort_all, lambda: store.begin(1)):
                 self.assertRaises(colock.InMemoryOnly, act)
             self.assertRaises(colock.InMemoryOnly, store.retry, lambda t: None, worker=1)
 

@@ -462,6 +462,7 @@ fn what_a_child_doesnt_do() {
         (store.forgotten_count(), store.forget(1), store.renew(), store.abort_all()),
         (Err(Error::InMemoryOnly), Err(Error::InMemoryOnly), Err(Error::InMemoryOnly), Err(Error::InMemoryOnly))
     );
+    assert_eq!((store.forget_when_full(), store.take_events()), (Err(Error::InMemoryOnly), Err(Error::InMemoryOnly)));
     let followed = store.follow(&[Event::Begin { worker: 0, transaction: 0 }]).unwrap_err();
     assert_eq!((followed.made, followed.error), (0, Error::InMemoryOnly));
 }
