@@ -1,0 +1,3 @@
+//! The store over HTTP.
+#![forbid(unsafe_code)]
+fn main() {}
