@@ -1,0 +1,180 @@
+//! One child: what is asked is written to it, and what it answers is handed on.
+
+use crate::engine::answer::Answer;
+use crate::engine::child::{kill, next_line, reap, Started};
+use crate::engine::flight::Flight;
+use crate::engine::{Asked, Group, Listener, Lost, Outcome, Told};
+use crate::locks::locked;
+use std::fmt::Write;
+use std::io;
+use std::sync::{Arc, Mutex};
+use std::time::{Duration, Instant};
+use tokio::io::{AsyncWriteExt, BufReader};
+use tokio::process::{ChildStdin, ChildStdout};
+use tokio::sync::{mpsc, oneshot};
+use tokio::task::JoinHandle;
+use tokio::time::{sleep, timeout};
+
+/// How many bytes of questions are written at once, but for a group that is longer by itself.
+const WRITTEN_AT_ONCE: usize = 32_768;
+
+/// How long a child may answer nothing that it was asked; then it is ended.
+pub const LONGEST_SILENCE: Duration = Duration::from_secs(60);
+
+/// How a conversation ended.
+#[derive(Clone, Debug, PartialEq, Eq)]
+pub(crate) enum How {
+    /// It was asked to.
+    InOrder,
+    /// The child was lost.
+    Lost(String),
+}
+
+/// Who waits for an answer.
+#[derive(Debug)]
+struct Waiter<A> {
+    to: oneshot::Sender<Outcome>,
+    about: A,
+    written: Instant,
+}
+
+/// What was written, and when something was answered last.
+#[derive(Debug)]
+struct Air<A> {
+    flight: Flight<Waiter<A>>,
+    answered: Instant,
+}
+
+/// Writes what comes, until the child ends.
+pub(crate) async fn converse<A: Send + 'static>(started: Started, unwritten: &mut mpsc::Receiver<Group<A>>, listener: &Arc<dyn Listener<A>>) -> How {
+    let (child, mut input, output) = started.parts();
+    let air = Arc::new(Mutex::new(Air { flight: Flight::default(), answered: Instant::now() }));
+    let mut reader = tokio::spawn(read_all(output, Arc::clone(&air), Arc::clone(listener)));
+    let written = write_all(&mut input, unwritten, &air, listener, &mut reader).await;
+    let how = match written {
+        How::InOrder => {
+            let last = timeout(LONGEST_SILENCE, &mut reader).await;
+            drop(input);
+            match last {
+                Ok(_) if locked(&air).flight.is_empty() => How::InOrder,
+                _ => How::Lost("it didn't answer its end".to_string()),
+            }
+        }
+        lost => lost,
+    };
+    if how == How::InOrder {
+        reap(child).await;
+    } else {
+        kill(child).await;
+    }
+    reader.abort();
+    lose(&air);
+    how
+}
+
+/// What was in flight is answered as lost.
+fn lose<A>(air: &Mutex<Air<A>>) {
+    let waiters = locked(air).flight.lose();
+    for waiter in waiters {
+        // who doesn't wait any more needs no answer
+        let _ = waiter.to.send(Err(Lost::InFlight));
+    }
+}
+
+/// Writes group after group, until one is the end, or the child is lost.
+async fn write_all<A: Send + 'static>(
+    input: &mut ChildStdin,
+    unwritten: &mut mpsc::Receiver<Group<A>>,
+    air: &Mutex<Air<A>>,
+    listener: &Arc<dyn Listener<A>>,
+    reader: &mut JoinHandle<String>,
+) -> How {
+    let mut lines = String::new();
+    loop {
+        let is_waiting = !locked(air).flight.is_empty();
+        tokio::select! {
+            why = &mut *reader => return How::Lost(why.unwrap_or_else(|_| "its answers broke the reader".to_string())),
+            () = sleep(LONGEST_SILENCE / 4), if is_waiting => {
+                if is_silent(air) {
+                    return How::Lost("it answers nothing".to_string());
+                }
+            }
+            group = unwritten.recv() => {
+                let Some(group) = group else { return How::Lost("nobody asks any more".to_string()) };
+                lines.clear();
+                let (count, is_end) = gather(group, unwritten, air, &mut lines);
+                listener.wrote(count);
+                match timeout(LONGEST_SILENCE, input.write_all(lines.as_bytes())).await {
+                    Ok(Ok(())) if is_end => return How::InOrder,
+                    Ok(Ok(())) => {}
+                    Ok(Err(error)) => return How::Lost(format!("nothing can be asked: {error}")),
+                    Err(_) => return How::Lost("it reads nothing".to_string()),
+                }
+            }
+        }
+    }
+}
+
+fn is_silent<A>(air: &Mutex<Air<A>>) -> bool {
+    let air = locked(air);
+    !air.flight.is_empty() && air.answered.elapsed() >= LONGEST_SILENCE
+}
+
+/// The lines of a group, and of those that were asked by now; how many questions these are, and whether the last is the end.
+fn gather<A>(group: Group<A>, unwritten: &mut mpsc::Receiver<Group<A>>, air: &Mutex<Air<A>>, lines: &mut String) -> (usize, bool) {
+    let mut air = locked(air);
+    if air.flight.is_empty() {
+        air.answered = Instant::now();
+    }
+    let (mut next, mut count) = (Some(group), 0);
+    while let Some(group) = next {
+        count += 1 + group.rest.len();
+        let is_end = group.is_end;
+        for asked in std::iter::once(group.first).chain(group.rest) {
+            add_line(&mut air.flight, asked, lines);
+        }
+        if is_end {
+            return (count, true);
+        }
+        next = (lines.len() < WRITTEN_AT_ONCE).then(|| unwritten.try_recv().ok()).flatten();
+    }
+    (count, false)
+}
+
+fn add_line<A>(flight: &mut Flight<Waiter<A>>, asked: Asked<A>, lines: &mut String) {
+    let Asked { question, to } = asked;
+    let tag = flight.expect(question.form, Waiter { to, about: question.about, written: Instant::now() });
+    // a string takes all that is written to it
+    let _ = writeln!(lines, "{tag} {}", question.words);
+}
+
+/// Hands each answer to whoever asked; why there are no more.
+async fn read_all<A: 'static>(mut output: BufReader<ChildStdout>, air: Arc<Mutex<Air<A>>>, listener: Arc<dyn Listener<A>>) -> String {
+    let mut room = Vec::new();
+    loop {
+        match next_line(&mut output, &mut room).await {
+            Ok(Some(line)) => {
+                if let Err(why) = hand_on(line, &air, &listener) {
+                    return why;
+                }
+            }
+            Ok(None) => return "its output has ended".to_string(),
+            Err(error) if error.kind() == io::ErrorKind::InvalidData => return "a line of its output is none".to_string(),
+            Err(error) => return format!("its output can't be read: {error}"),
+        }
+    }
+}
+
+fn hand_on<A: 'static>(line: &str, air: &Mutex<Air<A>>, listener: &Arc<dyn Listener<A>>) -> Result<(), String> {
+    let whole = {
+        let mut air = locked(air);
+        air.answered = Instant::now();
+        air.flight.take(line).map_err(|no_answer| no_answer.0)?
+    };
+    let Some(whole) = whole else { return Ok(()) };
+    let answer = Answer::read(whole.line).ok_or_else(|| format!("no answer of a store: {}", whole.line.escape_debug()))?;
+    listener.answered(&whole.asker.about, answer, whole.asker.written.elapsed());
+    // who doesn't wait any more needs no answer
+    let _ = whole.asker.to.send(Ok(Told { listed: whole.listed, line: whole.line.to_string() }));
+    Ok(())
+}

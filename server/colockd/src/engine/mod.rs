@@ -1,0 +1,230 @@
+//! The store behind its pipe: questions of many tasks go to one child, and each answer to whoever asked.
+//!
+//! What is asked while something is written is written next, all at once; so commits of many tasks share a sync of the store. The
+//! child is started again where it ends. What it hadn't answered is lost then; what wasn't written yet goes to the next one.
+
+pub mod answer;
+pub mod child;
+mod conversation;
+pub mod flight;
+pub mod question;
+
+use crate::engine::answer::Answer;
+use crate::engine::child::{Greeting, Plan, Started};
+use crate::engine::conversation::{converse, How};
+use crate::engine::question::Question;
+use std::sync::Arc;
+use std::time::{Duration, Instant};
+use tokio::sync::{mpsc, oneshot, watch};
+use tokio::time::{sleep, timeout};
+use tracing::{error, info, warn};
+
+/// The most groups of questions that aren't written yet; who asks more waits.
+pub const MOST_UNWRITTEN: usize = 4_096;
+
+/// How long a question waits for a child that is being started.
+pub const LONGEST_AWAY: Duration = Duration::from_secs(5);
+
+/// How long is waited before a child that ended is started again: at first, and at most.
+const PAUSES: (Duration, Duration) = (Duration::from_millis(20), Duration::from_secs(5));
+
+/// How long a child has to live for the pause to be the first one again.
+const LONG_LIFE: Duration = Duration::from_secs(10);
+
+/// Who is told each answer in the order in which the store gave them.
+pub trait Listener<A>: Send + Sync + 'static {
+    /// A question was answered, this long after it was written.
+    fn answered(&self, about: &A, answer: Answer<'_>, since: Duration);
+    /// So many questions were written at once.
+    fn wrote(&self, count: usize);
+    /// A child has begun.
+    fn greeted(&self, greeting: Greeting);
+    /// A child has ended.
+    fn lost(&self);
+}
+
+/// What the store answered.
+#[derive(Clone, Debug, Default, PartialEq, Eq)]
+pub struct Told {
+    /// The lines before the last one.
+    pub listed: String,
+    /// The last line.
+    pub line: String,
+}
+
+impl Told {
+    /// What the last line says.
+    pub fn answer(&self) -> Option<Answer<'_>> {
+        Answer::read(&self.line)
+    }
+}
+
+/// Why there is no answer.
+#[derive(Clone, Copy, Debug, PartialEq, Eq)]
+pub enum Lost {
+    /// It wasn't asked: the store is being started, or has ended.
+    Unasked,
+    /// The store ended before it answered.
+    InFlight,
+}
+
+/// What comes of a question.
+pub type Outcome = Result<Told, Lost>;
+
+/// Whether there is a store.
+#[derive(Clone, Copy, Debug, PartialEq, Eq)]
+pub enum Status {
+    /// It is being started.
+    Away,
+    /// It answers.
+    Up(Greeting),
+    /// It has ended in order, and none comes any more.
+    Ended,
+}
+
+/// A question, and who is to have the answer.
+#[derive(Debug)]
+pub(crate) struct Asked<A> {
+    pub(crate) question: Question<A>,
+    pub(crate) to: oneshot::Sender<Outcome>,
+}
+
+/// Questions that are written one behind the other.
+#[derive(Debug)]
+pub(crate) struct Group<A> {
+    pub(crate) first: Asked<A>,
+    pub(crate) rest: Vec<Asked<A>>,
+    /// Whether the store is to end by it.
+    pub(crate) is_end: bool,
+}
+
+/// The store, for all tasks.
+#[derive(Debug)]
+pub struct Engine<A> {
+    groups: mpsc::Sender<Group<A>>,
+    status: watch::Receiver<Status>,
+}
+
+impl<A> Clone for Engine<A> {
+    fn clone(&self) -> Engine<A> {
+        Engine { groups: self.groups.clone(), status: self.status.clone() }
+    }
+}
+
+impl<A: Default + Send + 'static> Engine<A> {
+    /// Starts the store, and starts it again where it ends.
+    pub fn start(plan: Plan, listener: Arc<dyn Listener<A>>) -> Engine<A> {
+        let (groups, unwritten) = mpsc::channel(MOST_UNWRITTEN);
+        let (told, status) = watch::channel(Status::Away);
+        tokio::spawn(supervise(plan, unwritten, told, listener));
+        Engine { groups, status }
+    }
+
+    /// Whether there is a store.
+    pub fn status(&self) -> Status {
+        *self.status.borrow()
+    }
+
+    /// Waits until there is a store, at most this long.
+    ///
+    /// # Errors
+    ///
+    /// [`Lost::Unasked`] where there is none by then.
+    pub async fn up(&self, limit: Duration) -> Result<Greeting, Lost> {
+        let mut status = self.status.clone();
+        let up = async move {
+            loop {
+                match *status.borrow_and_update() {
+                    Status::Up(greeting) => return Ok(greeting),
+                    Status::Ended => return Err(Lost::Unasked),
+                    Status::Away => {}
+                }
+                status.changed().await.map_err(|_| Lost::Unasked)?;
+            }
+        };
+        timeout(limit, up).await.unwrap_or(Err(Lost::Unasked))
+    }
+
+    /// Asks, and waits for the answer.
+    ///
+    /// # Errors
+    ///
+    /// [`Lost`] where none comes.
+    pub async fn ask(&self, question: Question<A>) -> Outcome {
+        let (to, told) = oneshot::channel();
+        self.put(Group { first: Asked { question, to }, rest: Vec::new(), is_end: false }).await?;
+        told.await.unwrap_or(Err(Lost::InFlight))
+    }
+
+    /// Asks several things one behind the other, with nothing of others between them, and waits for all answers.
+    ///
+    /// # Errors
+    ///
+    /// [`Lost`] where one of them doesn't come.
+    pub async fn ask_all(&self, questions: Vec<Question<A>>) -> Result<Vec<Told>, Lost> {
+        let mut answers = Vec::with_capacity(questions.len());
+        let asked = questions.into_iter().map(|question| {
+            let (to, told) = oneshot::channel();
+            answers.push(told);
+            Asked { question, to }
+        });
+        let mut asked = asked.collect::<Vec<_>>().into_iter();
+        let Some(first) = asked.next() else { return Ok(Vec::new()) };
+        self.put(Group { first, rest: asked.collect(), is_end: false }).await?;
+        let mut told = Vec::with_capacity(answers.len());
+        for answer in answers {
+            told.push(answer.await.unwrap_or(Err(Lost::InFlight))?);
+        }
+        Ok(told)
+    }
+
+    /// Asks the store for its end, and waits for it.
+    pub async fn end(&self) {
+        let (to, told) = oneshot::channel();
+        let first = Asked { question: Question::of("end"), to };
+        if self.put(Group { first, rest: Vec::new(), is_end: true }).await.is_ok() {
+            // the status says how it ended
+            let _ = told.await;
+            let mut status = self.status.clone();
+            while *status.borrow_and_update() != Status::Ended && status.changed().await.is_ok() {}
+        }
+    }
+
+    async fn put(&self, group: Group<A>) -> Result<(), Lost> {
+        self.up(LONGEST_AWAY).await?;
+        self.groups.send(group).await.map_err(|_| Lost::Unasked)
+    }
+}
+
+/// Starts one child after the other.
+async fn supervise<A: Default + Send + 'static>(
+    plan: Plan,
+    mut unwritten: mpsc::Receiver<Group<A>>,
+    status: watch::Sender<Status>,
+    listener: Arc<dyn Listener<A>>,
+) {
+    let mut pause = PAUSES.0;
+    loop {
+        let start = Instant::now();
+        match Started::start(&plan).await {
+            Ok(started) => {
+                info!(process = started.process(), life = started.greeting.life, "the store has begun");
+                listener.greeted(started.greeting);
+                status.send_replace(Status::Up(started.greeting));
+                let how = converse(started, &mut unwritten, &listener).await;
+                status.send_replace(if how == How::InOrder { Status::Ended } else { Status::Away });
+                listener.lost();
+                match how {
+                    How::InOrder => return,
+                    How::Lost(why) => warn!(why, "the store has ended, and is started again"),
+                }
+            }
+            Err(why) => error!(%why, "the store can't be started"),
+        }
+        if start.elapsed() >= LONG_LIFE {
+            pause = PAUSES.0;
+        }
+        sleep(pause).await;
+        pause = (pause * 2).min(PAUSES.1);
+    }
+}

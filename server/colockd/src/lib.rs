@@ -1,0 +1,11 @@
+//! The store of colock over HTTP.
+
+#![forbid(unsafe_code)]
+#![cfg_attr(test, allow(clippy::unwrap_used, clippy::expect_used, clippy::panic))]
+
+pub mod engine;
+pub mod locks;
+pub mod metrics;
+pub mod names;
+pub mod recent;
+pub mod store;

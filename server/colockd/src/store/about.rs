@@ -1,0 +1,99 @@
+//! What is to be noted of the answer to a question.
+
+use crate::names::TransactionName;
+use crate::store::bell::Bell;
+use colock_waiting::{Age, Asker, Class, Number, ObjectIndex};
+use std::sync::Arc;
+use std::time::Duration;
+
+/// How a transaction is to end.
+#[derive(Clone, Copy, Debug, PartialEq, Eq)]
+pub enum Ending {
+    /// Its operations are to stay.
+    Commit,
+    /// They are to be taken back, for this reason.
+    Abort(Cause),
+}
+
+/// Why a transaction is aborted.
+#[derive(Clone, Copy, Debug, PartialEq, Eq)]
+pub enum Cause {
+    /// Its client asked for that.
+    Asked,
+    /// Somebody with the right to.
+    Admin,
+    /// Nothing was asked of it for too long.
+    Idle,
+    /// It was the victim of a circle of transactions that waited for one another.
+    Deadlock,
+    /// The epoch ended.
+    Epoch,
+    /// The store ended.
+    Lost,
+    /// The server ends.
+    Drained,
+}
+
+impl Cause {
+    /// Its word, in metrics and answers.
+    pub fn word(self) -> &'static str {
+        match self {
+            Cause::Asked => "asked",
+            Cause::Admin => "admin",
+            Cause::Idle => "idle",
+            Cause::Deadlock => "deadlock",
+            Cause::Epoch => "epoch",
+            Cause::Lost => "lost",
+            Cause::Drained => "drained",
+        }
+    }
+}
+
+/// Whose transaction begins, and how long nothing may be asked of it.
+#[derive(Clone, Debug)]
+pub struct Beginning {
+    /// The name of the token.
+    pub owner: Arc<str>,
+    /// How long.
+    pub idle: Duration,
+}
+
+/// The calls of a whole transaction.
+#[derive(Debug)]
+pub struct AttemptCalls {
+    /// Of each its object and its class.
+    pub calls: Vec<(ObjectIndex, Class)>,
+    /// What it is among those that wait, where it may wait.
+    pub place: Option<AttemptPlace>,
+}
+
+/// An attempt among those that wait.
+#[derive(Clone, Debug)]
+pub struct AttemptPlace {
+    /// Its number, which is no transaction's.
+    pub number: Number,
+    /// Its age.
+    pub age: Age,
+    /// How it is woken.
+    pub bell: Arc<Bell>,
+}
+
+/// What a question is about.
+#[derive(Debug, Default)]
+pub enum About {
+    /// Nothing is to be noted.
+    #[default]
+    Nothing,
+    /// A transaction begins.
+    Begin(Beginning),
+    /// A transaction calls; and how it is woken, where it may wait.
+    Call(Asker, Option<Arc<Bell>>),
+    /// What a call that waits would be answered.
+    Would(Number),
+    /// A whole transaction.
+    Attempt(Arc<AttemptCalls>),
+    /// A transaction ends.
+    End(TransactionName, Ending),
+    /// A transaction takes back so many operations.
+    Rollback(TransactionName, u32),
+}

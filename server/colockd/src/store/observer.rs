@@ -1,0 +1,256 @@
+//! What is noted of each answer, in the order in which the store gave them.
+
+use crate::engine::answer::{Answer, Refusal};
+use crate::engine::child::Greeting;
+use crate::engine::Listener;
+use crate::metrics::Metrics;
+use crate::names::TransactionName;
+use crate::store::about::{About, AttemptCalls, Cause, Ending};
+use crate::store::bell::Bell;
+use crate::store::open::{Held, OpenTransactions, Standing};
+use crate::store::waits::Waits;
+use colock_waiting::{Asker, Number, Touched};
+use std::sync::atomic::{AtomicU32, AtomicU64, Ordering};
+use std::sync::Arc;
+use std::time::Duration;
+
+/// The number of whoever ends and isn't known.
+const NOBODY: Number = Number(u64::MAX);
+
+/// Keeps what is open, who waits, and the metrics.
+#[derive(Debug)]
+pub struct Observer {
+    /// What is open.
+    pub open: Arc<OpenTransactions>,
+    /// Who waits.
+    pub waits: Arc<Waits>,
+    /// What is counted.
+    pub metrics: Arc<Metrics>,
+    life: AtomicU32,
+    happened: AtomicU64,
+}
+
+impl Observer {
+    /// Nothing has happened.
+    pub fn new(open: Arc<OpenTransactions>, waits: Arc<Waits>, metrics: Arc<Metrics>) -> Observer {
+        Observer { open, waits, metrics, life: AtomicU32::new(0), happened: AtomicU64::new(0) }
+    }
+
+    /// The life of the store, as far as it was told.
+    pub fn life(&self) -> u32 {
+        self.life.load(Ordering::Relaxed)
+    }
+
+    /// A count that grows where the history may have.
+    pub fn happened(&self) -> u64 {
+        self.happened.load(Ordering::Relaxed)
+    }
+
+    /// The store told its life: where it is another one, the epoch has ended with all that was open.
+    pub fn told_life(&self, life: u32) {
+        if self.life.fetch_max(life, Ordering::Relaxed) < life {
+            self.epoch_ended(life);
+        }
+    }
+
+    fn epoch_ended(&self, life: u32) {
+        let count = self.open.end_older(life, Cause::Epoch);
+        self.metrics.aborted(Cause::Epoch, count as u64);
+        self.metrics.epochs.inc();
+        self.waits.epoch_ended();
+        tracing::info!(life, aborted = count, "another epoch has begun");
+    }
+
+    fn ended(&self, name: TransactionName, standing: Standing) {
+        let Some(touched) = self.open.ends(name, standing) else { return };
+        match standing {
+            Standing::Committed => self.metrics.commits.inc(),
+            Standing::Aborted(cause) => self.metrics.aborted(cause, 1),
+        }
+        self.waits.ended(Number(name.packed()), touched);
+    }
+
+    fn called(&self, asker: Asker, bell: Option<&Arc<Bell>>, answer: Answer<'_>) {
+        let name = TransactionName::unpacked(asker.number.0);
+        match answer {
+            Answer::Reply(reply) => self.open.executes(name, Held { object: asker.object, class: asker.call.0, reply: reply.to_string() }),
+            Answer::Busy(blocker) => {
+                self.metrics.busy(asker.object.0);
+                if let Some(bell) = bell {
+                    self.waits.busy(asker, bell, Number(blocker.packed()));
+                }
+            }
+            Answer::Refused(Refusal::NotOpen) => self.ended(name, Standing::Aborted(Cause::Epoch)),
+            _ => {}
+        }
+    }
+
+    fn attempted(&self, attempt: &AttemptCalls, answer: Answer<'_>) {
+        match answer {
+            Answer::Done(_) => {
+                self.metrics.commits.inc();
+                let touched: Touched = attempt.calls.iter().map(|(object, _)| *object).collect();
+                self.waits.ended(attempt.place.as_ref().map_or(NOBODY, |place| place.number), touched);
+            }
+            Answer::BusyAt(place, blocker) => {
+                self.told_life(blocker.life);
+                let Some(&(object, call)) = attempt.calls.get(place) else { return };
+                self.metrics.busy(object.0);
+                if let Some(place) = &attempt.place {
+                    let asker = Asker { number: place.number, age: place.age, object, call };
+                    self.waits.busy(asker, &place.bell, Number(blocker.packed()));
+                }
+            }
+            _ => {}
+        }
+    }
+
+    fn end_answered(&self, name: TransactionName, ending: Ending, answer: Answer<'_>) {
+        match (ending, answer) {
+            (Ending::Commit, Answer::Ok(_)) => self.ended(name, Standing::Committed),
+            (Ending::Abort(cause), Answer::Ok(_)) => self.ended(name, Standing::Aborted(cause)),
+            (_, Answer::Refused(Refusal::NotOpen)) => self.ended(name, Standing::Aborted(Cause::Epoch)),
+            _ => {}
+        }
+    }
+}
+
+impl Listener<About> for Observer {
+    fn answered(&self, about: &About, answer: Answer<'_>, since: Duration) {
+        if !matches!(about, About::Nothing | About::Would(_)) {
+            self.happened.fetch_add(1, Ordering::Relaxed);
+        }
+        match about {
+            About::Nothing => {}
+            About::Begin(beginning) => {
+                if let Answer::Ok(name) = answer {
+                    if let Ok(name) = name.parse::<TransactionName>() {
+                        self.told_life(name.life);
+                        self.open.begins(name, beginning, self.waits.next_age());
+                    }
+                }
+            }
+            About::Call(asker, bell) => self.called(*asker, bell.as_ref(), answer),
+            About::Would(number) => match answer {
+                Answer::Busy(blocker) => self.waits.would(*number, Some(Number(blocker.packed()))),
+                _ => self.waits.would(*number, None),
+            },
+            About::Attempt(attempt) => self.attempted(attempt, answer),
+            About::End(name, ending) => self.end_answered(*name, *ending, answer),
+            About::Rollback(name, count) => {
+                if let Answer::Ok(_) = answer {
+                    let touched = self.open.takes_back(*name, *count as usize);
+                    self.waits.took_back(Number(name.packed()), touched);
+                }
+            }
+        }
+        if matches!(about, About::Attempt(_) | About::End(_, Ending::Commit)) {
+            self.metrics.answered_commit(since);
+        }
+    }
+
+    fn wrote(&self, count: usize) {
+        self.metrics.group_size.observe(count as f64);
+    }
+
+    fn greeted(&self, greeting: Greeting) {
+        self.life.fetch_max(greeting.life, Ordering::Relaxed);
+        self.happened.fetch_add(1, Ordering::Relaxed);
+        self.metrics.starts.inc();
+    }
+
+    fn lost(&self) {
+        let count = self.open.end_older(u32::MAX, Cause::Lost);
+        self.metrics.aborted(Cause::Lost, count as u64);
+        self.waits.lost();
+    }
+}
+
+#[cfg(test)]
+mod tests {
+    use super::{Observer, OpenTransactions, Waits};
+    use crate::engine::answer::{Answer, Refusal};
+    use crate::engine::child::Greeting;
+    use crate::engine::Listener;
+    use crate::metrics::Metrics;
+    use crate::names::TransactionName;
+    use crate::store::about::{About, AttemptCalls, AttemptPlace, Beginning, Cause, Ending};
+    use crate::store::bell::{Bell, Woken};
+    use crate::store::objects::SharedObjects;
+    use crate::store::open::{Known, Standing};
+    use colock_waiting::{Asker, Class, Number, ObjectIndex};
+    use std::sync::Arc;
+    use std::time::Duration;
+    use tokio::sync::mpsc::unbounded_channel;
+    use tokio::time::Instant;
+
+    const NAME: TransactionName = TransactionName { life: 3, number: 0 };
+
+    fn observer() -> Observer {
+        let (due, _) = unbounded_channel();
+        let observer = Observer::new(Arc::default(), Arc::new(Waits::new(SharedObjects::default(), due)), Arc::new(Metrics::new().unwrap()));
+        observer.greeted(Greeting { life: 3, found: None });
+        observer
+    }
+
+    fn tell(observer: &Observer, about: &About, line: &str) {
+        observer.answered(about, Answer::read(line).unwrap(), Duration::ZERO);
+    }
+
+    fn begin() -> About {
+        About::Begin(Beginning { owner: Arc::from("shop"), idle: Duration::from_secs(1) })
+    }
+
+    fn standing(open: &OpenTransactions, name: TransactionName) -> Option<Standing> {
+        match open.known(name)? {
+            Known::Open(_) => None,
+            Known::Ended(ended) => Some(ended.standing),
+        }
+    }
+
+    #[test]
+    fn a_transaction_is_open_from_its_begin_to_its_end() {
+        let observer = observer();
+        tell(&observer, &begin(), "ok 3.0");
+        tell(&observer, &begin(), "busy drain");
+        assert_eq!(observer.open.len(), 1);
+        tell(&observer, &About::End(NAME, Ending::Commit), "refused KeyTaken");
+        assert_eq!(observer.open.len(), 1);
+        tell(&observer, &About::End(NAME, Ending::Commit), "ok");
+        assert_eq!((observer.open.len(), standing(&observer.open, NAME)), (0, Some(Standing::Committed)));
+    }
+
+    #[test]
+    fn another_life_ends_what_was_open() {
+        let observer = observer();
+        tell(&observer, &begin(), "ok 3.0");
+        tell(&observer, &begin(), "ok 4.0");
+        assert_eq!((observer.open.len(), observer.life(), standing(&observer.open, NAME)), (1, 4, Some(Standing::Aborted(Cause::Epoch))));
+        observer.lost();
+        assert!(observer.open.is_empty());
+    }
+
+    #[test]
+    fn what_the_store_doesnt_know_is_not_open() {
+        let observer = observer();
+        tell(&observer, &begin(), "ok 3.0");
+        let asker = Asker { number: Number(NAME.packed()), age: observer.waits.next_age(), object: ObjectIndex(0), call: Class(0) };
+        assert_eq!(Answer::read("refused NotOpen"), Some(Answer::Refused(Refusal::NotOpen)));
+        tell(&observer, &About::Call(asker, None), "refused NotOpen");
+        assert!(observer.open.is_empty());
+    }
+
+    #[tokio::test]
+    async fn an_attempt_that_is_busy_waits_for_the_end_of_its_blocker() {
+        let observer = observer();
+        tell(&observer, &begin(), "ok 3.0");
+        let (number, age) = observer.waits.next_attempt();
+        let bell = Arc::new(Bell::default());
+        let place = AttemptPlace { number, age, bell: Arc::clone(&bell) };
+        let attempt = AttemptCalls { calls: vec![(ObjectIndex(7), Class(0))], place: Some(place) };
+        tell(&observer, &About::Attempt(Arc::new(attempt)), "busy 0 3.0");
+        assert_eq!(bell.wait(Instant::now() + Duration::from_millis(2)).await, None);
+        tell(&observer, &About::End(NAME, Ending::Abort(Cause::Asked)), "ok");
+        assert_eq!(bell.wait(Instant::now() + Duration::from_millis(2)).await, Some(Woken::Again));
+    }
+}
