@@ -3,9 +3,13 @@
 #![forbid(unsafe_code)]
 #![cfg_attr(test, allow(clippy::unwrap_used, clippy::expect_used, clippy::panic))]
 
+pub mod data_folder;
 pub mod engine;
+pub mod limits;
 pub mod locks;
 pub mod metrics;
 pub mod names;
+pub mod problem;
+pub mod program;
 pub mod recent;
 pub mod store;

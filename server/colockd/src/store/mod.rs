@@ -1,10 +1,101 @@
 //! The store for all requests: its objects and types, what is open, and who waits.
 
 pub mod about;
+pub mod attempts;
 pub mod bell;
+pub mod calls;
+pub mod extending;
+pub mod loading;
 pub mod objects;
 pub mod observer;
 pub mod open;
+pub mod opening;
+pub mod past;
+pub mod reads;
 pub mod recovery;
+pub mod transactions;
 pub mod type_text;
+pub mod types;
 pub mod waits;
+
+use crate::engine::question::Question;
+use crate::engine::Engine;
+use crate::problem::{Problem, ProblemKind};
+use crate::store::about::{About, Cause};
+use crate::store::extending::{Addition, NewObject};
+use crate::store::objects::SharedObjects;
+use crate::store::observer::Observer;
+use crate::store::past::Past;
+use crate::store::types::{accepted, Types};
+use std::path::PathBuf;
+use std::sync::Arc;
+use std::time::Duration;
+use tokio::sync::{mpsc, oneshot};
+use tokio::time::sleep;
+
+/// How often it is looked for transactions that nothing is asked of.
+const BETWEEN_LOOKS: Duration = Duration::from_millis(250);
+
+/// How often a store with open transactions is asked for its life.
+const BETWEEN_BEATS: u32 = 4;
+
+/// A store.
+#[derive(Debug)]
+pub struct Store {
+    /// What is asked of it.
+    pub engine: Engine<About>,
+    /// Its objects.
+    pub objects: SharedObjects,
+    /// The types that they may have.
+    pub types: Arc<Types>,
+    /// What is noted of its answers.
+    pub observer: Arc<Observer>,
+    /// The data folder.
+    pub folder: PathBuf,
+    /// How long open transactions may go on in an epoch that is full.
+    pub drain: Duration,
+    past: Past,
+    additions: mpsc::Sender<Addition>,
+}
+
+impl Store {
+    /// Adds objects, all or none; they are durable then.
+    ///
+    /// # Errors
+    ///
+    /// A [`Problem`] where they aren't added.
+    pub async fn add(&self, objects: Vec<NewObject>) -> Result<(), Problem> {
+        for object in &objects {
+            let verdict = self.types.verdict(&object.of, object.recovery).await?;
+            accepted(&object.of, object.recovery, &verdict).map_err(|problem| problem.with("object", object.name.as_str()))?;
+        }
+        let (to, told) = oneshot::channel();
+        self.additions.send(Addition { objects, to }).await.map_err(|_| ProblemKind::StoreAway)?;
+        told.await.unwrap_or(Err(ProblemKind::OutcomeUnknown.into()))
+    }
+
+    /// Aborts transactions of which nothing was asked for too long, and looks whether an epoch has ended, for ever.
+    pub async fn sweep(self: Arc<Store>) {
+        for look in 0_u32.. {
+            sleep(BETWEEN_LOOKS).await;
+            let open = self.observer.open.all();
+            for transaction in open.iter().filter(|open| open.idle_for() >= open.idle) {
+                tracing::info!(transaction = %transaction.name, owner = &*transaction.owner, "nothing was asked of it for too long");
+                // it is gone either way
+                let _ = self.abort(transaction.name, Cause::Idle).await;
+            }
+            if !open.is_empty() && look % BETWEEN_BEATS == 0 {
+                self.beat().await;
+            }
+        }
+    }
+
+    /// Asks the store for its life.
+    async fn beat(&self) {
+        if let Ok(told) = self.engine.ask(Question::of("committed 0")).await {
+            if let Some(crate::engine::answer::Answer::Seen(moment, _)) = told.answer() {
+                self.observer.told_life(moment.life);
+            }
+        }
+    }
+}

@@ -1,0 +1,163 @@
+//! Whole transactions in one request.
+
+use crate::engine::answer::{Answer, Refusal};
+use crate::engine::question::Question;
+use crate::engine::{Lost, Told};
+use crate::names::TransactionName;
+use crate::problem::{Problem, ProblemKind};
+use crate::store::about::{About, AttemptCalls, AttemptPlace};
+use crate::store::bell::Bell;
+use crate::store::calls::{words, Call};
+use crate::store::waits::Stay;
+use crate::store::Store;
+use std::sync::Arc;
+use std::time::Duration;
+use tokio::time::{sleep, Instant};
+
+/// How long is waited before a store is asked again whose epoch is full, or in which too many transactions are open.
+const BETWEEN_TRIES: Duration = Duration::from_millis(10);
+
+/// How long the next epoch is waited for, beyond the time in which open ones may end.
+const NEXT_EPOCH: Duration = Duration::from_secs(3);
+
+/// How long a store that is started again is asked again under a key.
+const LONGEST_ASKING: Duration = Duration::from_secs(30);
+
+/// A whole transaction.
+#[derive(Debug)]
+pub struct Attempt {
+    /// Its calls.
+    pub calls: Vec<Call>,
+    /// The key under which it is done once.
+    pub key: Option<String>,
+    /// How long it is tried.
+    pub wait: Duration,
+}
+
+/// What is done after a try.
+enum Next {
+    Done(Vec<String>),
+    Again,
+    WaitForBell(Problem),
+    Sleep(Instant, ProblemKind),
+    Ends(Problem),
+}
+
+/// Until when an attempt is tried, and how it is woken.
+struct Trying {
+    start: Instant,
+    deadline: Instant,
+    about: Arc<AttemptCalls>,
+    _stay: Option<Stay>,
+}
+
+impl Trying {
+    fn bell(&self) -> Option<&Arc<Bell>> {
+        self.about.place.as_ref().map(|place| &place.bell)
+    }
+}
+
+impl Store {
+    /// Does a whole transaction; the replies.
+    ///
+    /// # Errors
+    ///
+    /// A [`Problem`] where it isn't done.
+    pub async fn attempt(&self, attempt: Attempt) -> Result<Vec<String>, Problem> {
+        let trying = self.trying(&attempt);
+        let line = match &attempt.key {
+            Some(key) => format!("do ={key}{}", words(&attempt.calls)),
+            None => format!("do{}", words(&attempt.calls)),
+        };
+        let mut has_waited = false;
+        let done = loop {
+            let told = self.engine.ask(Question::about(line.as_str(), About::Attempt(Arc::clone(&trying.about)))).await;
+            match self.next(&attempt, &trying, told) {
+                Next::Done(replies) => break Ok(replies),
+                Next::Ends(problem) => break Err(problem),
+                Next::Again => {}
+                Next::Sleep(end, kind) if Instant::now() >= end => break Err(kind.into()),
+                Next::Sleep(..) => sleep(BETWEEN_TRIES).await,
+                Next::WaitForBell(problem) => {
+                    has_waited = true;
+                    let Some(bell) = trying.bell() else { break Err(problem) };
+                    if bell.wait(trying.deadline).await.is_none() {
+                        break Err(problem);
+                    }
+                }
+            }
+        };
+        if has_waited {
+            self.observer.metrics.wait_seconds.observe(trying.start.elapsed().as_secs_f64());
+        }
+        done
+    }
+
+    fn trying(&self, attempt: &Attempt) -> Trying {
+        let start = Instant::now();
+        let waits = &self.observer.waits;
+        let place = (!attempt.wait.is_zero()).then(|| {
+            let (number, age) = waits.next_attempt();
+            AttemptPlace { number, age, bell: Arc::new(Bell::default()) }
+        });
+        let stay = place.as_ref().map(|place| Stay::of(waits, place.number));
+        let about = Arc::new(AttemptCalls { calls: attempt.calls.iter().map(Call::at).collect(), place });
+        Trying { start, deadline: start + attempt.wait, about, _stay: stay }
+    }
+
+    fn next(&self, attempt: &Attempt, trying: &Trying, told: Result<Told, Lost>) -> Next {
+        let told = match told {
+            Ok(told) => told,
+            Err(lost) => return self.lost(attempt, trying, lost),
+        };
+        match told.answer() {
+            Some(Answer::Done(replies)) => Next::Done(replies.split(' ').map(str::to_string).collect()),
+            Some(Answer::BusyAt(place, blocker)) => Next::WaitForBell(busy(&attempt.calls, place, blocker)),
+            Some(Answer::IllegalAt(place)) => Next::Ends(at(&attempt.calls, place, ProblemKind::Illegal, "no operation of it is legal now")),
+            Some(Answer::RefusedAt(place, refusal)) => Next::Ends(at(&attempt.calls, place, refused(refusal), "the store refuses it")),
+            Some(Answer::Drain) => Next::Sleep(trying.deadline.max(trying.start + self.drain + NEXT_EPOCH), ProblemKind::EpochEnding),
+            Some(Answer::Refused(Refusal::TooManyOpen)) => Next::Sleep(trying.deadline, ProblemKind::TooManyOpen),
+            Some(Answer::Refused(refusal)) => Next::Ends(Problem::new(refused(refusal), format!("the store refuses it: {refusal}"))),
+            _ => Next::Ends(unexpected(&told)),
+        }
+    }
+
+    /// Under a key it is safe to ask again.
+    fn lost(&self, attempt: &Attempt, trying: &Trying, lost: Lost) -> Next {
+        match lost {
+            _ if attempt.key.is_some() && trying.start.elapsed() < LONGEST_ASKING => Next::Again,
+            Lost::Unasked => Next::Ends(ProblemKind::StoreAway.into()),
+            Lost::InFlight => Next::Ends(ProblemKind::OutcomeUnknown.into()),
+        }
+    }
+}
+
+fn at(calls: &[Call], place: usize, kind: ProblemKind, why: &str) -> Problem {
+    calls.get(place).map_or_else(|| kind.into(), |call| call.problem(kind, place, why))
+}
+
+fn busy(calls: &[Call], place: usize, blocker: TransactionName) -> Problem {
+    at(calls, place, ProblemKind::Busy, &format!("transaction {blocker} is in the way")).with("blocker", blocker.to_string())
+}
+
+/// The problem that a refusal is.
+pub fn refused(refusal: Refusal) -> ProblemKind {
+    match refusal {
+        Refusal::NotOpen => ProblemKind::Ended,
+        Refusal::NoObject => ProblemKind::NoObject,
+        Refusal::NoCall => ProblemKind::NoCall,
+        Refusal::TooManyOpen => ProblemKind::TooManyOpen,
+        Refusal::HistoryFull => ProblemKind::HistoryFull,
+        Refusal::NoMemory => ProblemKind::NoMemory,
+        Refusal::BadRollback => ProblemKind::BadRollback,
+        Refusal::Aborted => ProblemKind::KeyAborted,
+        Refusal::KeyTaken => ProblemKind::KeyTaken,
+        Refusal::Changes => ProblemKind::Changes,
+    }
+}
+
+/// An answer that isn't one to what was asked.
+pub fn unexpected(told: &Told) -> Problem {
+    tracing::error!(line = told.line, "the store answered otherwise than it may");
+    ProblemKind::Internal.into()
+}
