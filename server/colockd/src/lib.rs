@@ -5,11 +5,15 @@
 
 pub mod data_folder;
 pub mod engine;
+pub mod http;
 pub mod limits;
 pub mod locks;
 pub mod metrics;
 pub mod names;
+pub mod options;
 pub mod problem;
 pub mod program;
 pub mod recent;
+pub mod running;
 pub mod store;
+pub mod tokens;

@@ -1,10 +1,12 @@
 //! The store for all requests: its objects and types, what is open, and who waits.
 
 pub mod about;
+pub mod archive;
 pub mod attempts;
 pub mod bell;
 pub mod calls;
 pub mod extending;
+pub mod feed;
 pub mod loading;
 pub mod objects;
 pub mod observer;
@@ -22,12 +24,12 @@ use crate::engine::question::Question;
 use crate::engine::Engine;
 use crate::problem::{Problem, ProblemKind};
 use crate::store::about::{About, Cause};
+use crate::store::archive::Archive;
 use crate::store::extending::{Addition, NewObject};
 use crate::store::objects::SharedObjects;
 use crate::store::observer::Observer;
 use crate::store::past::Past;
 use crate::store::types::{accepted, Types};
-use std::path::PathBuf;
 use std::sync::Arc;
 use std::time::Duration;
 use tokio::sync::{mpsc, oneshot};
@@ -50,8 +52,8 @@ pub struct Store {
     pub types: Arc<Types>,
     /// What is noted of its answers.
     pub observer: Arc<Observer>,
-    /// The data folder.
-    pub folder: PathBuf,
+    /// The histories of epochs that have ended.
+    pub archive: Archive,
     /// How long open transactions may go on in an epoch that is full.
     pub drain: Duration,
     past: Past,
@@ -86,6 +88,9 @@ impl Store {
             }
             if !open.is_empty() && look % BETWEEN_BEATS == 0 {
                 self.beat().await;
+            }
+            if let Err(error) = self.archive.prune(self.observer.life()) {
+                tracing::error!(%error, "old histories can't be removed");
             }
         }
     }

@@ -5,7 +5,12 @@ use crate::engine::child::Plan;
 use crate::engine::question::Question;
 use crate::engine::Engine;
 use crate::metrics::Metrics;
+use crate::problem::{Problem, ProblemKind};
 use crate::program::Program;
+use crate::store::about::About;
+use crate::store::archive::Archive;
+use crate::store::attempts::Attempt;
+use crate::store::calls::Call;
 use crate::store::extending::{Extender, NewObject, MOST_ADDITIONS};
 use crate::store::loading::load_objects;
 use crate::store::objects::SharedObjects;
@@ -15,7 +20,6 @@ use crate::store::recovery::Recovery;
 use crate::store::type_text::TypeText;
 use crate::store::types::Types;
 use crate::store::waits::{Due, Waits};
-use crate::store::about::About;
 use crate::store::Store;
 use std::fs;
 use std::sync::Arc;
@@ -38,10 +42,10 @@ const LONGEST_OPENING: Duration = Duration::from_secs(300);
 pub struct Choices {
     /// Whether a commit is synced once, supposing more of torn writes.
     pub is_fast: bool,
-    /// Whether the histories of epochs that have ended are kept.
-    pub is_archived: bool,
     /// How many seconds open transactions may go on in an epoch that is full.
     pub drain: u32,
+    /// Of how many epochs that have ended the history is kept.
+    pub histories: usize,
 }
 
 impl Store {
@@ -67,11 +71,23 @@ impl Store {
         let extender = Extender { engine: engine.clone(), objects: objects.clone(), types: Arc::clone(&types), folder: folder.path().to_path_buf() };
         tokio::spawn(extender.run(added));
         let drain = Duration::from_secs(u64::from(choices.drain));
-        let store = Store { engine, objects, types, observer, folder: folder.path().to_path_buf(), drain, past: Past::default(), additions };
+        let archive = Archive::read(folder.path(), choices.histories).map_err(|error| format!("the archive can't be read: {error}"))?;
+        let store = Store { engine, objects, types, observer, archive, drain, past: Past::default(), additions };
         store.make_ready().await?;
         let store = Arc::new(store);
         tokio::spawn(Arc::clone(&store).sweep());
         Ok(store)
+    }
+
+    /// Whether a transaction commits.
+    ///
+    /// # Errors
+    ///
+    /// A [`Problem`] where it doesn't.
+    pub async fn commits(&self) -> Result<(), Problem> {
+        let object = self.objects.named(READY_OBJECT).ok_or(ProblemKind::StoreAway)?;
+        let calls = vec![Call { object, name: READY_CALL.to_string(), class: 0 }];
+        self.attempt(Attempt { calls, key: None, wait: Duration::ZERO }).await.map(drop)
     }
 
     /// A store from elsewhere gets the object by which it is asked.
@@ -92,10 +108,8 @@ fn plan(folder: &DataFolder, program: &Program, choices: Choices) -> Plan {
     if choices.is_fast {
         words.push("--fast".to_string());
     }
-    if choices.is_archived {
-        words.extend(["--archive".to_string(), ARCHIVE.to_string()]);
-    }
-    words.extend(["--drain".to_string(), choices.drain.to_string(), DATABASE.to_string()]);
+    words.extend(["--archive", ARCHIVE, "--drain"].map(str::to_string));
+    words.extend([choices.drain.to_string(), DATABASE.to_string()]);
     Plan { program: program.path().to_path_buf(), folder: folder.path().to_path_buf(), words }
 }
 

@@ -1,0 +1,228 @@
+//! What a request asks for, by its method and path.
+
+use crate::names::TransactionName;
+use crate::problem::{Problem, ProblemKind};
+use crate::tokens::Right;
+use hyper::Method;
+use percent_encoding::percent_decode_str;
+
+/// What is asked for.
+#[derive(Clone, Debug, PartialEq, Eq)]
+pub enum Action {
+    /// The page.
+    Page,
+    /// Its script.
+    Script,
+    /// Its looks.
+    Style,
+    /// Whether the server is alive.
+    Healthz,
+    /// Whether the store commits.
+    Readyz,
+    /// What is counted.
+    Metrics,
+    /// The description of all this.
+    OpenApi,
+    /// What a kind of problem is.
+    Explain(String),
+    /// All types.
+    ListTypes,
+    /// A type.
+    GetType(String),
+    /// To take a type.
+    PutType(String),
+    /// Some objects.
+    ListObjects,
+    /// To add objects.
+    AddObjects,
+    /// An object.
+    GetObject(String),
+    /// To add an object.
+    PutObject(String),
+    /// Whole transactions.
+    Attempt,
+    /// What is open.
+    ListTransactions,
+    /// To begin a transaction.
+    Begin,
+    /// A transaction.
+    GetTransaction(TransactionName),
+    /// To call.
+    Call(TransactionName),
+    /// To take operations back.
+    Rollback(TransactionName),
+    /// To commit.
+    Commit(TransactionName),
+    /// To abort.
+    Abort(TransactionName),
+    /// Committed states at one moment.
+    Snapshot,
+    /// What happened.
+    Events,
+    /// What the page shows.
+    Status,
+}
+
+impl Action {
+    /// Its name in metrics and logs.
+    pub fn label(&self) -> &'static str {
+        match self {
+            Action::Page | Action::Script | Action::Style => "page",
+            Action::Healthz => "healthz",
+            Action::Readyz => "readyz",
+            Action::Metrics => "metrics",
+            Action::OpenApi => "openapi",
+            Action::Explain(_) => "problems",
+            Action::ListTypes => "list_types",
+            Action::GetType(_) => "get_type",
+            Action::PutType(_) => "put_type",
+            Action::ListObjects => "list_objects",
+            Action::AddObjects => "add_objects",
+            Action::GetObject(_) => "get_object",
+            Action::PutObject(_) => "put_object",
+            Action::Attempt => "attempts",
+            Action::ListTransactions => "list_transactions",
+            Action::Begin => "begin",
+            Action::GetTransaction(_) => "get_transaction",
+            Action::Call(_) => "call",
+            Action::Rollback(_) => "rollback",
+            Action::Commit(_) => "commit",
+            Action::Abort(_) => "abort",
+            Action::Snapshot => "snapshot",
+            Action::Events => "events",
+            Action::Status => "status",
+        }
+    }
+
+    /// The right that it needs, if any.
+    pub fn right(&self) -> Option<Right> {
+        match self {
+            Action::Page | Action::Script | Action::Style | Action::Healthz | Action::Readyz | Action::OpenApi | Action::Explain(_) => None,
+            Action::Attempt | Action::Begin | Action::Call(_) | Action::Rollback(_) | Action::Commit(_) => Some(Right::Write),
+            // whoever may end those of others may have no right to write
+            Action::Abort(_) => None,
+            Action::PutType(_) | Action::AddObjects | Action::PutObject(_) => Some(Right::Types),
+            _ => Some(Right::Read),
+        }
+    }
+
+    /// Whether it needs a token, with whatever right.
+    pub fn is_guarded(&self) -> bool {
+        self.right().is_some() || matches!(self, Action::Abort(_))
+    }
+
+    /// What a method asks of a path.
+    ///
+    /// # Errors
+    ///
+    /// A [`Problem`] where there is no such path, or it doesn't take the method.
+    pub fn of(method: &Method, path: &str) -> Result<Action, Problem> {
+        let route = Route::of(path)?;
+        let is_head = method == Method::HEAD;
+        let method = if is_head { &Method::GET } else { method };
+        route.takes.into_iter().find(|(taken, _)| *taken == method).map(|(_, action)| action).ok_or_else(|| {
+            let allow = route.allow;
+            Problem::new(ProblemKind::NoMethod, format!("{path} takes {allow}")).with("allow", allow)
+        })
+    }
+}
+
+/// A path with what it takes.
+struct Route {
+    takes: Vec<(&'static Method, Action)>,
+    allow: String,
+}
+
+impl Route {
+    fn new(takes: Vec<(&'static Method, Action)>) -> Route {
+        let allow = takes.iter().map(|(method, _)| method.as_str()).collect::<Vec<_>>().join(", ");
+        Route { takes, allow }
+    }
+
+    fn of(path: &str) -> Result<Route, Problem> {
+        let no_route = || Problem::new(ProblemKind::NoRoute, "there is no such path");
+        let takes = match path {
+            "/" => vec![(GET, Action::Page)],
+            "/page.js" => vec![(GET, Action::Script)],
+            "/page.css" => vec![(GET, Action::Style)],
+            "/healthz" => vec![(GET, Action::Healthz)],
+            "/readyz" => vec![(GET, Action::Readyz)],
+            "/metrics" => vec![(GET, Action::Metrics)],
+            "/openapi.json" => vec![(GET, Action::OpenApi)],
+            "/v1/types" => vec![(GET, Action::ListTypes)],
+            "/v1/objects" => vec![(GET, Action::ListObjects), (POST, Action::AddObjects)],
+            "/v1/attempts" => vec![(POST, Action::Attempt)],
+            "/v1/transactions" => vec![(GET, Action::ListTransactions), (POST, Action::Begin)],
+            "/v1/snapshot" => vec![(GET, Action::Snapshot)],
+            "/v1/events" => vec![(GET, Action::Events)],
+            "/v1/status" => vec![(GET, Action::Status)],
+            _ => Route::with_name(path).ok_or_else(no_route)?,
+        };
+        Ok(Route::new(takes))
+    }
+
+    fn with_name(path: &str) -> Option<Vec<(&'static Method, Action)>> {
+        if let Some(name) = path.strip_prefix("/v1/objects/") {
+            let name = decoded(name)?;
+            return Some(vec![(GET, Action::GetObject(name.clone())), (PUT, Action::PutObject(name))]);
+        }
+        if let Some(name) = path.strip_prefix("/v1/types/") {
+            let name = decoded(name)?;
+            return Some(vec![(GET, Action::GetType(name.clone())), (PUT, Action::PutType(name))]);
+        }
+        if let Some(name) = path.strip_prefix("/problems/") {
+            return Some(vec![(GET, Action::Explain(decoded(name)?))]);
+        }
+        let rest = path.strip_prefix("/v1/transactions/")?;
+        let (name, what) = rest.split_once('/').unwrap_or((rest, ""));
+        let name: TransactionName = name.parse().ok()?;
+        Some(vec![match what {
+            "" => (GET, Action::GetTransaction(name)),
+            "calls" => (POST, Action::Call(name)),
+            "rollback" => (POST, Action::Rollback(name)),
+            "commit" => (POST, Action::Commit(name)),
+            "abort" => (POST, Action::Abort(name)),
+            _ => return None,
+        }])
+    }
+}
+
+const GET: &Method = &Method::GET;
+const POST: &Method = &Method::POST;
+const PUT: &Method = &Method::PUT;
+
+fn decoded(word: &str) -> Option<String> {
+    percent_decode_str(word).decode_utf8().ok().map(|word| word.into_owned())
+}
+
+#[cfg(test)]
+mod tests {
+    use super::Action;
+    use crate::names::TransactionName;
+    use crate::problem::ProblemKind;
+    use hyper::Method;
+
+    #[test]
+    fn paths_name_what_they_are_of() {
+        let name = TransactionName { life: 4, number: 0 };
+        for (method, path, action) in [
+            (Method::GET, "/", Action::Page),
+            (Method::HEAD, "/healthz", Action::Healthz),
+            (Method::PUT, "/v1/objects/stalls/B%2F1", Action::PutObject("stalls/B/1".to_string())),
+            (Method::POST, "/v1/transactions/4.0/calls", Action::Call(name)),
+            (Method::GET, "/v1/transactions/4.0", Action::GetTransaction(name)),
+        ] {
+            assert_eq!(Action::of(&method, path), Ok(action));
+        }
+    }
+
+    #[test]
+    fn what_isnt_there_is_told() {
+        let kind = |method: Method, path: &str| Action::of(&method, path).unwrap_err().kind;
+        for path in ["/v2", "/v1/transactions/x", "/v1/transactions/4.0/x", "/v1/types/%ff", "/v1/attempts/"] {
+            assert_eq!(kind(Method::GET, path), ProblemKind::NoRoute, "{path}");
+        }
+        assert_eq!(kind(Method::DELETE, "/v1/objects/a"), ProblemKind::NoMethod);
+        assert_eq!(Action::of(&Method::PATCH, "/v1/objects").unwrap_err().members()["allow"], "GET, POST");
+    }
+}

@@ -1,0 +1,162 @@
+//! What all requests share.
+
+use crate::limits::Limits;
+use crate::metrics::Metrics;
+use crate::problem::{Problem, ProblemKind};
+use crate::store::Store;
+use crate::tokens::{Caller, Right, Tokens};
+use hyper::header::{HeaderMap, AUTHORIZATION};
+use std::sync::atomic::{AtomicBool, AtomicU64, Ordering};
+use std::sync::Arc;
+use std::time::{Duration, Instant};
+use tokio::sync::{Mutex, OwnedSemaphorePermit, Semaphore};
+
+/// How long it is believed that the store commits.
+const LONGEST_READY: Duration = Duration::from_secs(1);
+
+/// What all requests share.
+#[derive(Debug)]
+pub struct App {
+    /// The store.
+    pub store: Arc<Store>,
+    /// Who may do what; nothing where everybody may do all.
+    pub tokens: Option<Tokens>,
+    /// The limits.
+    pub limits: Limits,
+    /// What is counted.
+    pub metrics: Arc<Metrics>,
+    /// A commit that takes longer is logged.
+    pub slow: Duration,
+    requests: Arc<Semaphore>,
+    followers: Arc<Semaphore>,
+    ids: AtomicU64,
+    first_id: u64,
+    is_draining: AtomicBool,
+    ready: Mutex<Option<Instant>>,
+}
+
+impl App {
+    /// For a store.
+    pub fn new(store: Arc<Store>, tokens: Option<Tokens>, limits: Limits, metrics: Arc<Metrics>, slow: Duration) -> App {
+        let mut first = [0; 8];
+        // without a drawn beginning ids are unique in one run alone
+        let _ = getrandom::getrandom(&mut first);
+        App {
+            store,
+            tokens,
+            limits,
+            metrics,
+            slow,
+            requests: Arc::new(Semaphore::new(limits.requests)),
+            followers: Arc::new(Semaphore::new(limits.followers)),
+            ids: AtomicU64::new(0),
+            first_id: u64::from_ne_bytes(first),
+            is_draining: AtomicBool::new(false),
+            ready: Mutex::default(),
+        }
+    }
+
+    /// The id of a request.
+    pub fn next_id(&self) -> String {
+        format!("{:016x}-{:x}", self.first_id, self.ids.fetch_add(1, Ordering::Relaxed))
+    }
+
+    /// The server ends: nothing begins any more.
+    pub fn drain(&self) {
+        self.is_draining.store(true, Ordering::Relaxed);
+    }
+
+    /// Whether it ends.
+    pub fn is_draining(&self) -> bool {
+        self.is_draining.load(Ordering::Relaxed)
+    }
+
+    /// Nothing begins while the server ends.
+    ///
+    /// # Errors
+    ///
+    /// A [`Problem`] where it does.
+    pub fn begins(&self) -> Result<(), Problem> {
+        if self.is_draining() {
+            return Err(ProblemKind::Draining.into());
+        }
+        Ok(())
+    }
+
+    /// A place among the requests that are being answered.
+    ///
+    /// # Errors
+    ///
+    /// A [`Problem`] where there is none.
+    pub fn admitted(&self) -> Result<OwnedSemaphorePermit, Problem> {
+        let place = Arc::clone(&self.requests).try_acquire_owned();
+        place.map_err(|_| Problem::from(ProblemKind::TooManyRequests).with("limit", self.limits.requests))
+    }
+
+    /// A place among those who follow the events.
+    ///
+    /// # Errors
+    ///
+    /// A [`Problem`] where there is none.
+    pub fn follows(&self) -> Result<OwnedSemaphorePermit, Problem> {
+        let place = Arc::clone(&self.followers).try_acquire_owned();
+        place.map_err(|_| Problem::from(ProblemKind::TooManyFollowers).with("limit", self.limits.followers))
+    }
+
+    /// Who asks.
+    ///
+    /// # Errors
+    ///
+    /// A [`Problem`] where a token is needed, and none is given that is known.
+    pub fn caller(&self, headers: &HeaderMap) -> Result<Caller, Problem> {
+        let Some(tokens) = &self.tokens else { return Ok(Caller::anyone()) };
+        let given = headers.get(AUTHORIZATION).ok_or(ProblemKind::NoToken)?;
+        let given = given.to_str().ok().and_then(bearer);
+        given.and_then(|token| tokens.caller(token)).ok_or_else(|| Problem::new(ProblemKind::NoToken, "the token isn't known"))
+    }
+
+    /// Whether a caller has a right.
+    ///
+    /// # Errors
+    ///
+    /// A [`Problem`] where it hasn't.
+    pub fn allowed(&self, caller: &Caller, right: Right) -> Result<(), Problem> {
+        if caller.may(right) {
+            return Ok(());
+        }
+        let words = format!("the token {} has no right to {}", caller.name, right.word());
+        Err(Problem::new(ProblemKind::NoRight, words).with("right", right.word()))
+    }
+
+    /// Whether the store commits. It is asked once a second at most.
+    ///
+    /// # Errors
+    ///
+    /// A [`Problem`] where it doesn't.
+    pub async fn ready(&self) -> Result<(), Problem> {
+        self.begins()?;
+        let mut last = self.ready.lock().await;
+        if last.is_some_and(|last| last.elapsed() < LONGEST_READY) {
+            return Ok(());
+        }
+        self.store.commits().await?;
+        *last = Some(Instant::now());
+        Ok(())
+    }
+}
+
+/// The token of `Bearer TOKEN`.
+fn bearer(value: &str) -> Option<&str> {
+    let (scheme, token) = value.split_once(' ')?;
+    scheme.eq_ignore_ascii_case("bearer").then(|| token.trim())
+}
+
+#[cfg(test)]
+mod tests {
+    use super::bearer;
+
+    #[test]
+    fn tokens_are_bearers() {
+        assert_eq!((bearer("Bearer abc"), bearer("bearer abc"), bearer("Basic abc"), bearer("abc")), (Some("abc"), Some("abc"), None, None));
+    }
+}

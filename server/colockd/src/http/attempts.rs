@@ -1,0 +1,103 @@
+//! Whole transactions: one in a request, or a list of them.
+
+use crate::http::app::App;
+use crate::http::body::{parsed, seconds};
+use crate::http::handling::{checked_key, key_in, Asked};
+use crate::http::replies::ok;
+use crate::limits::{LONGEST_WAIT, MOST_ATTEMPTS};
+use crate::problem::{Problem, ProblemKind};
+use crate::store::attempts::Attempt;
+use crate::store::calls::{resolved, CallAsked};
+use futures_util::future::join_all;
+use hyper::{Body, Response};
+use serde::{Deserialize, Serialize};
+use serde_json::{Map, Value};
+use std::time::Duration;
+
+/// An attempt as it is asked for.
+#[derive(Debug, Deserialize)]
+#[serde(deny_unknown_fields)]
+struct AttemptAsked {
+    calls: Vec<CallAsked>,
+    #[serde(default)]
+    wait: f64,
+    key: Option<String>,
+}
+
+/// What came of it.
+#[derive(Debug, Serialize)]
+struct Done {
+    replies: Vec<String>,
+}
+
+/// Does what a request asks for.
+///
+/// # Errors
+///
+/// A [`Problem`] where it isn't done.
+pub async fn attempt(app: &App, mut asked: Asked) -> Result<Response<Body>, Problem> {
+    app.begins()?;
+    let key = key_in(&asked.headers)?;
+    let bytes = asked.bytes(app).await?;
+    if is_list(&bytes) {
+        return list(app, parsed(&bytes)?, key.as_deref()).await;
+    }
+    let done = one(app, parsed(&bytes)?, key).await?;
+    Ok(ok(&done))
+}
+
+fn is_list(bytes: &[u8]) -> bool {
+    bytes.iter().find(|byte| !byte.is_ascii_whitespace()) == Some(&b'[')
+}
+
+async fn one(app: &App, asked: AttemptAsked, header: Option<String>) -> Result<Done, Problem> {
+    let wait = seconds("wait", asked.wait, LONGEST_WAIT)?;
+    let key = match (asked.key, header) {
+        (Some(key), None) => Some(checked_key(&key)?),
+        (Some(key), Some(header)) if key != header => {
+            return Err(Problem::new(ProblemKind::BadHeader, "Idempotency-Key is another key than that of the body").with("header", "Idempotency-Key"));
+        }
+        (_, header) => header,
+    };
+    let calls = resolved(asked.calls, &app.store.objects)?;
+    done(app, Attempt { calls, key, wait }).await
+}
+
+async fn done(app: &App, attempt: Attempt) -> Result<Done, Problem> {
+    let replies = app.store.attempt(attempt).await?;
+    Ok(Done { replies })
+}
+
+/// Each of a list is done by itself, all at the same time; the answer is a list of what each would have been answered.
+async fn list(app: &App, all: Vec<AttemptAsked>, header: Option<&str>) -> Result<Response<Body>, Problem> {
+    if !(1..=MOST_ATTEMPTS).contains(&all.len()) {
+        return Err(Problem::new(ProblemKind::LongList, format!("{} attempts, and 1 to {MOST_ATTEMPTS} may be there", all.len())).with("limit", MOST_ATTEMPTS));
+    }
+    if header.is_some() {
+        return Err(Problem::new(ProblemKind::BadHeader, "of a list each has a `key` of its own").with("header", "Idempotency-Key"));
+    }
+    let answers = join_all(all.into_iter().map(|asked| one(app, asked, None))).await;
+    Ok(ok(&answers.into_iter().map(member).collect::<Vec<_>>()))
+}
+
+/// What one of a list would have been answered, with its status.
+fn member(answer: Result<Done, Problem>) -> Value {
+    match answer {
+        Ok(done) => {
+            let mut members = Map::new();
+            members.insert("status".to_string(), 200.into());
+            members.insert("replies".to_string(), done.replies.into());
+            Value::Object(members)
+        }
+        Err(problem) => Value::Object(problem.members()),
+    }
+}
+
+/// The wait of a request.
+///
+/// # Errors
+///
+/// A [`Problem`] where it is out of its range.
+pub fn wait_of(wait: f64) -> Result<Duration, Problem> {
+    seconds("wait", wait, LONGEST_WAIT)
+}

@@ -1,0 +1,128 @@
+//! The bodies of requests.
+
+use crate::limits::Limits;
+use crate::problem::{Problem, ProblemKind};
+use hyper::body::{HttpBody, SizeHint};
+use hyper::Body;
+use serde::de::DeserializeOwned;
+use std::time::Duration;
+use tokio::time::timeout;
+
+/// Reads a body.
+///
+/// # Errors
+///
+/// A [`Problem`] where it is too large, or doesn't come.
+pub async fn read(mut body: Body, limits: &Limits) -> Result<Vec<u8>, Problem> {
+    let hint: SizeHint = body.size_hint();
+    if hint.lower() > limits.body as u64 {
+        return Err(large(limits));
+    }
+    let mut bytes = Vec::with_capacity(hint.lower() as usize);
+    let all = async {
+        while let Some(piece) = body.data().await {
+            let piece = piece.map_err(|error| Problem::new(ProblemKind::BadBody, format!("the body breaks off: {error}")))?;
+            if bytes.len() + piece.len() > limits.body {
+                return Err(large(limits));
+            }
+            bytes.extend_from_slice(&piece);
+        }
+        Ok(())
+    };
+    timeout(limits.patience, all).await.map_err(|_| slow(limits.patience))??;
+    Ok(bytes)
+}
+
+fn large(limits: &Limits) -> Problem {
+    Problem::new(ProblemKind::LargeBody, format!("a body has at most {} bytes", limits.body)).with("limit", limits.body)
+}
+
+fn slow(patience: Duration) -> Problem {
+    Problem::new(ProblemKind::SlowBody, format!("the body didn't come within {} seconds", patience.as_secs()))
+}
+
+/// What a body says in JSON; where it can't be read, that is told.
+///
+/// # Errors
+///
+/// A [`Problem`] with the line and the column.
+pub fn parsed<T: DeserializeOwned>(bytes: &[u8]) -> Result<T, Problem> {
+    serde_json::from_slice(bytes).map_err(|error| {
+        let problem = Problem::new(ProblemKind::BadBody, &error);
+        problem.with("line", error.line()).with("column", error.column())
+    })
+}
+
+/// The same of a body that may be empty.
+///
+/// # Errors
+///
+/// As of [`parsed`].
+pub fn parsed_or_default<T: DeserializeOwned + Default>(bytes: &[u8]) -> Result<T, Problem> {
+    if bytes.iter().all(u8::is_ascii_whitespace) {
+        return Ok(T::default());
+    }
+    parsed(bytes)
+}
+
+/// A time in seconds from 0 to a limit.
+///
+/// # Errors
+///
+/// A [`Problem`] where it isn't.
+pub fn seconds(name: &str, seconds: f64, most: Duration) -> Result<Duration, Problem> {
+    let is_in_range = seconds >= 0.0 && seconds <= most.as_secs_f64();
+    if is_in_range {
+        return Ok(Duration::from_secs_f64(seconds));
+    }
+    Err(Problem::new(ProblemKind::OutOfRange, format!("{name} is a number of seconds from 0 to {}", most.as_secs())).with("member", name))
+}
+
+#[cfg(test)]
+mod tests {
+    use super::{parsed, parsed_or_default, read, seconds};
+    use crate::limits::Limits;
+    use crate::problem::ProblemKind;
+    use hyper::Body;
+    use serde_json::Value;
+    use std::time::Duration;
+
+    fn limits() -> Limits {
+        Limits { body: 8, patience: Duration::from_millis(20), ..Limits::default() }
+    }
+
+    #[tokio::test]
+    async fn bodies_are_as_large_as_they_may_be() {
+        assert_eq!(read(Body::from("12345678"), &limits()).await.unwrap(), b"12345678");
+        assert_eq!(read(Body::from("123456789"), &limits()).await.unwrap_err().kind, ProblemKind::LargeBody);
+        let (mut sender, body) = Body::channel();
+        tokio::spawn(async move {
+            while sender.send_data("1234".into()).await.is_ok() {}
+        });
+        assert_eq!(read(body, &limits()).await.unwrap_err().kind, ProblemKind::LargeBody);
+    }
+
+    #[tokio::test]
+    async fn a_body_that_doesnt_come_isnt_waited_for() {
+        let (_sender, body) = Body::channel();
+        assert_eq!(read(body, &limits()).await.unwrap_err().kind, ProblemKind::SlowBody);
+    }
+
+    #[test]
+    fn what_cant_be_read_says_where() {
+        let members = parsed::<Value>(b"{\n\"a\": }").unwrap_err().members();
+        assert_eq!((members["line"].as_u64(), members["column"].as_u64()), (Some(2), Some(6)));
+        assert_eq!(parsed_or_default::<Value>(b" \n"), Ok(Value::Null));
+        let deep = "[".repeat(100_000);
+        assert!(parsed::<Value>(deep.as_bytes()).is_err());
+    }
+
+    #[test]
+    fn times_have_a_range() {
+        let most = Duration::from_secs(60);
+        assert_eq!(seconds("wait", 0.5, most), Ok(Duration::from_millis(500)));
+        for wrong in [-1.0, 60.1, f64::NAN, f64::INFINITY] {
+            assert_eq!(seconds("wait", wrong, most).unwrap_err().kind, ProblemKind::OutOfRange);
+        }
+    }
+}

@@ -1,0 +1,153 @@
+//! Connections: as many as may be there, each with its requests.
+
+use crate::http::app::App;
+use crate::http::handling::handle;
+use crate::http::patient::Patient;
+use crate::http::replies;
+use crate::limits::LONGEST_HEAD;
+use crate::problem::{Problem, ProblemKind};
+use hyper::server::conn::Http;
+use hyper::service::service_fn;
+use std::convert::Infallible;
+use std::net::SocketAddr;
+use std::sync::Arc;
+use std::time::Duration;
+use tokio::io::{AsyncRead, AsyncWrite, AsyncWriteExt};
+use tokio::net::{TcpListener, TcpStream};
+use tokio::sync::{watch, OwnedSemaphorePermit, Semaphore};
+use tokio::time::{sleep, timeout};
+use tokio_rustls::TlsAcceptor;
+
+/// The most streams of a connection of HTTP/2.
+const MOST_STREAMS: u32 = 128;
+
+/// The most bytes of an answer that wait in a stream of HTTP/2.
+const LARGEST_SENDING: usize = 65_536;
+
+/// How long is waited after a connection that couldn't be taken.
+const AFTER_FAULT: Duration = Duration::from_millis(50);
+
+/// The most connections that are refused at the same time; beyond them connections are closed without a word.
+const MOST_REFUSED: usize = 64;
+
+/// How far the end of the server is.
+#[derive(Clone, Copy, Debug, PartialEq, Eq, PartialOrd, Ord)]
+pub enum Stage {
+    /// It serves.
+    Serving,
+    /// What is open may end.
+    Draining,
+    /// Connections are closed when their request is answered.
+    Closing,
+}
+
+/// Takes connections, until the server closes; then waits for those that there are.
+pub async fn serve(app: Arc<App>, listener: TcpListener, tls: Option<TlsAcceptor>, stage: watch::Receiver<Stage>) {
+    let places = Arc::new(Semaphore::new(app.limits.connections));
+    let refusals = Arc::new(Semaphore::new(MOST_REFUSED));
+    let mut closing = stage.clone();
+    loop {
+        let taken = tokio::select! {
+            taken = listener.accept() => taken,
+            () = reaches(&mut closing, Stage::Closing) => break,
+        };
+        match taken {
+            Ok((stream, peer)) => take(&app, stream, peer, tls.clone(), stage.clone(), (&places, &refusals)),
+            Err(error) => {
+                tracing::warn!(%error, "a connection can't be taken");
+                sleep(AFTER_FAULT).await;
+            }
+        }
+    }
+    let all = u32::try_from(app.limits.connections).unwrap_or(u32::MAX);
+    // it fails only where nobody gives places any more
+    let _ = timeout(app.limits.patience, places.acquire_many(all)).await;
+}
+
+/// Waits until a stage is reached.
+async fn reaches(stage: &mut watch::Receiver<Stage>, wanted: Stage) {
+    while *stage.borrow_and_update() < wanted {
+        if stage.changed().await.is_err() {
+            return;
+        }
+    }
+}
+
+fn take(
+    app: &Arc<App>,
+    stream: TcpStream,
+    peer: SocketAddr,
+    tls: Option<TlsAcceptor>,
+    stage: watch::Receiver<Stage>,
+    (places, refusals): (&Arc<Semaphore>, &Arc<Semaphore>),
+) {
+    // without it small answers are late, and nothing else
+    let _ = stream.set_nodelay(true);
+    let app = Arc::clone(app);
+    match Arc::clone(places).try_acquire_owned() {
+        Ok(place) => drop(tokio::spawn(connected(app, stream, peer, tls, stage, place))),
+        Err(_) => {
+            if let Ok(refusal) = Arc::clone(refusals).try_acquire_owned() {
+                tokio::spawn(refuse(app, stream, tls.is_some(), refusal));
+            }
+        }
+    }
+}
+
+async fn connected(app: Arc<App>, stream: TcpStream, peer: SocketAddr, tls: Option<TlsAcceptor>, stage: watch::Receiver<Stage>, place: OwnedSemaphorePermit) {
+    app.metrics.connections.inc();
+    let patience = app.limits.patience;
+    let stream = Patient::new(stream, patience);
+    match tls {
+        None => answer_all(Arc::clone(&app), stream, peer, stage).await,
+        Some(tls) => match timeout(patience, tls.accept(stream)).await {
+            Ok(Ok(stream)) => answer_all(Arc::clone(&app), stream, peer, stage).await,
+            Ok(Err(error)) => tracing::debug!(%peer, %error, "no TLS"),
+            Err(_) => tracing::debug!(%peer, "no TLS in time"),
+        },
+    }
+    app.metrics.connections.dec();
+    drop(place);
+}
+
+/// Answers the requests of a connection.
+async fn answer_all<S: AsyncRead + AsyncWrite + Unpin + Send + 'static>(app: Arc<App>, stream: S, peer: SocketAddr, mut stage: watch::Receiver<Stage>) {
+    let patience = app.limits.patience;
+    let service = service_fn(move |request| {
+        let app = Arc::clone(&app);
+        async move { Ok::<_, Infallible>(handle(app, peer, request).await) }
+    });
+    let mut http = Http::new();
+    http.http1_header_read_timeout(patience).max_buf_size(LONGEST_HEAD).pipeline_flush(true);
+    http.http2_max_concurrent_streams(MOST_STREAMS).http2_max_header_list_size(LONGEST_HEAD as u32).http2_max_send_buf_size(LARGEST_SENDING);
+    http.http2_keep_alive_interval(patience).http2_keep_alive_timeout(patience);
+    let connection = http.serve_connection(stream, service);
+    tokio::pin!(connection);
+    let ended = tokio::select! {
+        ended = connection.as_mut() => ended,
+        () = reaches(&mut stage, Stage::Closing) => {
+            connection.as_mut().graceful_shutdown();
+            connection.await
+        }
+    };
+    if let Err(error) = ended {
+        tracing::debug!(%peer, %error, "a connection broke off");
+    }
+}
+
+/// Says that there are too many connections.
+async fn refuse(app: Arc<App>, mut stream: TcpStream, is_tls: bool, _refusal: OwnedSemaphorePermit) {
+    if is_tls {
+        return; // no word would be understood
+    }
+    let problem = Problem::from(ProblemKind::TooManyConnections).with("limit", app.limits.connections);
+    let response = replies::problem(&problem);
+    let body = serde_json::Value::Object(problem.members()).to_string();
+    let head = format!(
+        "HTTP/1.1 {}\r\ncontent-type: application/problem+json\r\ncontent-length: {}\r\nretry-after: 1\r\nconnection: close\r\n\r\n",
+        response.status(),
+        body.len()
+    );
+    // who doesn't take it isn't waited for
+    let _ = timeout(Duration::from_secs(1), stream.write_all(format!("{head}{body}").as_bytes())).await;
+}

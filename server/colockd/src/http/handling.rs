@@ -1,0 +1,160 @@
+//! One request: who asks, what for, and what is answered.
+
+use crate::http::action::Action;
+use crate::http::app::App;
+use crate::http::{attempts, body, events, objects, page, replies, status, transactions, types};
+use crate::limits::LONGEST_PATH;
+use crate::problem::{Problem, ProblemKind};
+use crate::tokens::Caller;
+use hyper::header::{HeaderMap, HeaderValue};
+use hyper::{Body, Request, Response};
+use std::net::SocketAddr;
+use std::sync::Arc;
+use std::time::Instant;
+
+/// What an answer is found by.
+pub struct Asked {
+    /// What is asked for.
+    pub action: Action,
+    /// Who asks.
+    pub caller: Caller,
+    /// The query.
+    pub query: Option<String>,
+    /// The headers.
+    pub headers: HeaderMap,
+    /// The body.
+    pub body: Body,
+    /// The id of the request.
+    pub id: String,
+}
+
+impl Asked {
+    /// The bytes of the body.
+    ///
+    /// # Errors
+    ///
+    /// A [`Problem`] where it can't be had.
+    pub async fn bytes(&mut self, app: &App) -> Result<Vec<u8>, Problem> {
+        body::read(std::mem::take(&mut self.body), &app.limits).await
+    }
+}
+
+/// Answers a request.
+pub async fn handle(app: Arc<App>, peer: SocketAddr, request: Request<Body>) -> Response<Body> {
+    let (start, id) = (Instant::now(), app.next_id());
+    app.metrics.in_flight.inc();
+    let found = Action::of(request.method(), request.uri().path());
+    let label = found.as_ref().map_or("none", Action::label);
+    let answered = match found {
+        Ok(action) => admitted(&app, peer, action, request, &id).await,
+        Err(problem) => Err(problem),
+    };
+    let mut response = answered.unwrap_or_else(|problem| replies::problem(&problem));
+    app.metrics.in_flight.dec();
+    let (seconds, status) = (start.elapsed(), response.status());
+    app.metrics.request_seconds.with_label_values(&[label, status.as_str()]).observe(seconds.as_secs_f64());
+    if matches!(label, "attempts" | "commit") && seconds >= app.slow {
+        tracing::warn!(id, route = label, status = status.as_u16(), seconds = seconds.as_secs_f64(), "a slow commit");
+    }
+    tracing::debug!(id, route = label, status = status.as_u16(), seconds = seconds.as_secs_f64(), "answered");
+    if let Ok(id) = HeaderValue::from_str(&id) {
+        response.headers_mut().insert("x-request-id", id);
+    }
+    response
+}
+
+async fn admitted(app: &Arc<App>, peer: SocketAddr, action: Action, request: Request<Body>, id: &str) -> Result<Response<Body>, Problem> {
+    if request.uri().path_and_query().map_or(0, |path| path.as_str().len()) > LONGEST_PATH {
+        return Err(ProblemKind::LongPath.into());
+    }
+    let caller = known(app, &action, request.headers());
+    if let Err(problem) = &caller {
+        app.metrics.refused_tokens.inc();
+        tracing::warn!(id, %peer, route = action.label(), problem = problem.kind.name(), caller = caller_name(app, request.headers()), "refused");
+    }
+    let caller = caller?;
+    let _place = match action {
+        Action::Healthz | Action::Events => None,
+        _ => Some(app.admitted()?),
+    };
+    let (parts, body) = request.into_parts();
+    let query = parts.uri.query().map(str::to_string);
+    dispatch(app, Asked { action, caller, query, headers: parts.headers, body, id: id.to_string() }).await
+}
+
+/// Who asks, where it may.
+fn known(app: &App, action: &Action, headers: &HeaderMap) -> Result<Caller, Problem> {
+    if !action.is_guarded() {
+        return Ok(Caller::anyone());
+    }
+    let caller = app.caller(headers)?;
+    if let Some(right) = action.right() {
+        app.allowed(&caller, right)?;
+    }
+    Ok(caller)
+}
+
+fn caller_name(app: &App, headers: &HeaderMap) -> String {
+    app.caller(headers).map_or_else(|_| "unknown".to_string(), |caller| caller.name.to_string())
+}
+
+async fn dispatch(app: &Arc<App>, asked: Asked) -> Result<Response<Body>, Problem> {
+    match asked.action.clone() {
+        Action::Page => Ok(page::page()),
+        Action::Script => Ok(page::script()),
+        Action::Style => Ok(page::style()),
+        Action::Healthz => Ok(status::healthz()),
+        Action::Readyz => status::readyz(app).await,
+        Action::Metrics => status::metrics(app).await,
+        Action::OpenApi => Ok(status::openapi()),
+        Action::Explain(name) => status::explain(&name),
+        Action::Status => status::status(app).await,
+        Action::ListTypes => Ok(types::list(app)),
+        Action::GetType(name) => types::get(app, &asked, &name).await,
+        Action::PutType(name) => types::put(app, asked, &name).await,
+        Action::ListObjects => objects::list(app, &asked),
+        Action::AddObjects => objects::add(app, asked).await,
+        Action::GetObject(name) => objects::get(app, &name).await,
+        Action::PutObject(name) => objects::put(app, asked, name).await,
+        Action::Snapshot => objects::snapshot(app, &asked).await,
+        Action::Attempt => attempts::attempt(app, asked).await,
+        Action::ListTransactions => Ok(transactions::list(app, &asked)),
+        Action::Begin => transactions::begin(app, asked).await,
+        Action::GetTransaction(name) => transactions::get(app, &asked, name),
+        Action::Call(name) => transactions::call(app, asked, name).await,
+        Action::Rollback(name) => transactions::rollback(app, asked, name).await,
+        Action::Commit(name) => transactions::commit(app, &asked, name).await,
+        Action::Abort(name) => transactions::abort(app, &asked, name).await,
+        Action::Events => events::follow(app, &asked).await,
+    }
+}
+
+/// The key in the header `Idempotency-Key`, if there is one.
+///
+/// # Errors
+///
+/// A [`Problem`] where it isn't a key.
+pub fn key_in(headers: &HeaderMap) -> Result<Option<String>, Problem> {
+    let mut all = headers.get_all("idempotency-key").iter();
+    let Some(value) = all.next() else { return Ok(None) };
+    if all.next().is_some() {
+        return Err(Problem::new(ProblemKind::BadHeader, "Idempotency-Key is there twice").with("header", "Idempotency-Key"));
+    }
+    let word = value.to_str().unwrap_or("").trim();
+    // the header's draft has a text in quotes
+    let word = word.strip_prefix('"').and_then(|word| word.strip_suffix('"')).unwrap_or(word);
+    checked_key(word).map(Some)
+}
+
+/// A key.
+///
+/// # Errors
+///
+/// A [`Problem`] where it isn't one.
+pub fn checked_key(word: &str) -> Result<String, Problem> {
+    if crate::names::is_key(word) {
+        return Ok(word.to_string());
+    }
+    let shown = crate::store::calls::shown(word);
+    Err(Problem::new(ProblemKind::BadName, format!("{shown:?} isn't a key: 1 to 64 of a-z A-Z 0-9 _ : - .")))
+}
