@@ -1,0 +1,264 @@
+"""What becomes of requests where the store or the server ends in their midst."""
+import os
+import random
+import signal
+import subprocess
+import threading
+import time
+import unittest
+
+from served import PROGRAM, InBackground, Served, of_fake, served, until
+
+
+class Failures(unittest.TestCase):
+    def setUp(self):
+        self.served = Served()
+        self.served.add("ctr2", "undo", "up")
+        self.served.add("seats", "undo", "A12")
+
+    def tearDown(self):
+        self.served.close()
+
+    def restarted(self, **how):
+        """The store is killed, and the next one misbehaves so."""
+        self.served.misbehave(**how)
+        self.served.kill_store()
+        until(lambda: self.served.get("/v1/snapshot?object=up").status == 200)
+
+    # ---- the store ends
+
+    def test_a_store_that_is_killed_is_started_again(self):
+        self.served.attempt(("up", "inc:1"))
+        old = self.served.kill_store()
+        self.assertEqual(self.served.attempt(("up", "inc:1"), key="after").status, 200)
+        self.assertEqual(self.served.state("up"), 2)
+        self.assertNotEqual(self.served.store(), old)
+        self.assertIn("the store has ended, and is started again", self.served.log())
+
+    def test_what_was_open_is_gone_with_the_store(self):
+        one = self.served.begin()
+        one.call(("A12", "hold:1"))
+        waiting = InBackground(lambda: self.served.attempt(("A12", "hold:1"), wait=20, key="waits"))
+        until(lambda: self.served.get("/v1/status").json["waiting"] > 0)
+        self.served.kill_store()
+        self.assertEqual(waiting.result().json, {"replies": ["ok"]})
+        self.assertEqual((one.known()["cause"], one.commit().problem), ("lost", "ended"))
+
+    @of_fake
+    def test_an_attempt_whose_answer_was_lost_is_known_by_its_key(self):
+        self.restarted(lose_answers=2)
+        self.assertEqual(self.served.attempt(("up", "inc:1"), key="lost").json, {"replies": ["ok"]})
+        self.assertEqual(self.served.state("up"), 1)
+
+    @of_fake
+    def test_without_a_key_nobody_knows_it(self):
+        self.restarted(lose_answers=2)
+        answer = self.served.attempt(("up", "inc:1"))
+        self.assertEqual((answer.status, answer.problem), (503, "outcome-unknown"))
+        until(lambda: self.served.get("/readyz").status == 200)
+        self.assertEqual(self.served.state("up"), 1)
+
+    @of_fake
+    def test_a_commit_whose_answer_was_lost_is_known_by_the_events(self):
+        for wrong, status in (({"lose_answers": 4}, 200), ({"die_after": 3}, 410)):
+            self.restarted(**wrong)
+            one = self.served.begin()
+            one.call(("A12", "free"))
+            self.assertEqual(one.commit().status, status, wrong)
+
+    @of_fake
+    def test_a_commit_whose_answer_was_lost_is_known_by_its_key(self):
+        for wrong, key, status in (({"lose_answers": 4}, "k1", 200), ({"die_after": 3}, "k2", 410)):
+            self.restarted(**wrong)
+            one = self.served.begin()
+            one.call(("A12", "free"))
+            self.assertEqual(one.commit(key).status, status, wrong)
+
+    @of_fake
+    def test_a_store_that_answers_nonsense_is_ended(self):
+        self.restarted(nonsense_after=2)
+        old = self.served.store()
+        self.assertEqual(self.served.attempt(("up", "inc:1"), key="nonsense").status, 200)
+        self.assertNotEqual(self.served.store(), old)
+        self.assertEqual(self.served.state("up"), 1)
+
+    @of_fake
+    def test_objects_whose_answer_was_lost_are_there(self):
+        self.restarted(die_after=2)
+        self.assertIn(self.served.put("/v1/objects/B1", {"type": "ctr2", "recovery": "undo"}).status, (201, 503))
+        self.assertIn(self.served.put("/v1/objects/B1", {"type": "ctr2", "recovery": "undo"}).status, (200, 201))
+
+    def test_a_program_that_isnt_there_is_told(self):
+        for program in ("/none/colock", "/bin/true"):
+            command = [*self.served.process.args]
+            command[command.index("--program") + 1] = program
+            command[command.index("--data") + 1] = os.path.join(self.served.folder, "other")
+            told = subprocess.run(command, capture_output=True, text=True, timeout=60, check=False)
+            self.assertEqual((told.returncode, "it can't be started" in told.stderr), (3, True), program)
+
+    # ---- epochs
+
+    @of_fake
+    def test_an_epoch_that_is_full_ends_and_the_next_begins(self):
+        self.restarted(full=30)
+        for _ in range(15):
+            self.assertEqual(self.served.attempt(("A12", "free")).status, 200)
+        events = [line for line in self.served.get("/v1/events?from=1.0&follow=false").body.splitlines() if b'"commit"' in line]
+        self.assertGreaterEqual(len(events), 15)
+        self.assertGreater(self.served.get("/v1/status").json["life"], 3)
+
+    def test_what_is_open_ends_with_its_epoch(self):
+        self.served.close()
+        self.served = Served("--epoch-drain", "1")
+        self.served.add("seats", "undo", "A12")
+        one = self.served.begin()
+        one.call(("A12", "hold:1"))
+        waiting = InBackground(lambda: self.served.attempt(("A12", "hold:1"), wait=30))
+        until(lambda: self.served.get("/v1/status").json["waiting"] > 0)
+        self.assertEqual(self.served.put("/v1/objects/A13", {"type": "seats", "recovery": "undo"}).status, 201)
+        self.assertEqual(waiting.result().json, {"replies": ["ok"]})
+        self.assertEqual(one.call(("A12", "free")).problem, "ended")
+        self.assertEqual(one.known()["cause"], "epoch")
+
+    # ---- the server ends
+
+    def test_a_server_that_is_killed_has_all_that_it_answered(self):
+        for n in range(3):
+            self.served.attempt(("A12", f"hold:{n + 1}"), key=f"hold:{n}")
+        one = self.served.begin()
+        one.call(("up", "inc:1"))
+        self.served.kill()
+        self.served.start()
+        self.assertEqual(self.served.get("/v1/snapshot?object=A12&call=free").json["objects"][0]["reply"], "0")
+        self.assertEqual((self.served.state("up"), one.commit().problem), (0, "no-transaction"))
+        self.assertEqual(self.served.attempt(("A12", "hold:1"), key="hold:0").json, {"replies": ["ok"]})
+
+    def test_a_folder_has_one_server(self):
+        told = subprocess.run(self.served.process.args, capture_output=True, text=True, timeout=60, check=False)
+        self.assertEqual((told.returncode, "another server has it" in told.stderr), (3, True))
+
+    def test_what_is_open_may_end_when_the_server_does(self):
+        self.served.close()
+        self.served = Served("--drain", "20")
+        self.served.add("seats", "undo", "A12")
+        one = self.served.begin()
+        connection = self.served.connection()
+        connection.connect()
+        self.served.process.send_signal(signal.SIGTERM)
+        until(lambda: self.served.get("/readyz").status == 503)
+        self.assertEqual(self.served.post("/v1/transactions").problem, "draining")
+        self.assertEqual(self.served.attempt(("A12", "free")).problem, "draining")
+        self.assertEqual((one.call(("A12", "hold:1")).status, one.commit().status), (200, 200))
+        self.assertEqual(self.served.process.wait(20), 0)
+        self.served.start()
+        self.assertEqual(self.served.get("/v1/snapshot?object=A12&call=free").json["objects"][0]["reply"], "2")
+
+    def test_a_second_signal_ends_it_at_once(self):
+        self.served.close()
+        self.served = Served("--drain", "600")
+        self.served.begin()
+        self.served.process.send_signal(signal.SIGTERM)
+        until(lambda: "ending" in self.served.log())
+        self.served.process.send_signal(signal.SIGTERM)
+        self.assertEqual(self.served.process.wait(20), 0)
+
+
+class Crowd(unittest.TestCase):
+    """Clients work at random, while the store and the server are killed. What was answered is there, and keys were done once."""
+
+    SECONDS = float(os.environ.get("CROWD_SECONDS", "6"))
+    CLIENTS = int(os.environ.get("CROWD_CLIENTS", "8"))
+
+    def test_nothing_that_was_answered_is_lost(self):
+        with served() as one:
+            one.add("stock", "escrow", "stock")
+            with open(os.path.join(one.folder, "n.type"), "w", encoding="ascii") as file:
+                file.write("number n\nmax 4294967295\ninitial 0\ngive any\ntake any\nend\n")
+            with open(os.path.join(one.folder, "n.type"), encoding="ascii") as file:
+                one.put("/v1/types/n", file.read())
+            names = [f"n/{n}" for n in range(8)]
+            one.post("/v1/objects", {"objects": [{"name": name, "type": "n", "recovery": "escrow"} for name in names]})
+            end, done = time.monotonic() + self.SECONDS, {}
+            clients = [threading.Thread(target=self.client, args=(one, number, names, end, done)) for number in range(self.CLIENTS)]
+            for client in clients:
+                client.start()
+            self.kills(one, end)
+            for client in clients:
+                client.join()
+            until(lambda: one.get("/readyz").status == 200)
+            states = {told["name"]: told["state"] for told in one.get("/v1/snapshot?prefix=n/").json["objects"]}
+            sure = {name: sum(told.get((name, "sure"), 0) for told in done.values()) for name in names}
+            most = {name: sure[name] + sum(told.get((name, "unknown"), 0) for told in done.values()) for name in names}
+            for name in names:
+                self.assertTrue(sure[name] <= states[name] <= most[name], (name, sure[name], states[name], most[name]))
+            self.assertGreater(sum(sure.values()), 10)
+            one.end()
+            told = subprocess.run([PROGRAM, "audit", "--database", "store.db"], cwd=one.data, capture_output=True, text=True, check=True)
+            self.assertTrue(told.stdout.startswith("# audit yes"))
+
+    def client(self, one, number, names, end, done):
+        source, told = random.Random(number), {}
+        done[number] = told
+        count = 0
+        while time.monotonic() < end:
+            count += 1
+            name = source.choice(names)
+            if source.random() < 0.6:
+                self.attempts(one, f"{number}:{count}", name, source, told)
+            else:
+                self.transacts(one, name, told)
+
+    def attempts(self, one, key, name, source, told):
+        """Under a key it is asked until it is done, and once more."""
+        for _ in range(200):
+            try:
+                answer = one.attempt((name, "give:1"), key=key, wait=2)
+            except (OSError, ValueError, AssertionError):
+                time.sleep(0.05)
+                continue
+            except Exception:  # pylint: disable=broad-except
+                time.sleep(0.05)
+                continue
+            if answer.status == 200:
+                told[name, "sure"] = told.get((name, "sure"), 0) + 1
+                return
+            time.sleep(source.random() / 10)
+        told[name, "unknown"] = told.get((name, "unknown"), 0) + 1
+
+    def transacts(self, one, name, told):
+        """Without a key what isn't answered is unknown."""
+        is_asked = False
+        try:
+            begun = one.post("/v1/transactions", {"idle": 2})
+            if begun.status != 201:
+                return
+            path = f"/v1/transactions/{begun.json['id']}"
+            if one.post(path + "/calls", {"calls": [{"object": name, "call": "give:1"}], "wait": 1}).status != 200:
+                one.post(path + "/abort")
+                return
+            is_asked = True
+            answer = one.post(path + "/commit")
+            if answer.status == 200:
+                told[name, "sure"] = told.get((name, "sure"), 0) + 1
+            elif answer.status not in (410, 404):
+                told[name, "unknown"] = told.get((name, "unknown"), 0) + 1
+        except Exception:  # pylint: disable=broad-except
+            if is_asked:
+                told[name, "unknown"] = told.get((name, "unknown"), 0) + 1
+
+    def kills(self, one, end):
+        source = random.Random(1)
+        while time.monotonic() + 1 < end:
+            time.sleep(0.3 + source.random())
+            try:
+                if source.random() < 0.3:
+                    one.kill()
+                    one.start()
+                else:
+                    one.kill_store()
+            except (TypeError, ProcessLookupError):
+                pass  # it is being started
+
+
+if __name__ == "__main__":
+    unittest.main()
