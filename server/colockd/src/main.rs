@@ -8,6 +8,10 @@ use colockd::running::run;
 use std::io;
 use std::process::ExitCode;
 use tracing::Level;
+use tracing_subscriber::filter::Targets;
+use tracing_subscriber::layer::SubscriberExt;
+use tracing_subscriber::util::SubscriberInitExt;
+use tracing_subscriber::Layer;
 
 fn main() -> ExitCode {
     let options = Options::parse();
@@ -29,10 +33,12 @@ fn main() -> ExitCode {
 }
 
 fn start_log(options: &Options) {
-    let level = options.log_level.parse().unwrap_or(Level::INFO);
-    let log = tracing_subscriber::fmt().with_max_level(level).with_target(false).with_writer(io::stderr);
+    let level: Level = options.log_level.parse().unwrap_or(Level::INFO);
+    // what the crates below say isn't ours to promise: that it has no secrets
+    let ours = Targets::new().with_target("colockd", level);
+    let log = tracing_subscriber::fmt::layer().with_target(false).with_writer(io::stderr);
     match options.log {
-        LogForm::Text => log.with_ansi(false).init(),
-        LogForm::Json => log.json().flatten_event(true).init(),
+        LogForm::Text => tracing_subscriber::registry().with(log.with_ansi(false).with_filter(ours)).init(),
+        LogForm::Json => tracing_subscriber::registry().with(log.json().flatten_event(true).with_filter(ours)).init(),
     }
 }

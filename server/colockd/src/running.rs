@@ -134,5 +134,6 @@ async fn end(app: &App, stage: &watch::Sender<Stage>, signals: &mut Signals, dra
         // it is gone either way
         let _ = app.store.abort(open.name, Cause::Drained).await;
     }
+    app.close();
     stage.send_replace(Stage::Closing);
 }

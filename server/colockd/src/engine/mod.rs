@@ -74,8 +74,8 @@ pub type Outcome = Result<Told, Lost>;
 /// Whether there is a store.
 #[derive(Clone, Copy, Debug, PartialEq, Eq)]
 pub enum Status {
-    /// It is being started.
-    Away,
+    /// It is being started, and failed so often.
+    Away(u32),
     /// It answers.
     Up(Greeting),
     /// It has ended in order, and none comes any more.
@@ -115,7 +115,7 @@ impl<A: Default + Send + 'static> Engine<A> {
     /// Starts the store, and starts it again where it ends.
     pub fn start(plan: Plan, listener: Arc<dyn Listener<A>>) -> Engine<A> {
         let (groups, unwritten) = mpsc::channel(MOST_UNWRITTEN);
-        let (told, status) = watch::channel(Status::Away);
+        let (told, status) = watch::channel(Status::Away(0));
         tokio::spawn(supervise(plan, unwritten, told, listener));
         Engine { groups, status }
     }
@@ -137,12 +137,27 @@ impl<A: Default + Send + 'static> Engine<A> {
                 match *status.borrow_and_update() {
                     Status::Up(greeting) => return Ok(greeting),
                     Status::Ended => return Err(Lost::Unasked),
-                    Status::Away => {}
+                    Status::Away(_) => {}
                 }
                 status.changed().await.map_err(|_| Lost::Unasked)?;
             }
         };
         timeout(limit, up).await.unwrap_or(Err(Lost::Unasked))
+    }
+
+    /// Waits for the first store, as long as it isn't started in vain too often; whether there is one.
+    pub async fn first_up(&self, most_failures: u32) -> bool {
+        let mut status = self.status.clone();
+        loop {
+            match *status.borrow_and_update() {
+                Status::Up(_) => return true,
+                Status::Away(failures) if failures < most_failures => {}
+                Status::Away(_) | Status::Ended => return false,
+            }
+            if status.changed().await.is_err() {
+                return false;
+            }
+        }
     }
 
     /// Asks, and waits for the answer.
@@ -203,7 +218,7 @@ async fn supervise<A: Default + Send + 'static>(
     status: watch::Sender<Status>,
     listener: Arc<dyn Listener<A>>,
 ) {
-    let mut pause = PAUSES.0;
+    let (mut pause, mut failures) = (PAUSES.0, 0);
     loop {
         let start = Instant::now();
         match Started::start(&plan).await {
@@ -212,14 +227,19 @@ async fn supervise<A: Default + Send + 'static>(
                 listener.greeted(started.greeting);
                 status.send_replace(Status::Up(started.greeting));
                 let how = converse(started, &mut unwritten, &listener).await;
-                status.send_replace(if how == How::InOrder { Status::Ended } else { Status::Away });
+                failures = 0;
+                status.send_replace(if how == How::InOrder { Status::Ended } else { Status::Away(failures) });
                 listener.lost();
                 match how {
                     How::InOrder => return,
                     How::Lost(why) => warn!(why, "the store has ended, and is started again"),
                 }
             }
-            Err(why) => error!(%why, "the store can't be started"),
+            Err(why) => {
+                error!(%why, "the store can't be started");
+                failures += 1;
+                status.send_replace(Status::Away(failures));
+            }
         }
         if start.elapsed() >= LONG_LIFE {
             pause = PAUSES.0;

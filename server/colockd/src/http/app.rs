@@ -32,6 +32,7 @@ pub struct App {
     ids: AtomicU64,
     first_id: u64,
     is_draining: AtomicBool,
+    is_closing: AtomicBool,
     ready: Mutex<Option<Instant>>,
 }
 
@@ -52,6 +53,7 @@ impl App {
             ids: AtomicU64::new(0),
             first_id: u64::from_ne_bytes(first),
             is_draining: AtomicBool::new(false),
+            is_closing: AtomicBool::new(false),
             ready: Mutex::default(),
         }
     }
@@ -69,6 +71,16 @@ impl App {
     /// Whether it ends.
     pub fn is_draining(&self) -> bool {
         self.is_draining.load(Ordering::Relaxed)
+    }
+
+    /// What was open has ended: nobody follows the events any more.
+    pub fn close(&self) {
+        self.is_closing.store(true, Ordering::Relaxed);
+    }
+
+    /// Whether nothing goes on.
+    pub fn is_closing(&self) -> bool {
+        self.is_closing.load(Ordering::Relaxed)
     }
 
     /// Nothing begins while the server ends.

@@ -96,9 +96,7 @@ mod tests {
         assert_eq!(read(Body::from("12345678"), &limits()).await.unwrap(), b"12345678");
         assert_eq!(read(Body::from("123456789"), &limits()).await.unwrap_err().kind, ProblemKind::LargeBody);
         let (mut sender, body) = Body::channel();
-        tokio::spawn(async move {
-            while sender.send_data("1234".into()).await.is_ok() {}
-        });
+        tokio::spawn(async move { while sender.send_data("1234".into()).await.is_ok() {} });
         assert_eq!(read(body, &limits()).await.unwrap_err().kind, ProblemKind::LargeBody);
     }
 

@@ -2,7 +2,7 @@
 
 use crate::http::app::App;
 use crate::http::handling::handle;
-use crate::http::patient::Patient;
+use crate::http::patient::{Patient, Requests};
 use crate::http::replies;
 use crate::limits::LONGEST_HEAD;
 use crate::problem::{Problem, ProblemKind};
@@ -26,6 +26,9 @@ const LARGEST_SENDING: usize = 65_536;
 
 /// How long is waited after a connection that couldn't be taken.
 const AFTER_FAULT: Duration = Duration::from_millis(50);
+
+/// How long the last answers of a connection may take to go, where the server ends.
+const LAST_ANSWERS: Duration = Duration::from_millis(250);
 
 /// The most connections that are refused at the same time; beyond them connections are closed without a word.
 const MOST_REFUSED: usize = 64;
@@ -96,11 +99,9 @@ fn take(
 
 async fn connected(app: Arc<App>, stream: TcpStream, peer: SocketAddr, tls: Option<TlsAcceptor>, stage: watch::Receiver<Stage>, place: OwnedSemaphorePermit) {
     app.metrics.connections.inc();
-    let patience = app.limits.patience;
-    let stream = Patient::new(stream, patience);
     match tls {
         None => answer_all(Arc::clone(&app), stream, peer, stage).await,
-        Some(tls) => match timeout(patience, tls.accept(stream)).await {
+        Some(tls) => match timeout(app.limits.patience, tls.accept(stream)).await {
             Ok(Ok(stream)) => answer_all(Arc::clone(&app), stream, peer, stage).await,
             Ok(Err(error)) => tracing::debug!(%peer, %error, "no TLS"),
             Err(_) => tracing::debug!(%peer, "no TLS in time"),
@@ -110,28 +111,54 @@ async fn connected(app: Arc<App>, stream: TcpStream, peer: SocketAddr, tls: Opti
     drop(place);
 }
 
-/// Answers the requests of a connection.
-async fn answer_all<S: AsyncRead + AsyncWrite + Unpin + Send + 'static>(app: Arc<App>, stream: S, peer: SocketAddr, mut stage: watch::Receiver<Stage>) {
-    let patience = app.limits.patience;
-    let service = service_fn(move |request| {
-        let app = Arc::clone(&app);
-        async move { Ok::<_, Infallible>(handle(app, peer, request).await) }
-    });
+/// What is chosen of HTTP.
+fn protocol(patience: Duration) -> Http {
     let mut http = Http::new();
-    http.http1_header_read_timeout(patience).max_buf_size(LONGEST_HEAD).pipeline_flush(true);
+    http.max_buf_size(LONGEST_HEAD);
     http.http2_max_concurrent_streams(MOST_STREAMS).http2_max_header_list_size(LONGEST_HEAD as u32).http2_max_send_buf_size(LARGEST_SENDING);
     http.http2_keep_alive_interval(patience).http2_keep_alive_timeout(patience);
-    let connection = http.serve_connection(stream, service);
+    http
+}
+
+/// Answers the requests of a connection.
+async fn answer_all<S: AsyncRead + AsyncWrite + Unpin + Send + 'static>(app: Arc<App>, stream: S, peer: SocketAddr, mut stage: watch::Receiver<Stage>) {
+    let (patience, requests) = (app.limits.patience, Arc::new(Requests::default()));
+    let begun = Arc::clone(&requests);
+    let service = service_fn(move |request| {
+        let (app, asked) = (Arc::clone(&app), begun.begins());
+        async move {
+            let answer = handle(app, peer, request).await;
+            drop(asked);
+            Ok::<_, Infallible>(answer)
+        }
+    });
+    let connection = protocol(patience).serve_connection(Patient::new(stream, patience, Arc::clone(&requests)), service);
     tokio::pin!(connection);
     let ended = tokio::select! {
         ended = connection.as_mut() => ended,
         () = reaches(&mut stage, Stage::Closing) => {
             connection.as_mut().graceful_shutdown();
-            connection.await
+            tokio::select! {
+                ended = connection.as_mut() => ended,
+                () = rests(&requests) => Ok(()),
+            }
         }
     };
     if let Err(error) = ended {
         tracing::debug!(%peer, %error, "a connection broke off");
+    }
+}
+
+/// Waits until all requests of a connection are answered, and their answers had time to go.
+async fn rests(requests: &Requests) {
+    loop {
+        sleep(LAST_ANSWERS).await;
+        if requests.are_answered() {
+            sleep(LAST_ANSWERS).await;
+            if requests.are_answered() {
+                return;
+            }
+        }
     }
 }
 

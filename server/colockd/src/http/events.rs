@@ -117,7 +117,7 @@ impl Follower {
         loop {
             let seen = self.app.store.observer.happened();
             if batch.lines.is_empty() {
-                if !self.goes_on || self.app.is_draining() {
+                if !self.goes_on || self.app.is_closing() {
                     return;
                 }
                 if !self.rest(seen, &mut sign).await {
@@ -145,7 +145,7 @@ impl Follower {
                     return false;
                 }
             }
-            if self.app.store.observer.happened() != seen || self.app.is_draining() {
+            if self.app.store.observer.happened() != seen || self.app.is_closing() {
                 return true;
             }
         }
@@ -233,7 +233,10 @@ mod tests {
         let text = written(&batch(), Form::Lines, None, &objects());
         let events: Vec<serde_json::Value> = text.lines().map(|line| serde_json::from_str(line).unwrap()).collect();
         assert_eq!((events.len(), &events[0]["at"], &events[1]["reply"], &events[2]["call"]), (7, &"4.7".into(), &"no".into(), &"take:17".into()));
-        assert_eq!((&events[3]["blocker"], &events[4]["object"], &events[5]["count"], &events[6]["event"]), (&3.into(), &"b".into(), &1.into(), &"commit".into()));
+        assert_eq!(
+            (&events[3]["blocker"], &events[4]["object"], &events[5]["count"], &events[6]["event"]),
+            (&3.into(), &"b".into(), &1.into(), &"commit".into())
+        );
     }
 
     #[test]

@@ -54,7 +54,8 @@ fn form(of: &TypeText) -> &'static str {
 /// A [`Problem`] where there is none.
 pub async fn get(app: &App, asked: &Asked, name: &str) -> Result<Response<Body>, Problem> {
     let kinds = kinds_in(&Query::of(asked.query.as_deref(), &["recovery"])?)?;
-    let of = app.store.types.named(name).ok_or_else(|| Problem::new(ProblemKind::NoType, format!("there is no type {:?}", crate::store::calls::shown(name))))?;
+    let of =
+        app.store.types.named(name).ok_or_else(|| Problem::new(ProblemKind::NoType, format!("there is no type {:?}", crate::store::calls::shown(name))))?;
     let accepts = asked.headers.get(ACCEPT).and_then(|value| value.to_str().ok()).unwrap_or("");
     if accepts.starts_with("text/plain") {
         return Ok(text(StatusCode::OK, "text/plain; charset=utf-8", of.text().to_string()));

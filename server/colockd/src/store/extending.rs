@@ -30,6 +30,9 @@ const BETWEEN_LOOKS: Duration = Duration::from_millis(100);
 /// The most types of one commit: their files are words of one line.
 const MOST_TYPES_AT_ONCE: usize = 64;
 
+/// How often the objects are read anew.
+const MOST_LOADS: usize = 5;
+
 /// The most requests that wait for their objects.
 pub const MOST_ADDITIONS: usize = 1_024;
 
@@ -137,8 +140,7 @@ impl Extender {
         };
         match told.answer() {
             Some(Answer::Ok(_)) => self.found(objects).await,
-            Some(Answer::No("TooLarge")) => Err(ProblemKind::StoreFull.into()),
-            Some(Answer::No(why)) => Err(Problem::new(ProblemKind::TypeRefused, format!("the store adds nothing: {why}"))),
+            Some(Answer::No(why)) => Err(self.refused(why).await),
             Some(Answer::Drain) => Err(ProblemKind::EpochEnding.into()),
             _ => Err(ProblemKind::Internal.into()),
         }
@@ -161,14 +163,38 @@ impl Extender {
 
     /// Reads the objects anew, and looks whether these are there.
     async fn found(&self, objects: &[NewObject]) -> Result<(), Problem> {
-        self.engine.up(LONGEST_AWAY).await.map_err(|_| ProblemKind::OutcomeUnknown)?;
-        load_objects(&self.engine, &self.objects, &self.types).await.map_err(|_| ProblemKind::OutcomeUnknown)?;
+        self.load().await?;
         let is_there = objects.iter().all(|object| self.objects.named(&object.name).is_some());
         if is_there {
             Ok(())
         } else {
             Err(ProblemKind::StoreAway.into())
         }
+    }
+
+    /// Reads the objects anew, also where the store ends meanwhile.
+    async fn load(&self) -> Result<(), Problem> {
+        for _ in 0..MOST_LOADS {
+            let is_up = self.engine.up(LONGEST_AWAY).await.is_ok();
+            if is_up && load_objects(&self.engine, &self.objects, &self.types).await.is_ok() {
+                return Ok(());
+            }
+        }
+        Err(ProblemKind::OutcomeUnknown.into())
+    }
+
+    /// What the store says that it adds nothing for. A name that is taken was added before, and its answer was lost.
+    async fn refused(&self, why: &str) -> Problem {
+        if why == "TooLarge" {
+            return ProblemKind::StoreFull.into();
+        }
+        if why.ends_with(": name taken") {
+            return match self.load().await {
+                Ok(()) => ProblemKind::NameTaken.into(),
+                Err(problem) => problem,
+            };
+        }
+        Problem::new(ProblemKind::TypeRefused, format!("the store adds nothing: {why}"))
     }
 }
 

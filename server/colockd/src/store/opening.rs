@@ -34,8 +34,8 @@ pub const READY_CALL: &str = "ready";
 
 const READY_TYPE: &str = "type colockd\nstates 1\ninitial 0\nop ready ok\nstep 0 0 0\nend\n";
 
-/// How long a store may take to answer for the first time.
-const LONGEST_OPENING: Duration = Duration::from_secs(300);
+/// How often a store is started in vain, before the server gives up.
+const MOST_STARTS: u32 = 5;
 
 /// What is chosen for a store.
 #[derive(Clone, Copy, Debug)]
@@ -64,7 +64,9 @@ impl Store {
         let waits = Arc::new(Waits::new(objects.clone(), due));
         let observer = Arc::new(Observer::new(Arc::default(), waits, metrics));
         let engine = Engine::start(plan(folder, &program, choices), Arc::clone(&observer) as Arc<_>);
-        engine.up(LONGEST_OPENING).await.map_err(|_| "the store can't be started".to_string())?;
+        if !engine.first_up(MOST_STARTS).await {
+            return Err("the store can't be started".to_string());
+        }
         load_objects(&engine, &objects, &types).await.map_err(|why| why.to_string())?;
         tokio::spawn(ask_due(engine.clone(), asked));
         let (additions, added) = mpsc::channel(MOST_ADDITIONS);
