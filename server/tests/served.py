@@ -57,7 +57,7 @@ class Served:
 
     def start(self):
         command = [SERVER, "--data", self.data, "--listen", "127.0.0.1:0", "--log", "json", "--program", self.program, *self.words]
-        self.process = subprocess.Popen(command, stderr=subprocess.PIPE, text=True)
+        self.process = subprocess.Popen(command, stdout=subprocess.DEVNULL, stderr=subprocess.PIPE, text=True)
         self.lines, ready = [], threading.Event()
         threading.Thread(target=self.listen, args=(self.process.stderr, self.lines, ready), daemon=True).start()
         if not ready.wait(60) or self.port is None:
@@ -78,7 +78,11 @@ class Served:
     def end(self, wanted=0):
         """Ends it in order."""
         self.process.send_signal(signal.SIGTERM)
-        status = self.process.wait(60)
+        try:
+            status = self.process.wait(60)
+        except subprocess.TimeoutExpired:
+            self.kill()
+            raise
         assert status == wanted, (status, self.lines)
 
     def kill(self):

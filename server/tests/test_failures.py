@@ -94,7 +94,7 @@ class Failures(unittest.TestCase):
             command[command.index("--program") + 1] = program
             command[command.index("--data") + 1] = os.path.join(self.served.folder, "other")
             told = subprocess.run(command, capture_output=True, text=True, timeout=60, check=False)
-            self.assertEqual((told.returncode, "it can't be started" in told.stderr), (3, True), program)
+            self.assertEqual((told.returncode, "it doesn't serve" in told.stderr), (3, True), program)
 
     # ---- epochs
 

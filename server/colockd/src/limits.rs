@@ -20,6 +20,12 @@ pub const LARGEST_SNAPSHOT: usize = 4_096;
 /// The most types.
 pub const MOST_TYPES: usize = 4_096;
 
+/// The most bytes of the texts of all types.
+pub const LARGEST_TYPES: usize = 16 << 20;
+
+/// The most bytes of the bodies of all requests that are being answered.
+pub const LARGEST_BODIES: usize = 64 << 20;
+
 /// The longest that a request waits.
 pub const LONGEST_WAIT: Duration = Duration::from_secs(60);
 
@@ -27,10 +33,10 @@ pub const LONGEST_WAIT: Duration = Duration::from_secs(60);
 pub const IDLE: (Duration, Duration) = (Duration::from_secs(30), Duration::from_secs(3_600));
 
 /// The most bytes of a path with its query.
-pub const LONGEST_PATH: usize = 65_536;
+pub const LONGEST_PATH: usize = 16_384;
 
 /// The most bytes of the head of a request.
-pub const LONGEST_HEAD: usize = 131_072;
+pub const LONGEST_HEAD: usize = 32_768;
 
 /// What the one who starts a server may choose.
 #[derive(Clone, Copy, Debug, PartialEq, Eq)]

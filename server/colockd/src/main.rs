@@ -26,7 +26,7 @@ fn main() -> ExitCode {
     match runtime.block_on(run(options)) {
         Ok(()) => ExitCode::SUCCESS,
         Err(why) => {
-            tracing::error!(why, "it can't be started");
+            tracing::error!(why, "it doesn't serve");
             ExitCode::from(3)
         }
     }

@@ -72,9 +72,13 @@ pub async fn run(options: Options) -> Result<(), String> {
     end(&app, &stage, &mut signals, Duration::from_secs(u64::from(options.drain))).await;
     // the task doesn't panic, and it isn't aborted
     let _ = serving.await;
-    app.store.engine.end().await;
-    tracing::info!("ended");
-    Ok(())
+    if app.store.engine.end().await {
+        tracing::info!("ended");
+        Ok(())
+    } else {
+        // what was answered is in its file, and the next start ends what was open
+        Err("the store didn't end in order".to_string())
+    }
 }
 
 async fn open(options: &Options, folder: &DataFolder, tokens: Option<Tokens>) -> Result<Arc<App>, String> {

@@ -3,7 +3,7 @@
 use crate::engine::answer::Answer;
 use crate::engine::child::{kill, next_line, reap, Started};
 use crate::engine::flight::Flight;
-use crate::engine::{Asked, Group, Listener, Lost, Outcome, Told};
+use crate::engine::{Asked, Group, Listener, Outcome, Told};
 use crate::locks::locked;
 use std::fmt::Write;
 use std::io;
@@ -20,6 +20,9 @@ const WRITTEN_AT_ONCE: usize = 32_768;
 
 /// How long a child may answer nothing that it was asked; then it is ended.
 pub const LONGEST_SILENCE: Duration = Duration::from_secs(60);
+
+/// Those who wait for an answer that doesn't come any more.
+pub(crate) type Unanswered = Vec<oneshot::Sender<Outcome>>;
 
 /// How a conversation ended.
 #[derive(Clone, Debug, PartialEq, Eq)]
@@ -45,8 +48,12 @@ struct Air<A> {
     answered: Instant,
 }
 
-/// Writes what comes, until the child ends.
-pub(crate) async fn converse<A: Send + 'static>(started: Started, unwritten: &mut mpsc::Receiver<Group<A>>, listener: &Arc<dyn Listener<A>>) -> How {
+/// Writes what comes, until the child ends; how it did, and what wasn't answered.
+pub(crate) async fn converse<A: Send + 'static>(
+    started: Started,
+    unwritten: &mut mpsc::Receiver<Group<A>>,
+    listener: &Arc<dyn Listener<A>>,
+) -> (How, Unanswered) {
     let (child, mut input, output) = started.parts();
     let air = Arc::new(Mutex::new(Air { flight: Flight::default(), answered: Instant::now() }));
     let mut reader = tokio::spawn(read_all(output, Arc::clone(&air), Arc::clone(listener)));
@@ -68,17 +75,8 @@ pub(crate) async fn converse<A: Send + 'static>(started: Started, unwritten: &mu
         kill(child).await;
     }
     reader.abort();
-    lose(&air);
-    how
-}
-
-/// What was in flight is answered as lost.
-fn lose<A>(air: &Mutex<Air<A>>) {
-    let waiters = locked(air).flight.lose();
-    for waiter in waiters {
-        // who doesn't wait any more needs no answer
-        let _ = waiter.to.send(Err(Lost::InFlight));
-    }
+    let unanswered = locked(&air).flight.lose().into_iter().map(|waiter| waiter.to).collect();
+    (how, unanswered)
 }
 
 /// Writes group after group, until one is the end, or the child is lost.

@@ -4,7 +4,7 @@
 use std::collections::VecDeque;
 
 /// The most bytes of an answer of many lines.
-pub const LONGEST_LIST: usize = 32 << 20;
+pub const LONGEST_LIST: usize = 64 << 20;
 
 /// How an answer looks.
 #[derive(Clone, Copy, Debug, PartialEq, Eq)]

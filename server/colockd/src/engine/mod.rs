@@ -25,6 +25,9 @@ pub const MOST_UNWRITTEN: usize = 4_096;
 /// How long a question waits for a child that is being started.
 pub const LONGEST_AWAY: Duration = Duration::from_secs(5);
 
+/// How often a store is asked for its end.
+const MOST_ENDS: usize = 3;
+
 /// How long is waited before a child that ended is started again: at first, and at most.
 const PAUSES: (Duration, Duration) = (Duration::from_millis(20), Duration::from_secs(5));
 
@@ -193,20 +196,40 @@ impl<A: Default + Send + 'static> Engine<A> {
         Ok(told)
     }
 
-    /// Asks the store for its end, and waits for it.
-    pub async fn end(&self) {
-        let (to, told) = oneshot::channel();
-        let first = Asked { question: Question::of("end"), to };
-        if self.put(Group { first, rest: Vec::new(), is_end: true }).await.is_ok() {
-            // the status says how it ended
-            let _ = told.await;
-            let mut status = self.status.clone();
-            while *status.borrow_and_update() != Status::Ended && status.changed().await.is_ok() {}
+    /// Asks the store for its end, and waits for it; whether it ended in order. Where it is lost as it ends, the next one is asked.
+    pub async fn end(&self) -> bool {
+        for _ in 0..MOST_ENDS {
+            let (to, told) = oneshot::channel();
+            let first = Asked { question: Question::of("end"), to };
+            if self.put(Group { first, rest: Vec::new(), is_end: true }).await.is_err() {
+                return self.status() == Status::Ended;
+            }
+            if matches!(told.await, Ok(Ok(_))) {
+                return self.has_ended().await;
+            }
+        }
+        false
+    }
+
+    /// Waits until there is no store any more; whether that is so.
+    async fn has_ended(&self) -> bool {
+        let mut status = self.status.clone();
+        loop {
+            match *status.borrow_and_update() {
+                Status::Ended => return true,
+                Status::Away(_) => return false,
+                Status::Up(_) => {}
+            }
+            if status.changed().await.is_err() {
+                return self.status() == Status::Ended;
+            }
         }
     }
 
     async fn put(&self, group: Group<A>) -> Result<(), Lost> {
-        self.up(LONGEST_AWAY).await?;
+        if !matches!(self.status(), Status::Up(_)) {
+            self.up(LONGEST_AWAY).await?;
+        }
         self.groups.send(group).await.map_err(|_| Lost::Unasked)
     }
 }
@@ -226,10 +249,12 @@ async fn supervise<A: Default + Send + 'static>(
                 info!(process = started.process(), life = started.greeting.life, "the store has begun");
                 listener.greeted(started.greeting);
                 status.send_replace(Status::Up(started.greeting));
-                let how = converse(started, &mut unwritten, &listener).await;
+                let (how, unanswered) = converse(started, &mut unwritten, &listener).await;
                 failures = 0;
                 status.send_replace(if how == How::InOrder { Status::Ended } else { Status::Away(failures) });
                 listener.lost();
+                // who asks for the status then knows that it is another one
+                unanswered.into_iter().for_each(|to| drop(to.send(Err(Lost::InFlight))));
                 match how {
                     How::InOrder => return,
                     How::Lost(why) => warn!(why, "the store has ended, and is started again"),

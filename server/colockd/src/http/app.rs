@@ -1,5 +1,6 @@
 //! What all requests share.
 
+use crate::http::body::Room;
 use crate::limits::Limits;
 use crate::metrics::Metrics;
 use crate::problem::{Problem, ProblemKind};
@@ -25,6 +26,8 @@ pub struct App {
     pub limits: Limits,
     /// What is counted.
     pub metrics: Arc<Metrics>,
+    /// The room for the bodies of all requests.
+    pub bodies: Room,
     /// A commit that takes longer is logged.
     pub slow: Duration,
     requests: Arc<Semaphore>,
@@ -47,6 +50,7 @@ impl App {
             tokens,
             limits,
             metrics,
+            bodies: Room::default(),
             slow,
             requests: Arc::new(Semaphore::new(limits.requests)),
             followers: Arc::new(Semaphore::new(limits.followers)),

@@ -1,36 +1,82 @@
 //! The bodies of requests.
 
-use crate::limits::Limits;
+use crate::limits::{Limits, LARGEST_BODIES};
 use crate::problem::{Problem, ProblemKind};
-use hyper::body::{HttpBody, SizeHint};
+use hyper::body::HttpBody;
 use hyper::Body;
 use serde::de::DeserializeOwned;
+use std::ops::Deref;
+use std::sync::Arc;
 use std::time::Duration;
+use tokio::sync::{OwnedSemaphorePermit, Semaphore};
 use tokio::time::timeout;
+
+/// How many bytes a permit is for.
+const BYTES_OF_PERMIT: usize = 4_096;
+
+/// The room for the bodies of all requests.
+#[derive(Debug)]
+pub struct Room(Arc<Semaphore>);
+
+impl Default for Room {
+    fn default() -> Room {
+        Room(Arc::new(Semaphore::new(LARGEST_BODIES / BYTES_OF_PERMIT)))
+    }
+}
+
+/// A body that was read, which has its room.
+#[derive(Debug)]
+pub struct Bytes {
+    /// The bytes.
+    pub bytes: Vec<u8>,
+    permits: Vec<OwnedSemaphorePermit>,
+}
+
+impl Bytes {
+    /// Takes more bytes, where there is room.
+    fn extend(&mut self, piece: &[u8], room: &Room) -> Result<(), Problem> {
+        let wanted = (self.bytes.len() + piece.len()).div_ceil(BYTES_OF_PERMIT);
+        let had = self.bytes.len().div_ceil(BYTES_OF_PERMIT);
+        if wanted > had {
+            let count = u32::try_from(wanted - had).unwrap_or(u32::MAX);
+            let permit = Arc::clone(&room.0).try_acquire_many_owned(count);
+            self.permits.push(permit.map_err(|_| Problem::new(ProblemKind::TooManyRequests, "there is no room for the body now"))?);
+        }
+        self.bytes.extend_from_slice(piece);
+        Ok(())
+    }
+}
+
+impl Deref for Bytes {
+    type Target = [u8];
+
+    fn deref(&self) -> &[u8] {
+        &self.bytes
+    }
+}
 
 /// Reads a body.
 ///
 /// # Errors
 ///
 /// A [`Problem`] where it is too large, or doesn't come.
-pub async fn read(mut body: Body, limits: &Limits) -> Result<Vec<u8>, Problem> {
-    let hint: SizeHint = body.size_hint();
-    if hint.lower() > limits.body as u64 {
+pub async fn read(mut body: Body, limits: &Limits, room: &Room) -> Result<Bytes, Problem> {
+    if body.size_hint().lower() > limits.body as u64 {
         return Err(large(limits));
     }
-    let mut bytes = Vec::with_capacity(hint.lower() as usize);
+    let mut taken = Bytes { bytes: Vec::new(), permits: Vec::new() };
     let all = async {
         while let Some(piece) = body.data().await {
             let piece = piece.map_err(|error| Problem::new(ProblemKind::BadBody, format!("the body breaks off: {error}")))?;
-            if bytes.len() + piece.len() > limits.body {
+            if taken.bytes.len() + piece.len() > limits.body {
                 return Err(large(limits));
             }
-            bytes.extend_from_slice(&piece);
+            taken.extend(&piece, room)?;
         }
         Ok(())
     };
     timeout(limits.patience, all).await.map_err(|_| slow(limits.patience))??;
-    Ok(bytes)
+    Ok(taken)
 }
 
 fn large(limits: &Limits) -> Problem {
@@ -80,7 +126,7 @@ pub fn seconds(name: &str, seconds: f64, most: Duration) -> Result<Duration, Pro
 
 #[cfg(test)]
 mod tests {
-    use super::{parsed, parsed_or_default, read, seconds};
+    use super::{parsed, parsed_or_default, read, seconds, Room};
     use crate::limits::Limits;
     use crate::problem::ProblemKind;
     use hyper::Body;
@@ -93,17 +139,32 @@ mod tests {
 
     #[tokio::test]
     async fn bodies_are_as_large_as_they_may_be() {
-        assert_eq!(read(Body::from("12345678"), &limits()).await.unwrap(), b"12345678");
-        assert_eq!(read(Body::from("123456789"), &limits()).await.unwrap_err().kind, ProblemKind::LargeBody);
+        assert_eq!(read(Body::from("12345678"), &limits(), &Room::default()).await.unwrap().bytes, b"12345678");
+        assert_eq!(read(Body::from("123456789"), &limits(), &Room::default()).await.unwrap_err().kind, ProblemKind::LargeBody);
         let (mut sender, body) = Body::channel();
         tokio::spawn(async move { while sender.send_data("1234".into()).await.is_ok() {} });
-        assert_eq!(read(body, &limits()).await.unwrap_err().kind, ProblemKind::LargeBody);
+        assert_eq!(read(body, &limits(), &Room::default()).await.unwrap_err().kind, ProblemKind::LargeBody);
+    }
+
+    #[tokio::test]
+    async fn bodies_have_so_much_room() {
+        let (limits, room) = (Limits::default(), Room::default());
+        let mut kept = Vec::new();
+        let full = loop {
+            match read(Body::from(vec![b' '; 2 << 20]), &limits, &room).await {
+                Ok(bytes) => kept.push(bytes),
+                Err(problem) => break problem.kind,
+            }
+        };
+        assert_eq!((kept.len(), full), (32, ProblemKind::TooManyRequests));
+        kept.clear();
+        assert!(read(Body::from("1"), &limits, &room).await.is_ok());
     }
 
     #[tokio::test]
     async fn a_body_that_doesnt_come_isnt_waited_for() {
         let (_sender, body) = Body::channel();
-        assert_eq!(read(body, &limits()).await.unwrap_err().kind, ProblemKind::SlowBody);
+        assert_eq!(read(body, &limits(), &Room::default()).await.unwrap_err().kind, ProblemKind::SlowBody);
     }
 
     #[test]

@@ -2,6 +2,7 @@
 
 use crate::http::action::Action;
 use crate::http::app::App;
+use crate::http::body::Bytes;
 use crate::http::{attempts, body, events, objects, page, replies, status, transactions, types};
 use crate::limits::LONGEST_PATH;
 use crate::problem::{Problem, ProblemKind};
@@ -34,8 +35,8 @@ impl Asked {
     /// # Errors
     ///
     /// A [`Problem`] where it can't be had.
-    pub async fn bytes(&mut self, app: &App) -> Result<Vec<u8>, Problem> {
-        body::read(std::mem::take(&mut self.body), &app.limits).await
+    pub async fn bytes(&mut self, app: &App) -> Result<Bytes, Problem> {
+        body::read(std::mem::take(&mut self.body), &app.limits, &app.bodies).await
     }
 }
 

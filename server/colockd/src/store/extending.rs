@@ -5,10 +5,11 @@ use crate::engine::answer::Answer;
 use crate::engine::question::Question;
 use crate::engine::{Engine, Lost, LONGEST_AWAY};
 use crate::limits::MOST_ADDED;
+use crate::names::number_of;
 use crate::problem::{Problem, ProblemKind};
 use crate::store::about::About;
 use crate::store::loading::load_objects;
-use crate::store::objects::{SharedObjects, MOST_OBJECTS};
+use crate::store::objects::{ObjectEntry, SharedObjects, MOST_OBJECTS};
 use crate::store::recovery::Recovery;
 use crate::store::types::Types;
 use std::collections::HashMap;
@@ -139,11 +140,24 @@ impl Extender {
             Err(Lost::InFlight) => return self.found(objects).await,
         };
         match told.answer() {
-            Some(Answer::Ok(_)) => self.found(objects).await,
+            Some(Answer::Ok(first)) => match self.entries(first, objects).map(|entries| self.objects.append(entries)) {
+                Some(true) => Ok(()),
+                _ => self.found(objects).await,
+            },
             Some(Answer::No(why)) => Err(self.refused(why).await),
             Some(Answer::Drain) => Err(ProblemKind::EpochEnding.into()),
             _ => Err(ProblemKind::Internal.into()),
         }
+    }
+
+    /// The objects as they are from a number on.
+    fn entries(&self, first: &str, objects: &[NewObject]) -> Option<Vec<ObjectEntry>> {
+        let numbers = number_of(first)?..;
+        let entry = |(object, number): (&NewObject, u32)| {
+            let of = self.types.named(&object.of)?;
+            Some(ObjectEntry { number, name: Some(Arc::from(object.name.as_str())), recovery: object.recovery, of })
+        };
+        objects.iter().zip(numbers).map(entry).collect()
     }
 
     /// Asks, and asks something else until the answer is there.

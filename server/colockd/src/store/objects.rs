@@ -51,6 +51,21 @@ impl SharedObjects {
         *self.0.write().unwrap_or_else(PoisonError::into_inner) = Table { entries, by_name };
     }
 
+    /// These come behind the others, by their numbers; whether they do.
+    pub fn append(&self, entries: Vec<ObjectEntry>) -> bool {
+        let mut table = self.0.write().unwrap_or_else(PoisonError::into_inner);
+        let follow = entries.iter().zip(table.entries.len()..).all(|(entry, number)| entry.number as usize == number);
+        if follow {
+            for entry in entries {
+                if let Some(name) = &entry.name {
+                    table.by_name.insert(Arc::clone(name), entry.number);
+                }
+                table.entries.push(Arc::new(entry));
+            }
+        }
+        follow
+    }
+
     /// How many there are.
     pub fn len(&self) -> usize {
         self.read().entries.len()
@@ -132,6 +147,15 @@ mod tests {
         assert_eq!(page("stalls/", Some("stalls/A"), 9), ["stalls/B"]);
         assert_eq!(page("stalls/", Some("a"), 1), ["stalls/A"]);
         assert_eq!(page("x", None, 1), [""; 0]);
+    }
+
+    #[test]
+    fn objects_come_behind_the_others() {
+        let objects = objects();
+        let more =
+            |number| vec![super::ObjectEntry { number, name: Some("new".into()), recovery: super::Recovery::Undo, of: objects.get(0).unwrap().of.clone() }];
+        assert!(!objects.append(more(5)) && objects.append(more(4)));
+        assert_eq!((objects.len(), objects.named("new").unwrap().number), (5, 4));
     }
 
     #[test]

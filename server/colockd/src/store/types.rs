@@ -1,7 +1,7 @@
 //! The types that objects may have, by name, with what the checker said of them. Each is a file of the data folder.
 
 use crate::data_folder::{write_whole, ROOM, TYPES};
-use crate::limits::MOST_TYPES;
+use crate::limits::{LARGEST_TYPES, MOST_TYPES};
 use crate::locks::locked;
 use crate::names::is_name;
 use crate::problem::{Problem, ProblemKind};
@@ -117,9 +117,19 @@ impl Types {
         match self.named(of.name()) {
             Some(other) if *other == **of => Ok(Put::Same),
             Some(_) => Err(Problem::new(ProblemKind::NameTaken, format!("another type has the name {}", of.name()))),
-            None if locked(&self.by_name).len() >= MOST_TYPES => Err(Problem::new(ProblemKind::StoreFull, format!("there are {MOST_TYPES} types"))),
+            None if self.are_full(of) => {
+                let words = format!("there are {MOST_TYPES} types at most, with {LARGEST_TYPES} bytes in all");
+                Err(Problem::new(ProblemKind::StoreFull, words))
+            }
             None => self.keep(of).map(|()| Put::New).map_err(|error| Problem::new(ProblemKind::Internal, error)),
         }
+    }
+
+    /// Whether there is no room for another type.
+    fn are_full(&self, new: &TypeText) -> bool {
+        let by_name = locked(&self.by_name);
+        let bytes: usize = by_name.values().map(|of| of.text().len()).sum();
+        by_name.len() >= MOST_TYPES || bytes + new.text().len() > LARGEST_TYPES
     }
 
     /// Whether a text can be read.
