@@ -172,12 +172,10 @@ class Crowd(unittest.TestCase):
     def test_nothing_that_was_answered_is_lost(self):
         with served() as one:
             one.add("stock", "escrow", "stock")
-            with open(os.path.join(one.folder, "n.type"), "w", encoding="ascii") as file:
-                file.write("number n\nmax 4294967295\ninitial 0\ngive any\ntake any\nend\n")
-            with open(os.path.join(one.folder, "n.type"), encoding="ascii") as file:
-                one.put("/v1/types/n", file.read())
+            self.assertEqual(one.put("/v1/types/n", "number n\nmax 4294967295\ninitial 0\ntake any\ngive any\nend\n").status, 201)
             names = [f"n/{n}" for n in range(8)]
-            one.post("/v1/objects", {"objects": [{"name": name, "type": "n", "recovery": "escrow"} for name in names]})
+            added = one.post("/v1/objects", {"objects": [{"name": name, "type": "n", "recovery": "escrow"} for name in names]})
+            self.assertEqual(added.status, 201)
             end, done = time.monotonic() + self.SECONDS, {}
             clients = [threading.Thread(target=self.client, args=(one, number, names, end, done)) for number in range(self.CLIENTS)]
             for client in clients:
