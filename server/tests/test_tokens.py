@@ -150,6 +150,18 @@ class Tls(unittest.TestCase):
 
 
 class Open(unittest.TestCase):
+    def test_a_page_from_elsewhere_may_not_ask(self):
+        one = Served()
+        try:
+            own = f"127.0.0.1:{one.port}"
+            for headers in ({"Origin": "http://shop.example"}, {"Host": "shop.example"}, {"Host": "shop.example", "Origin": "http://shop.example"}):
+                answer = one.ask("POST", "/v1/transactions", "", headers)
+                self.assertEqual((answer.status, answer.problem), (403, "foreign-origin"), headers)
+            for headers in ({"Origin": f"http://{own}"}, {"Host": f"localhost:{one.port}"}):
+                self.assertEqual(one.ask("POST", "/v1/transactions", "", headers).status, 201, headers)
+        finally:
+            one.close()
+
     def test_elsewhere_than_on_the_loopback_it_needs_tls_and_tokens(self):
         one = Served()
         try:

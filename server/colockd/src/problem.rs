@@ -34,6 +34,8 @@ pub enum ProblemKind {
     NoToken,
     /// The token has no right to it.
     NoRight,
+    /// It comes from a page of another server.
+    ForeignOrigin,
     /// There is no such object.
     NoObject,
     /// There is no such type.
@@ -99,7 +101,7 @@ pub enum ProblemKind {
 /// What is said of a kind: its name, its status, its title, and what to do.
 struct Words(ProblemKind, &'static str, u16, &'static str, &'static str);
 
-const WORDS: [Words; 44] = [
+const WORDS: [Words; 45] = [
     Words(ProblemKind::NoRoute, "no-route", 404, "There is no such path", "See /openapi.json for those that there are."),
     Words(ProblemKind::NoMethod, "no-method", 405, "The path doesn't take this method", "Take one of those that the header Allow names."),
     Words(ProblemKind::LongPath, "long-path", 414, "The path and its query are too long", "Ask for less at once."),
@@ -114,6 +116,7 @@ const WORDS: [Words; 44] = [
     Words(ProblemKind::LongList, "long-list", 422, "The list is too long, or empty", "Split it."),
     Words(ProblemKind::NoToken, "no-token", 401, "A token is needed", "Send a header `Authorization: Bearer TOKEN` with a token that is known."),
     Words(ProblemKind::NoRight, "no-right", 403, "The token has no right to this", "Ask with another token, or give it the right."),
+    Words(ProblemKind::ForeignOrigin, "foreign-origin", 403, "It comes from a page of another server", "Ask from a page of this server, or from no page."),
     Words(ProblemKind::NoObject, "no-object", 404, "There is no such object", "Add it, or mend its name."),
     Words(ProblemKind::NoType, "no-type", 404, "There is no such type", "Put its text first."),
     Words(ProblemKind::NoCall, "no-call", 422, "The type of the object has no such call", "Take a call of its type."),

@@ -87,7 +87,10 @@ async fn open(options: &Options, folder: &DataFolder, tokens: Option<Tokens>) ->
     let program = Arc::new(Program::new(path, folder.path().to_path_buf()));
     let choices = Choices { is_fast: options.fast, drain: options.epoch_drain, histories: options.history as usize };
     let store = Store::open(folder, program, choices, Arc::clone(&metrics)).await?;
-    Ok(Arc::new(App::new(store, tokens, options.limits(), metrics, Duration::from_millis(options.slow))))
+    let mut app = App::new(store, tokens, options.limits(), metrics);
+    app.slow = Duration::from_millis(options.slow);
+    app.is_insecure = options.insecure;
+    Ok(Arc::new(app))
 }
 
 /// A program that is named by a path, from here on: it is run in another folder.

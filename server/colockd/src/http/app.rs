@@ -30,6 +30,8 @@ pub struct App {
     pub bodies: Room,
     /// A commit that takes longer is logged.
     pub slow: Duration,
+    /// Whether others than this machine may ask without a token.
+    pub is_insecure: bool,
     requests: Arc<Semaphore>,
     followers: Arc<Semaphore>,
     ids: AtomicU64,
@@ -41,7 +43,7 @@ pub struct App {
 
 impl App {
     /// For a store.
-    pub fn new(store: Arc<Store>, tokens: Option<Tokens>, limits: Limits, metrics: Arc<Metrics>, slow: Duration) -> App {
+    pub fn new(store: Arc<Store>, tokens: Option<Tokens>, limits: Limits, metrics: Arc<Metrics>) -> App {
         let mut first = [0; 8];
         // without a drawn beginning ids are unique in one run alone
         let _ = getrandom::getrandom(&mut first);
@@ -51,7 +53,8 @@ impl App {
             limits,
             metrics,
             bodies: Room::default(),
-            slow,
+            slow: Duration::from_secs(1),
+            is_insecure: false,
             requests: Arc::new(Semaphore::new(limits.requests)),
             followers: Arc::new(Semaphore::new(limits.followers)),
             ids: AtomicU64::new(0),
@@ -65,6 +68,11 @@ impl App {
     /// The id of a request.
     pub fn next_id(&self) -> String {
         format!("{:016x}-{:x}", self.first_id, self.ids.fetch_add(1, Ordering::Relaxed))
+    }
+
+    /// Whether only this machine is to ask: nobody said otherwise, and there are no tokens.
+    pub fn is_loopback_alone(&self) -> bool {
+        self.tokens.is_none() && !self.is_insecure
     }
 
     /// The server ends: nothing begins any more.

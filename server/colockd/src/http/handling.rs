@@ -3,6 +3,7 @@
 use crate::http::action::Action;
 use crate::http::app::App;
 use crate::http::body::Bytes;
+use crate::http::origin::is_own;
 use crate::http::{attempts, body, events, objects, page, replies, status, transactions, types};
 use crate::limits::LONGEST_PATH;
 use crate::problem::{Problem, ProblemKind};
@@ -68,7 +69,7 @@ async fn admitted(app: &Arc<App>, peer: SocketAddr, action: Action, request: Req
     if request.uri().path_and_query().map_or(0, |path| path.as_str().len()) > LONGEST_PATH {
         return Err(ProblemKind::LongPath.into());
     }
-    let caller = known(app, &action, request.headers());
+    let caller = known(app, &action, &request);
     if let Err(problem) = &caller {
         app.metrics.refused_tokens.inc();
         tracing::warn!(id, %peer, route = action.label(), problem = problem.kind.name(), caller = caller_name(app, request.headers()), "refused");
@@ -84,11 +85,12 @@ async fn admitted(app: &Arc<App>, peer: SocketAddr, action: Action, request: Req
 }
 
 /// Who asks, where it may.
-fn known(app: &App, action: &Action, headers: &HeaderMap) -> Result<Caller, Problem> {
+fn known(app: &App, action: &Action, request: &Request<Body>) -> Result<Caller, Problem> {
     if !action.is_guarded() {
         return Ok(Caller::anyone());
     }
-    let caller = app.caller(headers)?;
+    is_own(request.uri(), request.headers(), app.is_loopback_alone())?;
+    let caller = app.caller(request.headers())?;
     if let Some(right) = action.right() {
         app.allowed(&caller, right)?;
     }

@@ -8,6 +8,7 @@ pub mod connections;
 pub mod events;
 pub mod handling;
 pub mod objects;
+pub mod origin;
 pub mod page;
 pub mod patient;
 pub mod query;

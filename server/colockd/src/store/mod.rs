@@ -38,7 +38,7 @@ use tokio::time::sleep;
 /// How often it is looked for transactions that nothing is asked of.
 const BETWEEN_LOOKS: Duration = Duration::from_millis(250);
 
-/// How often a store with open transactions is asked for its life.
+/// How often a store in which something happens is asked for its life, in looks.
 const BETWEEN_BEATS: u32 = 4;
 
 /// A store.
@@ -78,6 +78,7 @@ impl Store {
 
     /// Aborts transactions of which nothing was asked for too long, and looks whether an epoch has ended, for ever.
     pub async fn sweep(self: Arc<Store>) {
+        let mut seen = 0;
         for look in 0_u32.. {
             sleep(BETWEEN_LOOKS).await;
             let open = self.observer.open.all();
@@ -86,7 +87,9 @@ impl Store {
                 // it is gone either way
                 let _ = self.abort(transaction.name, Cause::Idle).await;
             }
-            if !open.is_empty() && look % BETWEEN_BEATS == 0 {
+            let happened = self.observer.happened();
+            if look % BETWEEN_BEATS == 0 && (!open.is_empty() || happened != seen) {
+                seen = happened;
                 self.beat().await;
             }
             if let Err(error) = self.archive.prune(self.observer.life()) {
