@@ -1,4 +1,6 @@
 """What becomes of requests where the store or the server ends in their midst."""
+import http.client
+import json
 import os
 import random
 import signal
@@ -107,6 +109,40 @@ class Failures(unittest.TestCase):
         self.assertGreaterEqual(len(events), 15)
         self.assertGreater(self.served.get("/v1/status").json["life"], 3)
 
+    def test_who_follows_the_events_misses_none(self):
+        number = "number n\nmax 4294967295\ninitial 0\ntake any\ngive any\nend\n"
+        self.assertEqual(self.served.put("/v1/types/n", number).status, 201)
+        self.assertEqual(self.served.put("/v1/objects/n", {"type": "n", "recovery": "escrow"}).status, 201)
+        follower = Follower(self.served, "1.0", "n")
+        for amount in range(1, 41):
+            self.assertEqual(self.served.attempt(("n", f"give:{amount}"), key=f"give:{amount}").status, 200)
+            if amount in (7, 8, 20):
+                self.assertEqual(self.served.put(f"/v1/objects/o{amount}", {"type": "n", "recovery": "escrow"}).status, 201)
+            if amount in (12, 13, 30):
+                self.served.kill_store()
+        until(lambda: len(follower.calls) == 40)
+        self.assertEqual(follower.calls, [f"give:{amount}" for amount in range(1, 41)])
+        self.served.end()
+        self.served.start()
+        for first in (1, 10, 25):
+            later = Follower(self.served, follower.places[first - 1], "n")
+            until(lambda: len(later.calls) == 40 - first)
+            self.assertEqual(later.calls, follower.calls[first:])
+
+    def test_events_that_arent_kept_are_gone(self):
+        self.served.close()
+        self.served = Served("--history", "2")
+        self.served.add("ctr2", "undo", "up")
+        for name in range(4):
+            self.assertEqual(self.served.put(f"/v1/objects/{name}", {"type": "ctr2", "recovery": "undo"}).status, 201)
+        first = until(lambda: self.gone("1.0"))
+        until(lambda: self.gone(first) is None)
+
+    def gone(self, first):
+        """The first events that are kept, where these aren't."""
+        answer = self.served.get(f"/v1/events?from={first}&follow=false")
+        return answer.json["first"] if answer.status == 410 else None
+
     def test_what_is_open_ends_with_its_epoch(self):
         self.served.close()
         self.served = Served("--epoch-drain", "1")
@@ -161,6 +197,33 @@ class Failures(unittest.TestCase):
         until(lambda: "ending" in self.served.log())
         self.served.process.send_signal(signal.SIGTERM)
         self.assertEqual(self.served.process.wait(20), 0)
+
+
+class Follower(threading.Thread):
+    """Follows the operations at an object, and begins again where its connection ends."""
+
+    def __init__(self, one, first, name):
+        super().__init__(daemon=True)
+        self.one, self.first, self.name, self.calls, self.places = one, first, name, [], []
+        self.start()
+
+    def run(self):
+        while True:
+            connection = self.one.connection()
+            try:
+                connection.request("GET", f"/v1/events?from={self.first}&object={self.name}")
+                stream = connection.getresponse()
+                while line := stream.readline().strip():
+                    event = json.loads(line)
+                    life, place = event["at"].split(".")
+                    self.first = f"{life}.{int(place) + 1}"
+                    if event["event"] == "op":
+                        self.calls.append(event["call"])
+                        self.places.append(self.first)
+            except (OSError, ValueError, http.client.HTTPException):
+                time.sleep(0.05)
+            finally:
+                connection.close()
 
 
 class Crowd(unittest.TestCase):

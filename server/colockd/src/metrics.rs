@@ -47,8 +47,7 @@ pub struct Metrics {
     commit_seconds: Histogram,
     /// Seconds of a request, by its route and status.
     pub request_seconds: HistogramVec,
-    /// Requests that are being answered.
-    pub in_flight: IntGauge,
+    in_flight: IntGauge,
     /// Connections.
     pub connections: IntGauge,
     /// Requests that were refused to a token, or for want of one.
@@ -99,6 +98,12 @@ impl Metrics {
         }
     }
 
+    /// A request is being answered, until the result is dropped, also where its client goes away.
+    pub fn counts_request(&self) -> CountedRequest {
+        self.in_flight.inc();
+        CountedRequest(self.in_flight.clone())
+    }
+
     /// A call at an object was busy.
     pub fn busy(&self, object: u32) {
         *locked(&self.busy).entry(object).or_default() += 1;
@@ -133,6 +138,16 @@ impl Metrics {
         let mut text = Vec::new();
         TextEncoder::new().encode(&self.registry.gather(), &mut text)?;
         Ok(text)
+    }
+}
+
+/// A request that is counted.
+#[derive(Debug)]
+pub struct CountedRequest(IntGauge);
+
+impl Drop for CountedRequest {
+    fn drop(&mut self) {
+        self.0.dec();
     }
 }
 

@@ -59,8 +59,8 @@ pub async fn follow(app: &Arc<App>, asked: &Asked) -> Result<Response<Body>, Pro
     let form = form_of(&asked.headers);
     let goes_on = query.read("follow")?.unwrap_or(true);
     let object = query.one("object")?.map(|name| object_of(&ObjectAsked::Name(name.to_string()), &app.store.objects)).transpose()?;
-    let mut cursor = start(app, &query, &asked.headers).await?;
     let place = app.follows()?;
+    let mut cursor = start(app, &query, &asked.headers).await?;
     // what is wrong with the beginning is answered by a status
     let first = app.store.events(&mut cursor).await?;
     let (sender, body) = Body::channel();

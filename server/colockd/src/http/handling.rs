@@ -44,7 +44,7 @@ impl Asked {
 /// Answers a request.
 pub async fn handle(app: Arc<App>, peer: SocketAddr, request: Request<Body>) -> Response<Body> {
     let (start, id) = (Instant::now(), app.next_id());
-    app.metrics.in_flight.inc();
+    let _counted = app.metrics.counts_request();
     let found = Action::of(request.method(), request.uri().path());
     let label = found.as_ref().map_or("none", Action::label);
     let answered = match found {
@@ -52,7 +52,6 @@ pub async fn handle(app: Arc<App>, peer: SocketAddr, request: Request<Body>) -> 
         Err(problem) => Err(problem),
     };
     let mut response = answered.unwrap_or_else(|problem| replies::problem(&problem));
-    app.metrics.in_flight.dec();
     let (seconds, status) = (start.elapsed(), response.status());
     app.metrics.request_seconds.with_label_values(&[label, status.as_str()]).observe(seconds.as_secs_f64());
     if matches!(label, "attempts" | "commit") && seconds >= app.slow {
