@@ -1,4 +1,5 @@
 """What becomes of requests where the store or the server ends in their midst."""
+import collections
 import http.client
 import json
 import os
@@ -227,85 +228,36 @@ class Follower(threading.Thread):
 
 
 class Crowd(unittest.TestCase):
-    """Clients work at random, while the store and the server are killed. What was answered is there, and keys were done once."""
+    """Clients work at random, while the store and the server are killed. What was answered is there, and keys were done once.
+
+    CROWD_SECONDS, CROWD_CLIENTS and CROWD_OBJECTS make it larger.
+    """
 
     SECONDS = float(os.environ.get("CROWD_SECONDS", "6"))
     CLIENTS = int(os.environ.get("CROWD_CLIENTS", "8"))
+    OBJECTS = int(os.environ.get("CROWD_OBJECTS", "8"))
 
     def test_nothing_that_was_answered_is_lost(self):
         with served() as one:
-            one.add("stock", "escrow", "stock")
+            one.add("seats", "undo", *[f"s/{n}" for n in range(self.OBJECTS)])
             self.assertEqual(one.put("/v1/types/n", "number n\nmax 4294967295\ninitial 0\ntake any\ngive any\nend\n").status, 201)
-            names = [f"n/{n}" for n in range(8)]
+            names = [f"n/{n}" for n in range(self.OBJECTS)]
             added = one.post("/v1/objects", {"objects": [{"name": name, "type": "n", "recovery": "escrow"} for name in names]})
             self.assertEqual(added.status, 201)
-            end, done = time.monotonic() + self.SECONDS, {}
-            clients = [threading.Thread(target=self.client, args=(one, number, names, end, done)) for number in range(self.CLIENTS)]
-            for client in clients:
-                client.start()
+            end = time.monotonic() + self.SECONDS
+            clients = [Client(one, number, self.OBJECTS, end) for number in range(self.CLIENTS)]
             self.kills(one, end)
             for client in clients:
                 client.join()
             until(lambda: one.get("/readyz").status == 200)
             states = {told["name"]: told["state"] for told in one.get("/v1/snapshot?prefix=n/").json["objects"]}
-            sure = {name: sum(told.get((name, "sure"), 0) for told in done.values()) for name in names}
-            most = {name: sure[name] + sum(told.get((name, "unknown"), 0) for told in done.values()) for name in names}
             for name in names:
-                self.assertTrue(sure[name] <= states[name] <= most[name], (name, sure[name], states[name], most[name]))
-            self.assertGreater(sum(sure.values()), 10)
+                sure, unknown = (sum(getattr(client, word)[name] for client in clients) for word in ("sure", "unknown"))
+                self.assertTrue(sure <= states[name] <= sure + unknown, (name, sure, states[name], unknown))
+            self.assertGreater(sum(client.sure.total() for client in clients), 10)
             one.end()
             told = subprocess.run([PROGRAM, "audit", "--database", "store.db"], cwd=one.data, capture_output=True, text=True, check=True)
             self.assertTrue(told.stdout.startswith("# audit yes"))
-
-    def client(self, one, number, names, end, done):
-        source, told = random.Random(number), {}
-        done[number] = told
-        count = 0
-        while time.monotonic() < end:
-            count += 1
-            name = source.choice(names)
-            if source.random() < 0.6:
-                self.attempts(one, f"{number}:{count}", name, source, told)
-            else:
-                self.transacts(one, name, told)
-
-    def attempts(self, one, key, name, source, told):
-        """Under a key it is asked until it is done, and once more."""
-        for _ in range(200):
-            try:
-                answer = one.attempt((name, "give:1"), key=key, wait=2)
-            except (OSError, ValueError, AssertionError):
-                time.sleep(0.05)
-                continue
-            except Exception:  # pylint: disable=broad-except
-                time.sleep(0.05)
-                continue
-            if answer.status == 200:
-                told[name, "sure"] = told.get((name, "sure"), 0) + 1
-                return
-            time.sleep(source.random() / 10)
-        told[name, "unknown"] = told.get((name, "unknown"), 0) + 1
-
-    def transacts(self, one, name, told):
-        """Without a key what isn't answered is unknown."""
-        is_asked = False
-        try:
-            begun = one.post("/v1/transactions", {"idle": 2})
-            if begun.status != 201:
-                return
-            path = f"/v1/transactions/{begun.json['id']}"
-            if one.post(path + "/calls", {"calls": [{"object": name, "call": "give:1"}], "wait": 1}).status != 200:
-                one.post(path + "/abort")
-                return
-            is_asked = True
-            answer = one.post(path + "/commit")
-            if answer.status == 200:
-                told[name, "sure"] = told.get((name, "sure"), 0) + 1
-            elif answer.status not in (410, 404):
-                told[name, "unknown"] = told.get((name, "unknown"), 0) + 1
-        except Exception:  # pylint: disable=broad-except
-            if is_asked:
-                told[name, "unknown"] = told.get((name, "unknown"), 0) + 1
 
     def kills(self, one, end):
         source = random.Random(1)
@@ -319,6 +271,74 @@ class Crowd(unittest.TestCase):
                     one.kill_store()
             except (TypeError, ProcessLookupError):
                 pass  # it is being started
+
+
+class Client(threading.Thread):
+    """One of the crowd: how much it gave to each number for sure, and how much perhaps."""
+
+    def __init__(self, one, number, objects, end):
+        super().__init__(daemon=True)
+        self.one, self.number, self.objects, self.end = one, number, objects, end
+        self.source, self.sure, self.unknown, self.count = random.Random(number), collections.Counter(), collections.Counter(), 0
+        self.start()
+
+    def run(self):
+        while time.monotonic() < self.end:
+            self.count += 1
+            self.source.choice([self.attempts, self.attempts, self.transacts, self.holds])()
+
+    def some(self, kind):
+        return [f"{kind}/{n}" for n in self.source.sample(range(self.objects), 2)]
+
+    def asked(self, method, path, body=None, headers=None):
+        """The answer, or nothing where the server is away."""
+        try:
+            return self.one.ask(method, path, body if body is not None else "", headers)
+        except (OSError, ValueError, http.client.HTTPException):
+            time.sleep(0.05)
+            return None
+
+    def attempts(self):
+        """Under a key it is asked until it is done."""
+        names = self.some("n")
+        body, key = {"calls": [{"object": name, "call": "give:1"} for name in names], "wait": 2}, {"Idempotency-Key": f"{self.number}:{self.count}"}
+        for _ in range(200):
+            answer = self.asked("POST", "/v1/attempts", body, key)
+            if answer and answer.status == 200:
+                self.sure.update(names)
+                return
+            time.sleep(self.source.random() / 10)
+        self.unknown.update(names)
+
+    def begin(self, calls):
+        """The path of a transaction that has made these calls, if it has."""
+        begun = self.asked("POST", "/v1/transactions", {"idle": 2})
+        if begun is None or begun.status != 201:
+            return None
+        path = f"/v1/transactions/{begun.json['id']}"
+        answer = self.asked("POST", path + "/calls", {"calls": [{"object": name, "call": call} for name, call in calls], "wait": 1})
+        if answer and answer.status == 200:
+            return path
+        self.asked("POST", path + "/abort")
+        return None
+
+    def transacts(self):
+        """Without a key what isn't answered is unknown."""
+        names = self.some("n")
+        path = self.begin([(name, "give:1") for name in names])
+        if path is None:
+            return
+        answer = self.asked("POST", path + "/commit")
+        if answer and answer.status == 200:
+            self.sure.update(names)
+        elif answer is None or answer.status not in (404, 410):
+            self.unknown.update(names)
+
+    def holds(self):
+        """Seats are held and let go in any order, so that some wait for one another; only the audit looks at them."""
+        path = self.begin([(name, self.source.choice(["hold:1", "hold:2", "release:1", "free"])) for name in self.some("s")])
+        if path:
+            self.asked("POST", path + self.source.choice(["/commit", "/abort"]))
 
 
 if __name__ == "__main__":

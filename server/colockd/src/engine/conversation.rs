@@ -12,7 +12,7 @@ use std::time::{Duration, Instant};
 use tokio::io::{AsyncWriteExt, BufReader};
 use tokio::process::{ChildStdin, ChildStdout};
 use tokio::sync::{mpsc, oneshot};
-use tokio::task::JoinHandle;
+use tokio::task::{yield_now, JoinHandle};
 use tokio::time::{sleep, timeout};
 
 /// How many bytes of questions are written at once, but for a group that is longer by itself.
@@ -20,6 +20,9 @@ const WRITTEN_AT_ONCE: usize = 32_768;
 
 /// How long a child may answer nothing that it was asked; then it is ended.
 pub const LONGEST_SILENCE: Duration = Duration::from_secs(60);
+
+/// How often it is looked whether a child answers.
+const BETWEEN_LOOKS: Duration = Duration::from_secs(15);
 
 /// Those who wait for an answer that doesn't come any more.
 pub(crate) type Unanswered = Vec<oneshot::Sender<Outcome>>;
@@ -88,18 +91,23 @@ async fn write_all<A: Send + 'static>(
     reader: &mut JoinHandle<String>,
 ) -> How {
     let mut lines = String::new();
+    let look = sleep(BETWEEN_LOOKS);
+    tokio::pin!(look);
     loop {
         let is_waiting = !locked(air).flight.is_empty();
         tokio::select! {
             why = &mut *reader => return How::Lost(why.unwrap_or_else(|_| "its answers broke the reader".to_string())),
-            () = sleep(LONGEST_SILENCE / 4), if is_waiting => {
+            () = &mut look, if is_waiting => {
                 if is_silent(air) {
                     return How::Lost("it answers nothing".to_string());
                 }
+                look.as_mut().reset(tokio::time::Instant::now() + BETWEEN_LOOKS);
             }
             group = unwritten.recv() => {
                 let Some(group) = group else { return How::Lost("nobody asks any more".to_string()) };
                 lines.clear();
+                // those who are about to ask do so first
+                yield_now().await;
                 let (count, is_end) = gather(group, unwritten, air, &mut lines);
                 listener.wrote(count);
                 match timeout(LONGEST_SILENCE, input.write_all(lines.as_bytes())).await {

@@ -40,7 +40,7 @@ pub async fn attempt(app: &App, mut asked: Asked) -> Result<Response<Body>, Prob
     let key = key_in(&asked.headers)?;
     let bytes = asked.bytes(app).await?;
     if is_list(&bytes) {
-        return list(app, parsed(&bytes)?, key.as_deref()).await;
+        return Box::pin(list(app, parsed(&bytes)?, key.as_deref())).await;
     }
     let done = one(app, parsed(&bytes)?, key).await?;
     Ok(ok(&done))

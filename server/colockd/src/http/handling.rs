@@ -100,7 +100,18 @@ fn caller_name(app: &App, headers: &HeaderMap) -> String {
     app.caller(headers).map_or_else(|_| "unknown".to_string(), |caller| caller.name.to_string())
 }
 
+/// Those that are asked most often are answered here. The futures of the others are boxed: each request would move the largest.
 async fn dispatch(app: &Arc<App>, asked: Asked) -> Result<Response<Body>, Problem> {
+    match asked.action {
+        Action::Attempt => attempts::attempt(app, asked).await,
+        Action::Begin => transactions::begin(app, asked).await,
+        Action::Call(name) => transactions::call(app, asked, name).await,
+        Action::Commit(name) => transactions::commit(app, &asked, name).await,
+        _ => Box::pin(rarely(app, asked)).await,
+    }
+}
+
+async fn rarely(app: &Arc<App>, asked: Asked) -> Result<Response<Body>, Problem> {
     match asked.action.clone() {
         Action::Page => Ok(page::page()),
         Action::Script => Ok(page::script()),
@@ -119,15 +130,12 @@ async fn dispatch(app: &Arc<App>, asked: Asked) -> Result<Response<Body>, Proble
         Action::GetObject(name) => objects::get(app, &name).await,
         Action::PutObject(name) => objects::put(app, asked, name).await,
         Action::Snapshot => objects::snapshot(app, &asked).await,
-        Action::Attempt => attempts::attempt(app, asked).await,
         Action::ListTransactions => Ok(transactions::list(app, &asked)),
-        Action::Begin => transactions::begin(app, asked).await,
         Action::GetTransaction(name) => transactions::get(app, &asked, name),
-        Action::Call(name) => transactions::call(app, asked, name).await,
         Action::Rollback(name) => transactions::rollback(app, asked, name).await,
-        Action::Commit(name) => transactions::commit(app, &asked, name).await,
         Action::Abort(name) => transactions::abort(app, &asked, name).await,
         Action::Events => events::follow(app, &asked).await,
+        Action::Attempt | Action::Begin | Action::Call(_) | Action::Commit(_) => Err(ProblemKind::Internal.into()),
     }
 }
 
