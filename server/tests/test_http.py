@@ -1,5 +1,4 @@
 """Broken HTTP: what is answered, and that the server goes on."""
-import json
 import os
 import re
 import socket
@@ -249,24 +248,6 @@ class Limits(unittest.TestCase):
         before = ticks()
         time.sleep(3)
         self.assertLessEqual(ticks() - before, 3 * os.sysconf("SC_CLK_TCK") // 50)
-
-
-class Examples(unittest.TestCase):
-    """The lines of the pages that ask by curl."""
-
-    def test_three_lines_of_curl_book_a_seat(self):
-        one = Served()
-        try:
-            base = f"http://127.0.0.1:{one.port}/v1"
-            def curl(*words):
-                return json.loads(subprocess.run(["curl", "-sf", *words], capture_output=True, text=True, check=True).stdout)
-            seats = os.path.join(os.path.dirname(os.path.abspath(__file__)), "..", "..", "examples", "seats.type")
-            curl("-T", seats, f"{base}/types/seats")
-            curl("-X", "PUT", "-d", '{"type": "seats", "recovery": "undo"}', f"{base}/objects/hall")
-            told = curl("-H", "Idempotency-Key: order:4711", "-d", '{"calls": [{"object": "hall", "call": "hold:1"}, {"object": "hall", "call": "book:1"}]}', f"{base}/attempts")
-            self.assertEqual(told, {"replies": ["ok", "ok"]})
-        finally:
-            one.close()
 
 
 if __name__ == "__main__":
