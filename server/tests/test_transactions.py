@@ -79,6 +79,28 @@ class Transactions(unittest.TestCase):
         self.assertEqual((other.known()["state"], other.known()["cause"]), ("aborted", "deadlock"))
         one.abort()
 
+    def test_a_younger_one_goes_behind_an_older_one_that_waits(self):
+        holder, older, younger = self.served.begin(), self.served.begin(), self.served.begin()
+        holder.call(("S10", "hold:1"))
+        first = InBackground(lambda: older.call(("S10", "hold:1"), wait=20))
+        until(lambda: older.known()["waits_for"] == holder.name)
+        second = InBackground(lambda: younger.call(("S10", "hold:1"), wait=20))
+        until(lambda: younger.known()["waits_for"] == older.name)
+        holder.abort()
+        self.assertEqual(first.result(5).json, {"replies": ["ok"]})
+        older.abort()
+        self.assertEqual(second.result(5).json, {"replies": ["ok"]})
+
+    def test_many_that_wait_for_one_seat_get_it_one_after_the_other(self):
+        names = [f"a{n}" for n in range(20)]
+        body = {"calls": [{"object": "S11", "call": "hold:1"}, {"object": "S11", "call": "release:1"}], "wait": 20}
+        holder = self.served.begin()
+        holder.call(("S11", "hold:1"))
+        waiting = [InBackground(lambda: self.served.post("/v1/attempts", body)) for _ in names]
+        until(lambda: self.served.get("/v1/status").json["waiting"] >= len(names))
+        holder.abort()
+        self.assertEqual({one.result(15).status for one in waiting}, {200})
+
     def test_one_of_which_nothing_is_asked_is_aborted(self):
         one = self.served.begin(idle=0.5)
         one.call(("S7", "hold:1"))
