@@ -34,6 +34,8 @@ pub(crate) enum How {
     InOrder,
     /// The child was lost.
     Lost(String),
+    /// Nobody is there who could ask.
+    Unasked,
 }
 
 /// Who waits for an answer.
@@ -70,7 +72,7 @@ pub(crate) async fn converse<A: Send + 'static>(
                 _ => How::Lost("it didn't answer its end".to_string()),
             }
         }
-        lost => lost,
+        other => other,
     };
     if how == How::InOrder {
         reap(child).await;
@@ -104,7 +106,7 @@ async fn write_all<A: Send + 'static>(
                 look.as_mut().reset(tokio::time::Instant::now() + BETWEEN_LOOKS);
             }
             group = unwritten.recv() => {
-                let Some(group) = group else { return How::Lost("nobody asks any more".to_string()) };
+                let Some(group) = group else { return How::Unasked };
                 lines.clear();
                 // those who are about to ask do so first
                 yield_now().await;

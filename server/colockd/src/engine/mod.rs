@@ -256,7 +256,7 @@ async fn supervise<A: Default + Send + 'static>(
                 // who asks for the status then knows that it is another one
                 unanswered.into_iter().for_each(|to| drop(to.send(Err(Lost::InFlight))));
                 match how {
-                    How::InOrder => return,
+                    How::InOrder | How::Unasked => return,
                     How::Lost(why) => warn!(why, "the store has ended, and is started again"),
                 }
             }
@@ -271,5 +271,85 @@ async fn supervise<A: Default + Send + 'static>(
         }
         sleep(pause).await;
         pause = (pause * 2).min(PAUSES.1);
+    }
+}
+
+#[cfg(test)]
+mod tests {
+    use super::{Answer, Engine, Listener, Lost, Plan, Question, Status};
+    use crate::engine::child::{Found, Greeting};
+    use crate::locks::locked;
+    use std::sync::{Arc, Mutex};
+    use std::time::Duration;
+
+    /// A child that answers with what it is asked, dies, answers nonsense, or answers one line late.
+    const SCRIPT: &str = "echo 'colock: a.db: 5 events, 1 aborted, 7 ms' >&2; echo colock 4 3; while read -r tag words; do case $words in \
+        die) exit 1;; nonsense) echo what;; end) echo $tag ok; exit 0;; late) late=$tag;; \
+        *) echo $tag ok $words; [ -n \"$late\" ] && echo $late ok late; late=;; esac; done";
+
+    #[derive(Debug, Default)]
+    struct Seen(Mutex<Vec<String>>);
+
+    impl Listener<u8> for Seen {
+        fn answered(&self, about: &u8, answer: Answer<'_>, _: Duration) {
+            locked(&self.0).push(format!("{about} {answer:?}"));
+        }
+
+        fn wrote(&self, _: usize) {}
+
+        fn greeted(&self, greeting: Greeting) {
+            locked(&self.0).push(format!("life {}", greeting.life));
+        }
+
+        fn lost(&self) {
+            locked(&self.0).push("lost".to_string());
+        }
+    }
+
+    fn engine() -> (Engine<u8>, Arc<Seen>) {
+        let seen = Arc::new(Seen::default());
+        let words = ["-c", SCRIPT].map(str::to_string).to_vec();
+        let plan = Plan { program: "/bin/sh".into(), folder: "/".into(), words };
+        (Engine::start(plan, Arc::clone(&seen) as Arc<_>), seen)
+    }
+
+    async fn told(engine: &Engine<u8>, words: &str) -> Result<String, Lost> {
+        engine.ask(Question::of(words)).await.map(|told| told.line)
+    }
+
+    #[tokio::test]
+    async fn what_is_asked_is_answered_and_noted_in_its_order() {
+        let (engine, seen) = engine();
+        let told = engine.ask_all(vec![Question::about("a", 1), Question::late("late"), Question::about("b", 2)]).await.unwrap();
+        assert_eq!(told.iter().map(|told| told.line.as_str()).collect::<Vec<_>>(), ["ok a", "ok late", "ok b"]);
+        assert_eq!(engine.up(Duration::ZERO).await, Ok(Greeting { life: 3, found: Some(Found { events: 5, aborted: 1 }) }));
+        assert!(engine.end().await);
+        assert_eq!(engine.status(), Status::Ended);
+        let seen = locked(&seen.0);
+        assert_eq!(seen[..4], ["life 3", "1 Ok(\"a\")", "2 Ok(\"b\")", "0 Ok(\"late\")"]);
+    }
+
+    #[tokio::test]
+    async fn a_child_that_ends_is_lost_with_what_it_was_asked_and_the_next_one_answers() {
+        let (engine, seen) = engine();
+        for word in ["die", "nonsense"] {
+            assert_eq!(told(&engine, word).await, Err(Lost::InFlight), "{word}");
+            assert_eq!(told(&engine, "a").await, Ok("ok a".to_string()), "{word}");
+        }
+        assert_eq!(locked(&seen.0).iter().filter(|line| *line == "lost").count(), 2);
+    }
+
+    #[tokio::test]
+    async fn after_the_end_nothing_is_asked() {
+        let (engine, _) = engine();
+        assert!(engine.end().await);
+        assert_eq!(told(&engine, "a").await, Err(Lost::Unasked));
+    }
+
+    #[tokio::test]
+    async fn a_program_that_isnt_there_is_given_up() {
+        let plan = Plan { program: "/none".into(), folder: "/".into(), words: Vec::new() };
+        let engine = Engine::<u8>::start(plan, Arc::new(Seen::default()));
+        assert!(!engine.first_up(2).await);
     }
 }
