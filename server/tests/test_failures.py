@@ -121,7 +121,7 @@ class Failures(unittest.TestCase):
                 self.assertEqual(self.served.put(f"/v1/objects/o{amount}", {"type": "n", "recovery": "escrow"}).status, 201)
             if amount in (12, 13, 30):
                 self.served.kill_store()
-        until(lambda: len(follower.calls) == 40)
+        until(lambda: len(follower.calls) >= 40 or print(follower.first, follower.calls), 20)
         self.assertEqual(follower.calls, [f"give:{amount}" for amount in range(1, 41)])
         self.served.end()
         self.served.start()
@@ -136,8 +136,8 @@ class Failures(unittest.TestCase):
         self.served.add("ctr2", "undo", "up")
         for name in range(4):
             self.assertEqual(self.served.put(f"/v1/objects/{name}", {"type": "ctr2", "recovery": "undo"}).status, 201)
-        first = until(lambda: self.gone("1.0"))
-        until(lambda: self.gone(first) is None)
+        until(lambda: self.gone("1.0"))
+        until(lambda: self.gone(self.gone("1.0")) is None)
 
     def gone(self, first):
         """The first events that are kept, where these aren't."""

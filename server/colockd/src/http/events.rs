@@ -62,10 +62,11 @@ pub async fn follow(app: &Arc<App>, asked: &Asked) -> Result<Response<Body>, Pro
     let place = app.follows()?;
     let mut cursor = start(app, &query, &asked.headers).await?;
     // what is wrong with the beginning is answered by a status
+    let seen = app.store.observer.happened();
     let first = app.store.events(&mut cursor).await?;
     let (sender, body) = Body::channel();
     let follower = Follower { app: Arc::clone(app), cursor, form, object: object.map(|object| object.number), goes_on, sender, _place: place };
-    tokio::spawn(follower.run(first));
+    tokio::spawn(follower.run(first, seen));
     let kind = match form {
         Form::Lines => "application/x-ndjson",
         Form::Sent => "text/event-stream",
@@ -111,11 +112,11 @@ async fn checked(app: &App, life: u32, position: u32) -> Result<Cursor, Problem>
 }
 
 impl Follower {
-    async fn run(mut self, first: Batch) {
+    /// Sends what happened, from a first batch on; before it was read, so much had happened.
+    async fn run(mut self, first: Batch, mut seen: u64) {
         let mut batch = first;
         let mut sign = Instant::now();
         loop {
-            let seen = self.app.store.observer.happened();
             if batch.lines.is_empty() {
                 if !self.goes_on || self.app.is_closing() {
                     return;
@@ -126,11 +127,25 @@ impl Follower {
             } else if !self.sends(written(&batch, self.form, self.object, &self.app.store.objects)).await {
                 return;
             }
-            batch = match self.app.store.events(&mut self.cursor).await {
-                Ok(batch) => batch,
-                Err(problem) if problem.kind == ProblemKind::StoreAway => Batch::default(),
-                Err(_) => return,
+            // what happens from here on is looked for again
+            seen = self.app.store.observer.happened();
+            let Some(next) = self.next().await else {
+                // without an end of the body the other side knows that it misses something
+                self.sender.abort();
+                return;
             };
+            batch = next;
+        }
+    }
+
+    /// The next events, also where the store is being started; nothing where there are none to be had.
+    async fn next(&mut self) -> Option<Batch> {
+        loop {
+            match self.app.store.events(&mut self.cursor).await {
+                Ok(batch) => return Some(batch),
+                Err(problem) if problem.kind == ProblemKind::StoreAway && !self.app.is_closing() => sleep(BETWEEN_LOOKS).await,
+                Err(_) => return None,
+            }
         }
     }
 
