@@ -55,9 +55,9 @@ class Served:
 
     # ---- how it starts and ends
 
-    def start(self):
+    def start(self, **environment):
         command = [SERVER, "--data", self.data, "--listen", "127.0.0.1:0", "--log", "json", "--program", self.program, *self.words]
-        self.process = subprocess.Popen(command, stdout=subprocess.DEVNULL, stderr=subprocess.PIPE, text=True)
+        self.process = subprocess.Popen(command, stdout=subprocess.DEVNULL, stderr=subprocess.PIPE, text=True, env={**os.environ, **environment})
         self.lines, ready = [], threading.Event()
         threading.Thread(target=self.listen, args=(self.process.stderr, self.lines, ready), daemon=True).start()
         if not ready.wait(60) or self.port is None:

@@ -5,6 +5,7 @@ import json
 import os
 import random
 import signal
+import socket
 import subprocess
 import threading
 import time
@@ -169,6 +170,17 @@ class Failures(unittest.TestCase):
         self.assertEqual(self.served.get("/v1/snapshot?object=A12&call=free").json["objects"][0]["reply"], "0")
         self.assertEqual((self.served.state("up"), one.commit().problem), (0, "no-transaction"))
         self.assertEqual(self.served.attempt(("A12", "hold:1"), key="hold:0").json, {"replies": ["ok"]})
+
+    def test_a_manager_of_services_is_told(self):
+        path = os.path.join(self.served.folder, "notify")
+        with socket.socket(socket.AF_UNIX, socket.SOCK_DGRAM) as manager:
+            manager.bind(path)
+            manager.settimeout(20)
+            self.served.end()
+            self.served.start(NOTIFY_SOCKET=path)
+            self.assertEqual(manager.recv(100).strip(), b"READY=1")
+            self.served.end()
+            self.assertEqual(manager.recv(100).strip(), b"STOPPING=1")
 
     def test_a_folder_has_one_server(self):
         told = subprocess.run(self.served.process.args, capture_output=True, text=True, timeout=60, check=False)
