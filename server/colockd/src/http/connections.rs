@@ -27,6 +27,9 @@ const LARGEST_SENDING: usize = 65_536;
 /// How long is waited after a connection that couldn't be taken.
 const AFTER_FAULT: Duration = Duration::from_millis(50);
 
+/// How long a connection may stay on which nothing is asked and nothing is sent.
+const LONGEST_REST: Duration = Duration::from_secs(300);
+
 /// How long the last answers of a connection may take to go, where the server ends.
 const LAST_ANSWERS: Duration = Duration::from_millis(250);
 
@@ -136,29 +139,17 @@ async fn answer_all<S: AsyncRead + AsyncWrite + Unpin + Send + 'static>(app: Arc
     tokio::pin!(connection);
     let ended = tokio::select! {
         ended = connection.as_mut() => ended,
+        () = requests.rest(LONGEST_REST) => Ok(()),
         () = reaches(&mut stage, Stage::Closing) => {
             connection.as_mut().graceful_shutdown();
             tokio::select! {
                 ended = connection.as_mut() => ended,
-                () = rests(&requests) => Ok(()),
+                () = requests.rest(LAST_ANSWERS) => Ok(()),
             }
         }
     };
     if let Err(error) = ended {
         tracing::debug!(%peer, %error, "a connection broke off");
-    }
-}
-
-/// Waits until all requests of a connection are answered, and their answers had time to go.
-async fn rests(requests: &Requests) {
-    loop {
-        sleep(LAST_ANSWERS).await;
-        if requests.are_answered() {
-            sleep(LAST_ANSWERS).await;
-            if requests.are_answered() {
-                return;
-            }
-        }
     }
 }
 

@@ -17,11 +17,12 @@ const HTTP_2: &[u8] = b"PRI";
 /// How long what is still sent is read after the last answer, and how much of it.
 const LINGERING: (Duration, usize) = (Duration::from_secs(1), 4 << 20);
 
-/// How many requests of a connection there were, and how many are being answered.
+/// How many requests of a connection there were, how many are being answered, and how often something was written.
 #[derive(Debug, Default)]
 pub struct Requests {
     begun: AtomicUsize,
     ended: AtomicUsize,
+    written: AtomicUsize,
 }
 
 impl Requests {
@@ -33,6 +34,17 @@ impl Requests {
 
     fn begun(&self) -> usize {
         self.begun.load(Ordering::Relaxed)
+    }
+
+    /// Waits until nothing was asked and nothing was written for so long, or for up to twice as long.
+    pub async fn rest(&self, long: Duration) {
+        loop {
+            let before = (self.begun(), self.written.load(Ordering::Relaxed));
+            sleep(long).await;
+            if self.are_answered() && before == (self.begun(), self.written.load(Ordering::Relaxed)) {
+                return;
+            }
+        }
     }
 
     /// Whether none is being answered.
@@ -82,6 +94,7 @@ impl<S> Patient<S> {
     /// A write that waits, waits so long.
     fn limited<T>(&mut self, context: &mut Context<'_>, poll: Poll<io::Result<T>>) -> Poll<io::Result<T>> {
         if poll.is_ready() {
+            self.requests.written.fetch_add(1, Ordering::Relaxed);
             self.writing = None;
             return poll;
         }
@@ -176,7 +189,7 @@ mod tests {
     use std::sync::Arc;
     use std::time::Duration;
     use tokio::io::{duplex, AsyncReadExt, AsyncWriteExt};
-    use tokio::time::sleep;
+    use tokio::time::{sleep, timeout};
 
     const PATIENCE: Duration = Duration::from_millis(40);
 
@@ -236,6 +249,28 @@ mod tests {
             sleep(PATIENCE).await;
         });
         assert_eq!(near.read(&mut room).await.unwrap(), 4);
+    }
+
+    #[tokio::test]
+    async fn who_asks_and_takes_nothing_rests() {
+        let (near, mut far) = duplex(64);
+        let requests = Arc::new(Requests::default());
+        let mut near = Patient::new(near, PATIENCE, Arc::clone(&requests));
+        let asked = requests.begins();
+        assert!(timeout(PATIENCE, requests.rest(PATIENCE / 8)).await.is_err());
+        drop(asked);
+        tokio::spawn(async move { while far.read_u8().await.is_ok() {} });
+        let follows = async {
+            while near.write_all(b"x").await.is_ok() && {
+                sleep(PATIENCE / 16).await;
+                true
+            } {}
+        };
+        tokio::select! {
+            () = follows => {}
+            rested = timeout(PATIENCE, requests.rest(PATIENCE / 4)) => assert!(rested.is_err()),
+        }
+        assert!(timeout(PATIENCE, requests.rest(PATIENCE / 8)).await.is_ok());
     }
 
     #[tokio::test]
