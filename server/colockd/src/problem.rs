@@ -60,6 +60,16 @@ pub enum ProblemKind {
     KeyAborted,
     /// The row of the key has another one.
     KeyTaken,
+    /// Another transaction is prepared under the key.
+    KeyPrepared,
+    /// The transaction of the key committed.
+    KeyCommitted,
+    /// Nobody has the key.
+    NoKey,
+    /// The transaction is prepared.
+    Prepared,
+    /// It was decided otherwise.
+    Decided,
     /// An operation of the call may change something.
     Changes,
     /// The text of a type has a fault.
@@ -101,7 +111,7 @@ pub enum ProblemKind {
 /// What is said of a kind: its name, its status, its title, and what to do.
 struct Words(ProblemKind, &'static str, u16, &'static str, &'static str);
 
-const WORDS: [Words; 45] = [
+const WORDS: [Words; 50] = [
     Words(ProblemKind::NoRoute, "no-route", 404, "There is no such path", "See /openapi.json for those that there are."),
     Words(ProblemKind::NoMethod, "no-method", 405, "The path doesn't take this method", "Take one of those that the header Allow names."),
     Words(ProblemKind::LongPath, "long-path", 414, "The path and its query are too long", "Ask for less at once."),
@@ -135,6 +145,11 @@ const WORDS: [Words; 45] = [
     Words(ProblemKind::BadRollback, "bad-rollback", 409, "The transaction hasn't done so many operations", "Roll back fewer."),
     Words(ProblemKind::KeyAborted, "key-aborted", 409, "The transaction of the key was aborted", "Take another key."),
     Words(ProblemKind::KeyTaken, "key-taken", 409, "Another key has the place of this one", "Take another key."),
+    Words(ProblemKind::KeyPrepared, "key-prepared", 409, "A transaction is prepared under the key", "Decide it, or take another key."),
+    Words(ProblemKind::KeyCommitted, "key-committed", 409, "The transaction of the key committed", "Take another key."),
+    Words(ProblemKind::NoKey, "no-key", 404, "Nobody has the key", "Mend the key, or prepare the transaction first."),
+    Words(ProblemKind::Prepared, "prepared", 409, "The transaction is prepared", "Decide it under its key, by /v1/decisions/KEY."),
+    Words(ProblemKind::Decided, "decided", 409, "It was decided otherwise", "Live with the outcome that is told."),
     Words(ProblemKind::Changes, "changes", 422, "The call may change something", "Read by a call that changes nothing."),
     Words(ProblemKind::TypeFault, "type-fault", 422, "The text of the type has a fault", "Mend the line that is told."),
     Words(ProblemKind::TypeRefused, "type-refused", 422, "The checker says no", "Mend the type as is told, or take another recovery."),

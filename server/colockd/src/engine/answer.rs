@@ -26,10 +26,20 @@ pub enum Refusal {
     KeyTaken,
     /// An operation of a call that is peeked may change something.
     Changes,
+    /// The transaction is prepared: it ends by a decision alone.
+    Prepared,
+    /// Another transaction is prepared under the key.
+    KeyPrepared,
+    /// The transaction of the key committed.
+    Committed,
+    /// The transaction of the key ended otherwise.
+    Decided,
+    /// Nobody has the key.
+    Unknown,
 }
 
 impl Refusal {
-    const ALL: [(&'static str, Refusal); 10] = [
+    const ALL: [(&'static str, Refusal); 15] = [
         ("NotOpen", Refusal::NotOpen),
         ("NoObject", Refusal::NoObject),
         ("NoCall", Refusal::NoCall),
@@ -40,6 +50,11 @@ impl Refusal {
         ("Aborted", Refusal::Aborted),
         ("KeyTaken", Refusal::KeyTaken),
         ("Changes", Refusal::Changes),
+        ("Prepared", Refusal::Prepared),
+        ("KeyPrepared", Refusal::KeyPrepared),
+        ("Committed", Refusal::Committed),
+        ("Decided", Refusal::Decided),
+        ("Unknown", Refusal::Unknown),
     ];
 
     fn of(word: &str) -> Option<Refusal> {
@@ -90,6 +105,8 @@ pub enum Answer<'a> {
     Committed(&'a str),
     /// The transaction of the key was aborted.
     Aborted,
+    /// The transaction of the key is prepared, and not decided.
+    Prepared,
     /// The key is unknown.
     Unknown,
     /// What was read, and when.
@@ -114,6 +131,7 @@ impl<'a> Answer<'a> {
             "refused" => Answer::refused(rest),
             "committed" => Some(Answer::Committed(rest)),
             "aborted" => Some(Answer::Aborted),
+            "prepared" => Some(Answer::Prepared),
             "unknown" => Some(Answer::Unknown),
             "seen" => Answer::seen(rest),
             "no" => Some(Answer::No(rest)),
@@ -171,6 +189,7 @@ mod tests {
             ("committed ok", Answer::Committed("ok")),
             ("committed", Answer::Committed("")),
             ("aborted", Answer::Aborted),
+            ("prepared", Answer::Prepared),
             ("unknown", Answer::Unknown),
             ("seen 4.7 1 2", Answer::Seen(Moment { life: 4, commits: 7 }, "1 2")),
             ("no TooLarge", Answer::No("TooLarge")),

@@ -17,7 +17,7 @@ use tracing::info;
 pub const LONGEST_ANSWER: u64 = 4_096;
 
 /// The version of what is spoken.
-const SPOKEN: &str = "4";
+const SPOKEN: &str = "5";
 
 /// How long a child may take to open its file.
 const LONGEST_OPENING: Duration = Duration::from_secs(300);
@@ -193,7 +193,7 @@ mod tests {
 
     #[test]
     fn greetings_are_of_one_version() {
-        assert_eq!(["colock 4 17", "colock 5 1", "colock 4", "colock 4 x", ""].map(life_of), [Some(17), None, None, None, None]);
+        assert_eq!(["colock 5 17", "colock 4 1", "colock 5", "colock 5 x", ""].map(life_of), [Some(17), None, None, None, None]);
     }
 
     #[test]

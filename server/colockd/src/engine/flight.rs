@@ -116,8 +116,10 @@ fn list<T>(head: &mut Pending<T>, line: &str) -> Result<(), NoAnswer> {
     Ok(())
 }
 
+/// A key may be `refused`: such a line has more words.
 fn is_end_of_list(line: &str) -> bool {
-    line == "ok" || line.starts_with("refused ") || line.starts_with("fault ")
+    let is_fault = matches!(line.split_once(' '), Some(("refused" | "fault", why)) if !why.contains(' '));
+    line == "ok" || is_fault
 }
 
 fn no_answer(why: &str, line: &str) -> NoAnswer {
@@ -148,8 +150,9 @@ mod tests {
         flight.expect(Form::List, "types");
         flight.expect(Form::List, "events");
         assert_eq!(flight.take("1 type seat"), Ok(None));
+        assert_eq!(flight.take("1 refused 4.2 17"), Ok(None));
         assert_eq!(flight.take("1 "), Ok(None));
-        assert_eq!(flight.take("1 ok"), Ok(Some(whole("types", "type seat\n\n", "ok"))));
+        assert_eq!(flight.take("1 ok"), Ok(Some(whole("types", "type seat\nrefused 4.2 17\n\n", "ok"))));
         assert_eq!(flight.take("2 refused NoMemory"), Ok(Some(whole("events", "", "refused NoMemory"))));
     }
 

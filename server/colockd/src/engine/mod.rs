@@ -283,7 +283,7 @@ mod tests {
     use std::time::Duration;
 
     /// A child that answers with what it is asked, dies, answers nonsense, or answers one line late.
-    const SCRIPT: &str = "echo 'colock: a.db: 5 events, 1 aborted, 7 ms' >&2; echo colock 4 3; while read -r tag words; do case $words in \
+    const SCRIPT: &str = "echo 'colock: a.db: 5 events, 1 aborted, 7 ms' >&2; echo colock 5 3; while read -r tag words; do case $words in \
         die) exit 1;; nonsense) echo what;; end) echo $tag ok; exit 0;; late) late=$tag;; \
         *) echo $tag ok $words; [ -n \"$late\" ] && echo $late ok late; late=;; esac; done";
 

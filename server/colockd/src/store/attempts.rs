@@ -111,7 +111,7 @@ impl Store {
             Err(lost) => return self.lost(attempt, trying, lost),
         };
         match told.answer() {
-            Some(Answer::Done(replies)) => Next::Done(replies.split(' ').map(str::to_string).collect()),
+            Some(Answer::Done(replies)) => Next::Done(replies.split_terminator(' ').map(str::to_string).collect()),
             Some(Answer::BusyAt(place, blocker)) => Next::WaitForBell(busy(&attempt.calls, place, blocker)),
             Some(Answer::IllegalAt(place)) => Next::Ends(at(&attempt.calls, place, ProblemKind::Illegal, "no operation of it is legal now")),
             Some(Answer::RefusedAt(place, refusal)) => Next::Ends(at(&attempt.calls, place, refused(refusal), "the store refuses it")),
@@ -153,6 +153,11 @@ pub fn refused(refusal: Refusal) -> ProblemKind {
         Refusal::Aborted => ProblemKind::KeyAborted,
         Refusal::KeyTaken => ProblemKind::KeyTaken,
         Refusal::Changes => ProblemKind::Changes,
+        Refusal::Prepared => ProblemKind::Prepared,
+        Refusal::KeyPrepared => ProblemKind::KeyPrepared,
+        Refusal::Committed => ProblemKind::KeyCommitted,
+        Refusal::Decided => ProblemKind::Decided,
+        Refusal::Unknown => ProblemKind::NoKey,
     }
 }
 

@@ -205,7 +205,7 @@ impl Store {
         let told: Told = self.engine.ask(Question::of(format!("outcome {key}"))).await.ok()?;
         match told.answer()? {
             Answer::Committed(_) => Some(true),
-            Answer::Aborted | Answer::Unknown => Some(false),
+            Answer::Aborted | Answer::Prepared | Answer::Unknown => Some(false),
             _ => None,
         }
     }
