@@ -178,6 +178,9 @@ class Transaction:
     def rollback(self, count):
         return self.served.post(self.path + "/rollback", {"count": count})
 
+    def prepare(self, key, seconds):
+        return self.served.post(self.path + "/prepare", {"key": key, "for": seconds})
+
     def known(self):
         return self.served.get(self.path).json
 

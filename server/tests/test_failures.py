@@ -1,9 +1,7 @@
 """What becomes of requests where the store or the server ends in their midst."""
-import collections
 import http.client
 import json
 import os
-import random
 import signal
 import socket
 import subprocess
@@ -11,7 +9,7 @@ import threading
 import time
 import unittest
 
-from served import PROGRAM, InBackground, Served, of_fake, served, until
+from served import InBackground, Served, of_fake, until
 
 
 class Failures(unittest.TestCase):
@@ -237,120 +235,6 @@ class Follower(threading.Thread):
                 time.sleep(0.05)
             finally:
                 connection.close()
-
-
-class Crowd(unittest.TestCase):
-    """Clients work at random, while the store and the server are killed. What was answered is there, and keys were done once.
-
-    CROWD_SECONDS, CROWD_CLIENTS and CROWD_OBJECTS make it larger.
-    """
-
-    SECONDS = float(os.environ.get("CROWD_SECONDS", "6"))
-    CLIENTS = int(os.environ.get("CROWD_CLIENTS", "8"))
-    OBJECTS = int(os.environ.get("CROWD_OBJECTS", "8"))
-
-    def test_nothing_that_was_answered_is_lost(self):
-        with served() as one:
-            one.add("seats", "undo", *[f"s/{n}" for n in range(self.OBJECTS)])
-            self.assertEqual(one.put("/v1/types/n", "number n\nmax 4294967295\ninitial 0\ntake any\ngive any\nend\n").status, 201)
-            names = [f"n/{n}" for n in range(self.OBJECTS)]
-            added = one.post("/v1/objects", {"objects": [{"name": name, "type": "n", "recovery": "escrow"} for name in names]})
-            self.assertEqual(added.status, 201)
-            end = time.monotonic() + self.SECONDS
-            clients = [Client(one, number, self.OBJECTS, end) for number in range(self.CLIENTS)]
-            self.kills(one, end)
-            for client in clients:
-                client.join()
-            until(lambda: one.get("/readyz").status == 200)
-            states = {told["name"]: told["state"] for told in one.get("/v1/snapshot?prefix=n/").json["objects"]}
-            for name in names:
-                sure, unknown = (sum(getattr(client, word)[name] for client in clients) for word in ("sure", "unknown"))
-                self.assertTrue(sure <= states[name] <= sure + unknown, (name, sure, states[name], unknown))
-            self.assertGreater(sum(client.sure.total() for client in clients), 10)
-            one.end()
-            told = subprocess.run([PROGRAM, "audit", "--database", "store.db"], cwd=one.data, capture_output=True, text=True, check=True)
-            self.assertTrue(told.stdout.startswith("# audit yes"))
-
-    def kills(self, one, end):
-        source = random.Random(1)
-        while time.monotonic() + 1 < end:
-            time.sleep(0.3 + source.random())
-            try:
-                if source.random() < 0.3:
-                    one.kill()
-                    one.start()
-                else:
-                    one.kill_store()
-            except (TypeError, ProcessLookupError):
-                pass  # it is being started
-
-
-class Client(threading.Thread):
-    """One of the crowd: how much it gave to each number for sure, and how much perhaps."""
-
-    def __init__(self, one, number, objects, end):
-        super().__init__(daemon=True)
-        self.one, self.number, self.objects, self.end = one, number, objects, end
-        self.source, self.sure, self.unknown, self.count = random.Random(number), collections.Counter(), collections.Counter(), 0
-        self.start()
-
-    def run(self):
-        while time.monotonic() < self.end:
-            self.count += 1
-            self.source.choice([self.attempts, self.attempts, self.transacts, self.holds])()
-
-    def some(self, kind):
-        return [f"{kind}/{n}" for n in self.source.sample(range(self.objects), 2)]
-
-    def asked(self, method, path, body=None, headers=None):
-        """The answer, or nothing where the server is away."""
-        try:
-            return self.one.ask(method, path, body if body is not None else "", headers)
-        except (OSError, ValueError, http.client.HTTPException):
-            time.sleep(0.05)
-            return None
-
-    def attempts(self):
-        """Under a key it is asked until it is done."""
-        names = self.some("n")
-        body, key = {"calls": [{"object": name, "call": "give:1"} for name in names], "wait": 2}, {"Idempotency-Key": f"{self.number}:{self.count}"}
-        for _ in range(200):
-            answer = self.asked("POST", "/v1/attempts", body, key)
-            if answer and answer.status == 200:
-                self.sure.update(names)
-                return
-            time.sleep(self.source.random() / 10)
-        self.unknown.update(names)
-
-    def begin(self, calls):
-        """The path of a transaction that has made these calls, if it has."""
-        begun = self.asked("POST", "/v1/transactions", {"idle": 2})
-        if begun is None or begun.status != 201:
-            return None
-        path = f"/v1/transactions/{begun.json['id']}"
-        answer = self.asked("POST", path + "/calls", {"calls": [{"object": name, "call": call} for name, call in calls], "wait": 1})
-        if answer and answer.status == 200:
-            return path
-        self.asked("POST", path + "/abort")
-        return None
-
-    def transacts(self):
-        """Without a key what isn't answered is unknown."""
-        names = self.some("n")
-        path = self.begin([(name, "give:1") for name in names])
-        if path is None:
-            return
-        answer = self.asked("POST", path + "/commit")
-        if answer and answer.status == 200:
-            self.sure.update(names)
-        elif answer is None or answer.status not in (404, 410):
-            self.unknown.update(names)
-
-    def holds(self):
-        """Seats are held and let go in any order, so that some wait for one another; only the audit looks at them."""
-        path = self.begin([(name, self.source.choice(["hold:1", "hold:2", "release:1", "free"])) for name in self.some("s")])
-        if path:
-            self.asked("POST", path + self.source.choice(["/commit", "/abort"]))
 
 
 if __name__ == "__main__":

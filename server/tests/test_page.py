@@ -139,6 +139,16 @@ class Page(unittest.TestCase):
         until(lambda: self.browser.text("#told") == f"{self.one.name} is aborted.")
         self.assertEqual(self.waiting.result().json, {"replies": ["ok"]})
 
+    def test_one_that_is_prepared_says_so_and_is_decided(self):
+        held = self.served.begin()
+        held.call(("hall/C", "hold:1"))
+        self.assertEqual(held.prepare("guest:7", 3_600).status, 200)
+        row = until(lambda: {row[0]: row for row in self.rows("#open-rows tr")}.get(held.name))
+        self.assertRegex(row[5], r"^a decision on guest:7, (59|60) min more$")
+        self.browser.click(f"[aria-label='Abort {held.name}']")
+        until(lambda: self.browser.text("#told") == f"{held.name} is aborted.")
+        self.assertEqual(self.served.get("/v1/decisions/guest:7").json["outcome"], "aborted")
+
     def test_an_object_is_found_with_its_last_events(self):
         self.browser.keys("/")
         self.browser.keys("sold\ue007")

@@ -58,7 +58,7 @@ class Pages(unittest.TestCase):
             method = "GET"
             for words in re.findall(r"`([^`]+)`", row):
                 method, path = words.split(" ") if " " in words else (method, words)
-                told.add((method, re.sub(r"NAME|ID", "*", path.split("?")[0])))
+                told.add((method, re.sub(r"NAME|ID|KEY", "*", path.split("?")[0])))
         self.assertEqual(told - {("GET", "/page.js"), ("GET", "/page.css")}, wanted)
 
     def test_the_lines_of_curl_book_a_seat(self):
@@ -70,9 +70,11 @@ class Pages(unittest.TestCase):
         self.assertEqual(json.loads(told), {"replies": ["ok", "ok"]})
 
     def test_the_bodies_of_the_page_are_read(self):
-        bodies = re.findall(r"^    (\{\"(?:calls|type|objects)\".*\})$", self.page, re.M)
-        routes = {"calls": ("POST", "/v1/attempts"), "objects": ("POST", "/v1/objects"), "type": ("PUT", "/v1/objects/x")}
-        self.assertEqual(len(bodies), 3)
+        bodies = re.findall(r"^    (\{\"(?:calls|type|objects|key|outcome)\".*\})$", self.page, re.M)
+        transaction = self.served.begin()
+        routes = {"calls": ("POST", "/v1/attempts"), "objects": ("POST", "/v1/objects"), "type": ("PUT", "/v1/objects/x"),
+                  "key": ("POST", transaction.path + "/prepare"), "outcome": ("PUT", "/v1/decisions/guest:7")}
+        self.assertEqual(len(bodies), 5)
         for body in bodies:
             answer = self.served.ask(*routes[next(iter(json.loads(body)))], body)
             self.assertIn(answer.status, (200, 201, 404), body)

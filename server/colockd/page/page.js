@@ -4,9 +4,9 @@
 const at = (id) => document.getElementById(id);
 let token = sessionStorage.getItem("token") || "";
 
-async function ask(method, path) {
+async function ask(method, path, body) {
   const headers = token ? { Authorization: `Bearer ${token}` } : {};
-  const answer = await fetch(path, { method, headers, cache: "no-store" });
+  const answer = await fetch(path, { method, headers, cache: "no-store", body: body && JSON.stringify(body) });
   const told = await answer.json();
   if (answer.status === 401) at("access").hidden = false;
   if (!answer.ok) throw new Error(`${told.title}: ${told.detail}`);
@@ -72,13 +72,15 @@ function showOpen(open) {
     const more = one.operations > 4 ? `… ${held}` : held;
     const button = element("button", "Abort", "abort");
     button.setAttribute("aria-label", `Abort ${one.id}`);
-    button.addEventListener("click", () => abort(one.id, button));
+    button.addEventListener("click", () => abort(one, button));
     const last = element("td");
     last.append(button);
-    return row([element("td", one.id, "word"), element("td", one.owner, "word"), element("td", seconds(one.age), "number"),
-      element("td", seconds(one.idle_for), "number"), element("td", more || "nothing", "word"), element("td", one.waits_for || "–", "word"), last]);
+    return row([element("td", one.id, "word"), element("td", one.owner || "–", "word"), element("td", seconds(one.age), "number"),
+      element("td", seconds(one.idle_for), "number"), element("td", more || "nothing", "word"), element("td", waitsFor(one), "word"), last]);
   }), 7, "No transaction is open.");
 }
+
+const waitsFor = (one) => (one.key ? `a decision on ${one.key}, ${seconds(one.left)} more` : one.waits_for || "–");
 
 function showHot(status) {
   const holders = (name) => status.open.filter((one) => one.held.some((held) => held.object === name)).map((one) => one.id);
@@ -87,10 +89,12 @@ function showHot(status) {
   3, "No call was busy since the start.");
 }
 
-async function abort(id, button) {
+/** One that is prepared is decided; another one is aborted by its name. */
+async function abort({ id, key }, button) {
   button.disabled = true;
   try {
-    await ask("POST", `/v1/transactions/${id}/abort`);
+    if (key) await ask("PUT", `/v1/decisions/${encodeURIComponent(key)}`, { outcome: "abort" });
+    else await ask("POST", `/v1/transactions/${id}/abort`);
     tell(`${id} is aborted.`);
   } catch (error) {
     tell(`${id}: ${error.message}`, true);

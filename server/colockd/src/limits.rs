@@ -32,6 +32,9 @@ pub const LONGEST_WAIT: Duration = Duration::from_secs(60);
 /// How long nothing may be asked of a transaction that says nothing of it, and at most.
 pub const IDLE: (Duration, Duration) = (Duration::from_secs(30), Duration::from_secs(3_600));
 
+/// The longest that a transaction is prepared: thirty days.
+pub const HOLD: Duration = Duration::from_secs(30 * 24 * 3_600);
+
 /// The most bytes of a path with its query.
 pub const LONGEST_PATH: usize = 16_384;
 

@@ -34,7 +34,9 @@ pub struct Metrics {
     pub waiting: IntGauge,
     /// What is open.
     pub open: IntGauge,
-    /// The age of the oldest that is open, in milliseconds.
+    /// Those of them that are prepared.
+    pub prepared: IntGauge,
+    /// The age of the oldest that is open, in seconds.
     pub oldest_open_seconds: IntGauge,
     /// The events of the epoch.
     pub epoch_events: IntGauge,
@@ -75,6 +77,7 @@ impl Metrics {
             deadlocks: make.gauge("deadlocks", "Circles of transactions that waited for one another, since the start.")?,
             waiting: make.gauge("waiting", "Calls and attempts that wait.")?,
             open: make.gauge("open_transactions", "Transactions that are open.")?,
+            prepared: make.gauge("prepared_transactions", "Those of them that are prepared.")?,
             oldest_open_seconds: make.gauge("oldest_open_seconds", "Age of the oldest open transaction.")?,
             epoch_events: make.gauge("epoch_events", "Events of the present epoch.")?,
             epochs: make.counter("epochs_total", "Epochs that ended since the start.")?,

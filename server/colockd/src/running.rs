@@ -122,14 +122,14 @@ fn read_tokens_again(app: &App) {
 
 /// Nothing begins any more; what is open may end for so long, unless the end is asked for again.
 async fn end(app: &App, stage: &watch::Sender<Stage>, signals: &mut Signals, drain: Duration) {
-    tracing::info!(open = app.store.observer.open.len(), "ending");
+    tracing::info!(open = app.store.observer.open.unprepared().len(), "ending");
     // as of the readiness
     let _ = sd_notify::notify(false, &[sd_notify::NotifyState::Stopping]);
     app.drain();
     stage.send_replace(Stage::Draining);
     let last = Instant::now() + drain;
     let is_empty = async {
-        while !app.store.observer.open.is_empty() && Instant::now() < last {
+        while !app.store.observer.open.unprepared().is_empty() && Instant::now() < last {
             sleep(BETWEEN_LOOKS).await;
         }
     };
@@ -137,7 +137,7 @@ async fn end(app: &App, stage: &watch::Sender<Stage>, signals: &mut Signals, dra
         () = is_empty => {}
         () = signals.end() => tracing::info!("ending at once"),
     }
-    for open in app.store.observer.open.all() {
+    for open in app.store.observer.open.unprepared() {
         // it is gone either way
         let _ = app.store.abort(open.name, Cause::Drained).await;
     }

@@ -181,7 +181,7 @@ fn hand_on<A: 'static>(line: &str, air: &Mutex<Air<A>>, listener: &Arc<dyn Liste
     };
     let Some(whole) = whole else { return Ok(()) };
     let answer = Answer::read(whole.line).ok_or_else(|| format!("no answer of a store: {}", whole.line.escape_debug()))?;
-    listener.answered(&whole.asker.about, answer, whole.asker.written.elapsed());
+    listener.answered(&whole.asker.about, answer, &whole.listed, whole.asker.written.elapsed());
     // who doesn't wait any more needs no answer
     let _ = whole.asker.to.send(Ok(Told { listed: whole.listed, line: whole.line.to_string() }));
     Ok(())

@@ -36,8 +36,8 @@ const LONG_LIFE: Duration = Duration::from_secs(10);
 
 /// Who is told each answer in the order in which the store gave them.
 pub trait Listener<A>: Send + Sync + 'static {
-    /// A question was answered, this long after it was written.
-    fn answered(&self, about: &A, answer: Answer<'_>, since: Duration);
+    /// A question was answered, this long after it was written; `listed` has the lines before the last one.
+    fn answered(&self, about: &A, answer: Answer<'_>, listed: &str, since: Duration);
     /// So many questions were written at once.
     fn wrote(&self, count: usize);
     /// A child has begun.
@@ -291,7 +291,7 @@ mod tests {
     struct Seen(Mutex<Vec<String>>);
 
     impl Listener<u8> for Seen {
-        fn answered(&self, about: &u8, answer: Answer<'_>, _: Duration) {
+        fn answered(&self, about: &u8, answer: Answer<'_>, _: &str, _: Duration) {
             locked(&self.0).push(format!("{about} {answer:?}"));
         }
 

@@ -18,6 +18,11 @@ impl<A> Question<A> {
     pub fn about(words: impl Into<String>, about: A) -> Question<A> {
         Question { words: words.into(), form: Form::One, about }
     }
+
+    /// A line with an answer of many.
+    pub fn list_about(words: impl Into<String>, about: A) -> Question<A> {
+        Question { words: words.into(), form: Form::List, about }
+    }
 }
 
 impl<A: Default> Question<A> {
@@ -28,7 +33,7 @@ impl<A: Default> Question<A> {
 
     /// A line with an answer of many.
     pub fn list(words: impl Into<String>) -> Question<A> {
-        Question { words: words.into(), form: Form::List, about: A::default() }
+        Question::list_about(words, A::default())
     }
 
     /// A line whose answer may come late.

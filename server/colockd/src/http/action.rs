@@ -55,6 +55,14 @@ pub enum Action {
     Commit(TransactionName),
     /// To abort.
     Abort(TransactionName),
+    /// To prepare.
+    Prepare(TransactionName),
+    /// What became of the transaction of a key.
+    GetDecision(String),
+    /// To decide it.
+    Decide(String),
+    /// What is prepared.
+    ListPrepared,
     /// Committed states at one moment.
     Snapshot,
     /// What happened.
@@ -88,6 +96,10 @@ impl Action {
             Action::Rollback(_) => "rollback",
             Action::Commit(_) => "commit",
             Action::Abort(_) => "abort",
+            Action::Prepare(_) => "prepare",
+            Action::GetDecision(_) => "get_decision",
+            Action::Decide(_) => "decide",
+            Action::ListPrepared => "list_prepared",
             Action::Snapshot => "snapshot",
             Action::Events => "events",
             Action::Status => "status",
@@ -98,9 +110,9 @@ impl Action {
     pub fn right(&self) -> Option<Right> {
         match self {
             Action::Page | Action::Script | Action::Style | Action::Healthz | Action::Readyz | Action::OpenApi | Action::Explain(_) => None,
-            Action::Attempt | Action::Begin | Action::Call(_) | Action::Rollback(_) | Action::Commit(_) => Some(Right::Write),
+            Action::Attempt | Action::Begin | Action::Call(_) | Action::Rollback(_) | Action::Commit(_) | Action::Prepare(_) => Some(Right::Write),
             // whoever may end those of others may have no right to write
-            Action::Abort(_) => None,
+            Action::Abort(_) | Action::Decide(_) => None,
             Action::PutType(_) | Action::AddObjects | Action::PutObject(_) => Some(Right::Types),
             _ => Some(Right::Read),
         }
@@ -108,7 +120,7 @@ impl Action {
 
     /// Whether it needs a token, with whatever right.
     pub fn is_guarded(&self) -> bool {
-        self.right().is_some() || matches!(self, Action::Abort(_))
+        self.right().is_some() || matches!(self, Action::Abort(_) | Action::Decide(_))
     }
 
     /// What a method asks of a path.
@@ -153,6 +165,7 @@ impl Route {
             "/v1/objects" => vec![(GET, Action::ListObjects), (POST, Action::AddObjects)],
             "/v1/attempts" => vec![(POST, Action::Attempt)],
             "/v1/transactions" => vec![(GET, Action::ListTransactions), (POST, Action::Begin)],
+            "/v1/prepared" => vec![(GET, Action::ListPrepared)],
             "/v1/snapshot" => vec![(GET, Action::Snapshot)],
             "/v1/events" => vec![(GET, Action::Events)],
             "/v1/status" => vec![(GET, Action::Status)],
@@ -173,6 +186,10 @@ impl Route {
         if let Some(name) = path.strip_prefix("/problems/") {
             return Some(vec![(GET, Action::Explain(decoded(name)?))]);
         }
+        if let Some(key) = path.strip_prefix("/v1/decisions/") {
+            let key = decoded(key)?;
+            return Some(vec![(GET, Action::GetDecision(key.clone())), (PUT, Action::Decide(key))]);
+        }
         let rest = path.strip_prefix("/v1/transactions/")?;
         let (name, what) = rest.split_once('/').unwrap_or((rest, ""));
         let name: TransactionName = name.parse().ok()?;
@@ -182,6 +199,7 @@ impl Route {
             "rollback" => (POST, Action::Rollback(name)),
             "commit" => (POST, Action::Commit(name)),
             "abort" => (POST, Action::Abort(name)),
+            "prepare" => (POST, Action::Prepare(name)),
             _ => return None,
         }])
     }
@@ -211,6 +229,8 @@ mod tests {
             (Method::PUT, "/v1/objects/stalls/B%2F1", Action::PutObject("stalls/B/1".to_string())),
             (Method::POST, "/v1/transactions/4.0/calls", Action::Call(name)),
             (Method::GET, "/v1/transactions/4.0", Action::GetTransaction(name)),
+            (Method::POST, "/v1/transactions/4.0/prepare", Action::Prepare(name)),
+            (Method::PUT, "/v1/decisions/order%3A4711", Action::Decide("order:4711".to_string())),
         ] {
             assert_eq!(Action::of(&method, path), Ok(action));
         }

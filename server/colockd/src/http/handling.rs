@@ -4,7 +4,7 @@ use crate::http::action::Action;
 use crate::http::app::App;
 use crate::http::body::Bytes;
 use crate::http::origin::is_own;
-use crate::http::{attempts, body, events, objects, page, replies, status, transactions, types};
+use crate::http::{attempts, body, decisions, events, objects, page, replies, status, transactions, types};
 use crate::limits::LONGEST_PATH;
 use crate::problem::{Problem, ProblemKind};
 use crate::tokens::Caller;
@@ -134,6 +134,10 @@ async fn rarely(app: &Arc<App>, asked: Asked) -> Result<Response<Body>, Problem>
         Action::GetTransaction(name) => transactions::get(app, &asked, name),
         Action::Rollback(name) => transactions::rollback(app, asked, name).await,
         Action::Abort(name) => transactions::abort(app, &asked, name).await,
+        Action::Prepare(name) => decisions::prepare(app, asked, name).await,
+        Action::Decide(key) => decisions::decide(app, asked, &key).await,
+        Action::GetDecision(key) => decisions::get(app, &key).await,
+        Action::ListPrepared => decisions::list(app).await,
         Action::Events => events::follow(app, &asked).await,
         Action::Attempt | Action::Begin | Action::Call(_) | Action::Commit(_) => Err(ProblemKind::Internal.into()),
     }

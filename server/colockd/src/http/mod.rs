@@ -5,6 +5,7 @@ pub mod app;
 pub mod attempts;
 pub mod body;
 pub mod connections;
+pub mod decisions;
 pub mod events;
 pub mod handling;
 pub mod objects;

@@ -50,6 +50,7 @@ pub async fn metrics(app: &App) -> Result<Response<Body>, Problem> {
     let (metrics, observer) = (&app.metrics, &app.store.observer);
     let open = observer.open.all();
     metrics.open.set(clipped(open.len() as u64));
+    metrics.prepared.set(clipped(observer.open.holds().len() as u64));
     metrics.oldest_open_seconds.set(open.first().map_or(0, |open| clipped(open.begun.elapsed().as_secs())));
     let counts = observer.waits.counts();
     metrics.waiting.set(clipped(counts.waiting as u64));

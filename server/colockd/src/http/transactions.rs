@@ -10,6 +10,7 @@ use crate::names::TransactionName;
 use crate::problem::{Problem, ProblemKind};
 use crate::store::about::{Beginning, Cause};
 use crate::store::calls::{resolved, CallAsked};
+use crate::store::decisions::second_now;
 use crate::store::open::{Ended, Known, OpenTransaction, Standing};
 use crate::store::Store;
 use crate::tokens::{Caller, Right};
@@ -75,7 +76,12 @@ fn known(app: &App, caller: &Caller, name: TransactionName) -> Result<Known, Pro
     Err(Problem::new(ProblemKind::NoRight, format!("transaction {name} is another token's")).with("right", Right::Admin.word()))
 }
 
-fn open(app: &App, caller: &Caller, name: TransactionName) -> Result<Arc<OpenTransaction>, Problem> {
+/// An open transaction of a caller.
+///
+/// # Errors
+///
+/// A [`Problem`] where there is none, or it has ended.
+pub fn open(app: &App, caller: &Caller, name: TransactionName) -> Result<Arc<OpenTransaction>, Problem> {
     match known(app, caller, name)? {
         Known::Open(open) => Ok(open),
         Known::Ended(_) => Err(app.store.ended(name)),
@@ -192,10 +198,14 @@ pub fn shown(store: &Store, open: &OpenTransaction) -> Value {
         value!({"object": entry.map_or_else(|| format!("#{}", held.object.0), |entry| entry.label()), "call": call, "reply": held.reply})
     });
     let waits_for = store.observer.waits.edge(Number(open.name.packed())).map(|edge| TransactionName::unpacked(edge.to.0).to_string());
+    let hold = open.hold();
     value!({
         "id": open.name.to_string(),
-        "state": "open",
-        "owner": &*open.owner,
+        "state": if hold.is_some() { "prepared" } else { "open" },
+        "key": hold.as_ref().map(|hold| &*hold.key),
+        "until": hold.as_ref().map(|hold| hold.until),
+        "left": hold.as_ref().map(|hold| hold.until.saturating_sub(second_now())),
+        "owner": Some(&*open.owner).filter(|owner| !owner.is_empty()),
         "age": open.begun.elapsed().as_secs_f64(),
         "idle": open.idle.as_secs_f64(),
         "idle_for": open.idle_for().as_secs_f64(),

@@ -32,6 +32,10 @@ pub enum Cause {
     Lost,
     /// The server ends.
     Drained,
+    /// It was prepared, and nobody decided it in time.
+    Undecided,
+    /// Whoever has its key decided so.
+    Decided,
 }
 
 impl Cause {
@@ -45,6 +49,8 @@ impl Cause {
             Cause::Epoch => "epoch",
             Cause::Lost => "lost",
             Cause::Drained => "drained",
+            Cause::Undecided => "undecided",
+            Cause::Decided => "decided",
         }
     }
 }
@@ -56,6 +62,15 @@ pub struct Beginning {
     pub owner: Arc<str>,
     /// How long.
     pub idle: Duration,
+}
+
+/// What holds a transaction that is prepared.
+#[derive(Clone, Debug, PartialEq, Eq)]
+pub struct Hold {
+    /// The key under which it is decided.
+    pub key: Arc<str>,
+    /// The second since 1970 at which the server aborts it.
+    pub until: u32,
 }
 
 /// The calls of a whole transaction.
@@ -96,4 +111,12 @@ pub enum About {
     End(TransactionName, Ending),
     /// A transaction takes back so many operations.
     Rollback(TransactionName, u32),
+    /// A transaction is prepared.
+    Prepare(TransactionName, Hold),
+    /// The transaction of a key is decided.
+    Decide(Arc<str>, Ending),
+    /// What became of the transaction of a key.
+    Outcome(Arc<str>),
+    /// All that are prepared.
+    Prepared,
 }

@@ -5,6 +5,7 @@ pub mod archive;
 pub mod attempts;
 pub mod bell;
 pub mod calls;
+pub mod decisions;
 pub mod extending;
 pub mod feed;
 pub mod loading;
@@ -78,10 +79,15 @@ impl Store {
 
     /// Aborts transactions of which nothing was asked for too long, and looks whether an epoch has ended, for ever.
     pub async fn sweep(self: Arc<Store>) {
-        let mut seen = 0;
+        let (mut seen, mut learnt) = (0, 0);
         for look in 0_u32.. {
             sleep(BETWEEN_LOOKS).await;
-            let open = self.observer.open.all();
+            let starts = self.observer.metrics.starts.get();
+            if starts != learnt && self.learn_prepared().await.is_ok() {
+                learnt = starts;
+            }
+            self.abort_undecided().await;
+            let open = self.observer.open.unprepared();
             for transaction in open.iter().filter(|open| open.idle_for() >= open.idle) {
                 tracing::info!(transaction = %transaction.name, owner = &*transaction.owner, "nothing was asked of it for too long");
                 // it is gone either way

@@ -4,8 +4,8 @@ use crate::engine::answer::{Answer, Refusal};
 use crate::engine::child::Greeting;
 use crate::engine::Listener;
 use crate::metrics::Metrics;
-use crate::names::TransactionName;
-use crate::store::about::{About, AttemptCalls, Cause, Ending};
+use crate::names::{number_of, TransactionName};
+use crate::store::about::{About, AttemptCalls, Cause, Ending, Hold};
 use crate::store::bell::Bell;
 use crate::store::open::{Held, OpenTransactions, Standing};
 use crate::store::waits::Waits;
@@ -105,6 +105,39 @@ impl Observer {
         }
     }
 
+    fn prepared(&self, name: TransactionName, hold: &Hold, answer: Answer<'_>) {
+        match answer {
+            Answer::Ok(_) => self.open.prepares(name, hold),
+            Answer::Refused(Refusal::NotOpen) => self.ended(name, Standing::Aborted(Cause::Epoch)),
+            _ => {}
+        }
+    }
+
+    fn decided(&self, key: &str, ending: Ending, answer: Answer<'_>) {
+        let Some(name) = self.open.under(key) else { return };
+        match (ending, answer) {
+            (Ending::Commit, Answer::Ok(_)) | (Ending::Abort(_), Answer::Refused(Refusal::Decided)) => self.ended(name, Standing::Committed),
+            (Ending::Abort(cause), Answer::Ok(_)) => self.ended(name, Standing::Aborted(cause)),
+            (Ending::Commit, Answer::Refused(Refusal::Decided)) => self.ended(name, Standing::Aborted(Cause::Decided)),
+            _ => {}
+        }
+    }
+
+    fn told_outcome(&self, key: &str, answer: Answer<'_>) {
+        let Some(name) = self.open.under(key) else { return };
+        match answer {
+            Answer::Committed(_) => self.ended(name, Standing::Committed),
+            Answer::Aborted | Answer::Unknown => self.ended(name, Standing::Aborted(Cause::Decided)),
+            _ => {}
+        }
+    }
+
+    fn listed_prepared(&self, listed: &str) {
+        for (name, hold) in holds_in(listed) {
+            self.open.is_prepared(name, &hold, || self.waits.next_age());
+        }
+    }
+
     fn end_answered(&self, name: TransactionName, ending: Ending, answer: Answer<'_>) {
         match (ending, answer) {
             (Ending::Commit, Answer::Ok(_)) => self.ended(name, Standing::Committed),
@@ -116,8 +149,8 @@ impl Observer {
 }
 
 impl Listener<About> for Observer {
-    fn answered(&self, about: &About, answer: Answer<'_>, since: Duration) {
-        if !matches!(about, About::Nothing | About::Would(_)) {
+    fn answered(&self, about: &About, answer: Answer<'_>, listed: &str, since: Duration) {
+        if !matches!(about, About::Nothing | About::Would(_) | About::Outcome(_) | About::Prepared) {
             self.happened.fetch_add(1, Ordering::Relaxed);
         }
         match about {
@@ -143,8 +176,12 @@ impl Listener<About> for Observer {
                     self.waits.took_back(Number(name.packed()), touched);
                 }
             }
+            About::Prepare(name, hold) => self.prepared(*name, hold, answer),
+            About::Decide(key, ending) => self.decided(key, *ending, answer),
+            About::Outcome(key) => self.told_outcome(key, answer),
+            About::Prepared => self.listed_prepared(listed),
         }
-        if matches!(about, About::Attempt(_) | About::End(_, Ending::Commit)) {
+        if matches!(about, About::Attempt(_) | About::End(_, Ending::Commit) | About::Decide(_, Ending::Commit)) {
             self.metrics.answered_commit(since);
         }
     }
@@ -166,6 +203,15 @@ impl Listener<About> for Observer {
     }
 }
 
+/// What the lines `KEY S.N UNTIL` say.
+pub fn holds_in(listed: &str) -> impl Iterator<Item = (TransactionName, Hold)> + '_ {
+    listed.lines().filter_map(|line| {
+        let mut words = line.split(' ');
+        let (key, name, until) = (words.next()?, words.next()?.parse().ok()?, number_of(words.next()?)?);
+        Some((name, Hold { key: Arc::from(key), until }))
+    })
+}
+
 #[cfg(test)]
 mod tests {
     use super::{Observer, OpenTransactions, Waits};
@@ -174,7 +220,7 @@ mod tests {
     use crate::engine::Listener;
     use crate::metrics::Metrics;
     use crate::names::TransactionName;
-    use crate::store::about::{About, AttemptCalls, AttemptPlace, Beginning, Cause, Ending};
+    use crate::store::about::{About, AttemptCalls, AttemptPlace, Beginning, Cause, Ending, Hold};
     use crate::store::bell::{Bell, Woken};
     use crate::store::objects::SharedObjects;
     use crate::store::open::{Known, Standing};
@@ -194,7 +240,7 @@ mod tests {
     }
 
     fn tell(observer: &Observer, about: &About, line: &str) {
-        observer.answered(about, Answer::read(line).unwrap(), Duration::ZERO);
+        observer.answered(about, Answer::read(line).unwrap(), "", Duration::ZERO);
     }
 
     fn begin() -> About {
@@ -228,6 +274,31 @@ mod tests {
         assert_eq!((observer.open.len(), observer.life(), standing(&observer.open, NAME)), (1, 4, Some(Standing::Aborted(Cause::Epoch))));
         observer.lost();
         assert!(observer.open.is_empty());
+    }
+
+    #[test]
+    fn one_that_is_prepared_is_open_until_it_is_decided() {
+        let observer = observer();
+        let (key, hold): (Arc<str>, _) = (Arc::from("k"), Hold { key: Arc::from("k"), until: 7 });
+        tell(&observer, &begin(), "ok 3.0");
+        tell(&observer, &About::Prepare(NAME, hold.clone()), "ok");
+        tell(&observer, &begin(), "ok 4.0");
+        observer.lost();
+        assert_eq!((observer.open.len(), observer.open.under("k")), (1, Some(NAME)));
+        tell(&observer, &About::Decide(Arc::clone(&key), Ending::Commit), "refused KeyTaken");
+        tell(&observer, &About::Outcome(Arc::clone(&key)), "prepared");
+        assert_eq!(observer.open.holds(), [hold]);
+        tell(&observer, &About::Decide(key, Ending::Abort(Cause::Undecided)), "refused Decided");
+        assert_eq!((observer.open.len(), standing(&observer.open, NAME)), (0, Some(Standing::Committed)));
+    }
+
+    #[test]
+    fn what_the_store_lists_as_prepared_is_open() {
+        let observer = observer();
+        observer.answered(&About::Prepared, Answer::Ok(""), "k 2.5 17\nrefused 3.0 4294967295\n", Duration::ZERO);
+        assert_eq!((observer.open.under("k"), observer.open.under("refused")), (Some(TransactionName { life: 2, number: 5 }), Some(NAME)));
+        tell(&observer, &About::Outcome(Arc::from("k")), "committed");
+        assert_eq!(observer.open.len(), 1);
     }
 
     #[test]

@@ -2,8 +2,8 @@
 
 use crate::locks::locked;
 use crate::names::TransactionName;
-use crate::store::about::{Beginning, Cause};
-use colock_waiting::{Age, ObjectIndex, Touched};
+use crate::store::about::{Beginning, Cause, Hold};
+use colock_waiting::{Age, ObjectIndex, Touched, PLACES};
 use std::collections::{HashMap, VecDeque};
 use std::sync::{Arc, Mutex};
 use std::time::{Duration, Instant};
@@ -41,6 +41,13 @@ struct State {
     calls: u64,
     touched: Touched,
     held: VecDeque<Held>,
+    hold: Option<Hold>,
+}
+
+impl State {
+    fn of(touched: Touched, hold: Option<Hold>) -> State {
+        State { asked: Instant::now(), in_use: 0, calls: 0, touched, held: VecDeque::new(), hold }
+    }
 }
 
 /// A transaction that is open.
@@ -85,6 +92,15 @@ impl OpenTransaction {
         }
     }
 
+    /// What holds it, where it is prepared.
+    pub fn hold(&self) -> Option<Hold> {
+        locked(&self.state).hold.clone()
+    }
+
+    fn is_prepared(&self) -> bool {
+        locked(&self.state).hold.is_some()
+    }
+
     fn touched(&self) -> Touched {
         locked(&self.state).touched
     }
@@ -123,6 +139,7 @@ pub enum Known {
 #[derive(Debug, Default)]
 struct Table {
     open: HashMap<TransactionName, Arc<OpenTransaction>>,
+    keys: HashMap<Arc<str>, TransactionName>,
     ended: HashMap<TransactionName, Ended>,
     order: VecDeque<TransactionName>,
 }
@@ -130,6 +147,9 @@ struct Table {
 impl Table {
     fn end(&mut self, name: TransactionName, standing: Standing) -> Option<Arc<OpenTransaction>> {
         let open = self.open.remove(&name)?;
+        if let Some(hold) = open.hold() {
+            self.keys.remove(&hold.key);
+        }
         self.ended.insert(name, Ended { owner: Arc::clone(&open.owner), standing });
         self.order.push_back(name);
         if self.order.len() > MOST_ENDED {
@@ -148,11 +168,39 @@ pub struct OpenTransactions(Mutex<Table>);
 impl OpenTransactions {
     /// One has begun.
     pub fn begins(&self, name: TransactionName, beginning: &Beginning, age: Age) {
-        let now = Instant::now();
-        let state = Mutex::new(State { asked: now, in_use: 0, calls: 0, touched: Touched::default(), held: VecDeque::new() });
-        let (owner, idle) = (Arc::clone(&beginning.owner), beginning.idle);
-        let open = OpenTransaction { name, owner, age, begun: now, idle, turn: tokio::sync::Mutex::new(()), state };
+        let open = open_now(name, beginning, age, State::of(Touched::default(), None));
         locked(&self.0).open.insert(name, Arc::new(open));
+    }
+
+    /// One is prepared from now on. What held it before holds it still.
+    pub fn prepares(&self, name: TransactionName, hold: &Hold) {
+        let mut table = locked(&self.0);
+        let Some(open) = table.open.get(&name) else { return };
+        let key = Arc::clone(&locked(&open.state).hold.get_or_insert_with(|| hold.clone()).key);
+        table.keys.insert(key, name);
+    }
+
+    /// The store says that one is prepared. Of one that isn't known it isn't known either what it did, nor where.
+    pub fn is_prepared(&self, name: TransactionName, hold: &Hold, age: impl FnOnce() -> Age) {
+        let mut table = locked(&self.0);
+        if !table.open.contains_key(&name) {
+            let owner = table.ended.remove(&name).map_or_else(|| Arc::from(""), |ended| ended.owner);
+            let everywhere = (0..PLACES).map(ObjectIndex).collect();
+            let open = open_now(name, &Beginning { owner, idle: Duration::ZERO }, age(), State::of(everywhere, None));
+            table.open.insert(name, Arc::new(open));
+        }
+        drop(table);
+        self.prepares(name, hold);
+    }
+
+    /// The one that is prepared under a key.
+    pub fn under(&self, key: &str) -> Option<TransactionName> {
+        locked(&self.0).keys.get(key).copied()
+    }
+
+    /// What holds those that are prepared.
+    pub fn holds(&self) -> Vec<Hold> {
+        locked(&self.0).open.values().filter_map(|open| open.hold()).collect()
     }
 
     /// One has done an operation.
@@ -182,10 +230,10 @@ impl OpenTransactions {
         locked(&self.0).end(name, standing).map(|open| open.touched())
     }
 
-    /// All of earlier lives have ended; how many those were.
+    /// All of earlier lives have ended that weren't prepared; how many those were.
     pub fn end_older(&self, life: u32, cause: Cause) -> usize {
         let mut table = locked(&self.0);
-        let older: Vec<_> = table.open.keys().copied().filter(|name| name.life < life).collect();
+        let older: Vec<_> = table.open.values().filter(|open| open.name.life < life && !open.is_prepared()).map(|open| open.name).collect();
         older.iter().filter_map(|name| table.end(*name, Standing::Aborted(cause))).count()
     }
 
@@ -201,6 +249,11 @@ impl OpenTransactions {
         let mut all: Vec<_> = locked(&self.0).open.values().cloned().collect();
         all.sort_by_key(|open| open.age);
         all
+    }
+
+    /// Those that aren't prepared, the oldest first.
+    pub fn unprepared(&self) -> Vec<Arc<OpenTransaction>> {
+        self.all().into_iter().filter(|open| !open.is_prepared()).collect()
     }
 
     /// How many are open.
@@ -219,9 +272,14 @@ impl OpenTransactions {
     }
 }
 
+fn open_now(name: TransactionName, beginning: &Beginning, age: Age, state: State) -> OpenTransaction {
+    let (owner, idle) = (Arc::clone(&beginning.owner), beginning.idle);
+    OpenTransaction { name, owner, age, begun: state.asked, idle, turn: tokio::sync::Mutex::new(()), state: Mutex::new(state) }
+}
+
 #[cfg(test)]
 mod tests {
-    use super::{Cause, Held, Known, OpenTransactions, Standing, MOST_ENDED, MOST_HELD};
+    use super::{Cause, Held, Hold, Known, OpenTransactions, Standing, MOST_ENDED, MOST_HELD};
     use crate::names::TransactionName;
     use crate::store::about::Beginning;
     use colock_waiting::{Age, ObjectIndex, Touched};
@@ -260,6 +318,24 @@ mod tests {
         let all = OpenTransactions::default();
         [name(1, 0), name(1, 1), name(2, 0)].into_iter().for_each(|name| begin(&all, name));
         assert_eq!((all.count_of("shop"), all.end_older(2, Cause::Epoch), all.len()), (3, 2, 1));
+    }
+
+    #[test]
+    fn one_that_is_prepared_outlives_its_life() {
+        let all = OpenTransactions::default();
+        let hold = |key: &str, until| Hold { key: Arc::from(key), until };
+        begin(&all, name(1, 0));
+        begin(&all, name(1, 1));
+        all.prepares(name(1, 0), &hold("k", 7));
+        all.prepares(name(1, 0), &hold("k", 9));
+        assert_eq!((all.under("k"), all.unprepared().len(), all.end_older(2, Cause::Lost)), (Some(name(1, 0)), 1, 1));
+        all.is_prepared(name(1, 1), &hold("l", 8), || Age(9));
+        assert!(matches!(all.known(name(1, 1)), Some(Known::Open(open)) if &*open.owner == "shop" && open.hold() == Some(hold("l", 8))));
+        all.is_prepared(name(1, 2), &hold("m", 9), || Age(10));
+        assert_eq!((all.len(), all.under("m")), (3, Some(name(1, 2))));
+        assert!(all.ends(name(1, 2), Standing::Committed).is_some_and(|touched| touched.has(ObjectIndex(77))));
+        assert!(all.holds().contains(&hold("k", 7)));
+        assert_eq!((all.ends(name(1, 0), Standing::Committed), all.under("k"), all.holds()), (Some(Touched::default()), None, vec![hold("l", 8)]));
     }
 
     #[test]

@@ -76,6 +76,7 @@ impl Store {
         let archive = Archive::read(folder.path(), choices.histories).map_err(|error| format!("the archive can't be read: {error}"))?;
         let store = Store { engine, objects, types, observer, archive, drain, past: Past::default(), additions };
         store.make_ready().await?;
+        store.learn_prepared().await.map_err(|problem| format!("what is prepared can't be read: {}", problem.kind.title()))?;
         let store = Arc::new(store);
         tokio::spawn(Arc::clone(&store).sweep());
         Ok(store)

@@ -2,13 +2,14 @@
 
 use crate::engine::answer::{Answer, Refusal};
 use crate::engine::question::Question;
-use crate::engine::{Lost, Told, LONGEST_AWAY};
+use crate::engine::{Lost, LONGEST_AWAY};
 use crate::names::TransactionName;
 use crate::problem::{Problem, ProblemKind};
 use crate::store::about::{About, Beginning, Cause, Ending};
 use crate::store::attempts::{refused, unexpected};
 use crate::store::bell::{Bell, Woken};
 use crate::store::calls::Call;
+use crate::store::decisions::KeyOutcome;
 use crate::store::open::{Known, OpenTransaction, Standing};
 use crate::store::waits::Stay;
 use crate::store::Store;
@@ -108,6 +109,7 @@ impl Store {
             Some(Answer::Busy(blocker)) => self.woken(asking, || asking.busy(blocker)).await.map(|()| None),
             Some(Answer::Illegal) => Err(asking.problem(ProblemKind::Illegal, "no operation of it is legal now")),
             Some(Answer::Refused(Refusal::NotOpen)) => Err(self.ended(asking.open.name)),
+            Some(Answer::Refused(Refusal::Prepared)) => Err(self.prepared_problem(asking.open.name)),
             Some(Answer::Refused(refusal)) => Err(asking.problem(refused(refusal), "the store refuses it")),
             _ => Err(unexpected(&told)),
         }
@@ -140,6 +142,7 @@ impl Store {
         match told.answer() {
             Some(Answer::Ok(_)) => Ok(()),
             Some(Answer::Refused(Refusal::NotOpen)) => Err(self.ended(name)),
+            Some(Answer::Refused(Refusal::Prepared)) => Err(self.prepared_problem(name)),
             Some(Answer::Refused(refusal)) => Err(Problem::new(refused(refusal), format!("{count} can't be rolled back: {refusal}"))),
             _ => Err(unexpected(&told)),
         }
@@ -157,6 +160,7 @@ impl Store {
             (Err(_), _) => Ok(()), // it is gone with the store
             (Ok(told), _) => match told.answer() {
                 Some(Answer::Ok(_) | Answer::Refused(Refusal::NotOpen)) => Ok(()),
+                Some(Answer::Refused(Refusal::Prepared)) => Err(self.prepared_problem(name)),
                 _ => Err(unexpected(&told)),
             },
         }
@@ -181,6 +185,7 @@ impl Store {
                 Some(Known::Ended(ended)) if ended.standing == Standing::Committed => Ok(()),
                 _ => Err(self.ended(name)),
             },
+            Some(Answer::Refused(Refusal::Prepared)) => Err(self.prepared_problem(name)),
             Some(Answer::Refused(refusal)) => Err(Problem::new(refused(refusal), format!("the store refuses the commit: {refusal}"))),
             _ => Err(unexpected(&told)),
         }
@@ -190,23 +195,13 @@ impl Store {
     async fn commit_in_flight(&self, name: TransactionName, key: Option<&str>) -> Result<(), Problem> {
         let greeting = self.engine.up(LONGEST_AWAY * 2).await.map_err(|_| ProblemKind::OutcomeUnknown)?;
         let committed = match key {
-            Some(key) => self.outcome(key).await,
+            Some(key) => self.outcome(key).await.ok().map(|outcome| matches!(outcome, Some(KeyOutcome::Committed(_)))),
             None => self.past.committed(&self.engine, greeting, name).await,
         };
         match committed {
             Some(true) => Ok(()),
             Some(false) => Err(self.ended(name)),
             None => Err(ProblemKind::OutcomeUnknown.into()),
-        }
-    }
-
-    /// Whether the transaction of a key committed; nothing where that isn't known.
-    async fn outcome(&self, key: &str) -> Option<bool> {
-        let told: Told = self.engine.ask(Question::of(format!("outcome {key}"))).await.ok()?;
-        match told.answer()? {
-            Answer::Committed(_) => Some(true),
-            Answer::Aborted | Answer::Prepared | Answer::Unknown => Some(false),
-            _ => None,
         }
     }
 
