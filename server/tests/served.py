@@ -19,7 +19,7 @@ HERE = os.path.dirname(os.path.abspath(__file__))
 EXAMPLES = os.path.join(HERE, "..", "..", "examples")
 FAKE = os.path.join(HERE, "fake_colock")
 PROGRAM = os.environ.get("COLOCK") or FAKE
-TARGET = os.environ.get("CARGO_TARGET_DIR") or os.path.join(HERE, "..", "target")
+TARGET = os.environ.get("CARGO_TARGET_DIR") or os.path.join(HERE, "..", "..", "target")
 SERVER = os.environ.get("COLOCKD") or os.path.join(TARGET, "debug", "colockd")
 IS_FAKE = PROGRAM == FAKE
 of_fake = unittest.skipUnless(IS_FAKE, "only the fake does this")
