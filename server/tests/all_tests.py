@@ -12,13 +12,14 @@ import time
 
 MODULES = ["test_failures", "test_page", "test_http", "test_decisions", "test_transactions", "test_routes", "test_tokens", "test_pages"]
 ALONE = ["test_crowd"]
+HERE = os.path.dirname(os.path.abspath(__file__))
 JOBS = int(os.environ.get("JOBS", "4"))
 
 
 def run(module):
     """Whether all tests of a module passed."""
     start = time.monotonic()
-    told = subprocess.run([sys.executable, "-m", "unittest", "-b", module], capture_output=True, text=True, check=False)
+    told = subprocess.run([sys.executable, "-m", "unittest", "-b", module], cwd=HERE, capture_output=True, text=True, check=False)
     words = "passed" if told.returncode == 0 else "FAILED"
     last = told.stderr.strip().splitlines()[-1:] or [""]
     print(f"{module}: {words}, {last[0]}, {time.monotonic() - start:.0f} s", flush=True)

@@ -190,7 +190,7 @@ class Restarts(unittest.TestCase):
 
     @of_fake
     def test_a_prepare_whose_answer_was_lost_is_asked_again(self):
-        for wrong, status in (({"lose_answers": 5}, 200), ({"die_after": 4}, 410)):
+        for wrong, status in (({"lose_at": "prepare"}, 200), ({"die_at": "prepare"}, 410)):
             self.restarted(**wrong)
             one = self.served.begin()
             one.call(("A", "free"))
@@ -200,7 +200,7 @@ class Restarts(unittest.TestCase):
     @of_fake
     def test_a_decision_whose_answer_was_lost_is_asked_again(self):
         one = self.prepared("A", "a", 600)
-        self.restarted(lose_answers=3)
+        self.restarted(lose_at="decide")
         self.assertEqual(decide(self.served, "a", "commit").status, 200)
         until(lambda: one.known()["state"] == "committed")
         self.assertEqual((self.keys(), self.free("A")), ({}, "2"))

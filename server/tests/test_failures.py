@@ -48,13 +48,13 @@ class Failures(unittest.TestCase):
 
     @of_fake
     def test_an_attempt_whose_answer_was_lost_is_known_by_its_key(self):
-        self.restarted(lose_answers=2)
+        self.restarted(lose_at="do")
         self.assertEqual(self.served.attempt(("up", "inc:1"), key="lost").json, {"replies": ["ok"]})
         self.assertEqual(self.served.state("up"), 1)
 
     @of_fake
     def test_without_a_key_nobody_knows_it(self):
-        self.restarted(lose_answers=2)
+        self.restarted(lose_at="do")
         answer = self.served.attempt(("up", "inc:1"))
         self.assertEqual((answer.status, answer.problem), (503, "outcome-unknown"))
         until(lambda: self.served.get("/readyz").status == 200)
@@ -62,7 +62,7 @@ class Failures(unittest.TestCase):
 
     @of_fake
     def test_a_commit_whose_answer_was_lost_is_known_by_the_events(self):
-        for wrong, status in (({"lose_answers": 4}, 200), ({"die_after": 3}, 410)):
+        for wrong, status in (({"lose_at": "commit"}, 200), ({"die_at": "commit"}, 410)):
             self.restarted(**wrong)
             one = self.served.begin()
             one.call(("A12", "free"))
@@ -70,7 +70,7 @@ class Failures(unittest.TestCase):
 
     @of_fake
     def test_a_commit_whose_answer_was_lost_is_known_by_its_key(self):
-        for wrong, key, status in (({"lose_answers": 4}, "k1", 200), ({"die_after": 3}, "k2", 410)):
+        for wrong, key, status in (({"lose_at": "commit"}, "k1", 200), ({"die_at": "commit"}, "k2", 410)):
             self.restarted(**wrong)
             one = self.served.begin()
             one.call(("A12", "free"))
@@ -78,7 +78,7 @@ class Failures(unittest.TestCase):
 
     @of_fake
     def test_a_store_that_answers_nonsense_is_ended(self):
-        self.restarted(nonsense_after=2)
+        self.restarted(nonsense_at="do")
         old = self.served.store()
         self.assertEqual(self.served.attempt(("up", "inc:1"), key="nonsense").status, 200)
         self.assertNotEqual(self.served.store(), old)
@@ -86,7 +86,7 @@ class Failures(unittest.TestCase):
 
     @of_fake
     def test_objects_whose_answer_was_lost_are_there(self):
-        self.restarted(die_after=2)
+        self.restarted(die_at="extend")
         self.assertIn(self.served.put("/v1/objects/B1", {"type": "ctr2", "recovery": "undo"}).status, (201, 503))
         self.assertIn(self.served.put("/v1/objects/B1", {"type": "ctr2", "recovery": "undo"}).status, (200, 201))
 

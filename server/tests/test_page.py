@@ -123,7 +123,7 @@ class Page(unittest.TestCase):
         self.assertEqual((rows[self.one.name][4], rows[self.one.name][5]), ("hall/A hold:1 ok", "–"))
         self.assertEqual((rows[self.other.name][4], rows[self.other.name][5]), ("hall/B hold:2 ok", self.one.name))
         hot = until(lambda: [row for row in self.rows("#hot-rows tr") if row[0] == "hall/A"])
-        self.assertEqual(hot[0][2], self.one.name)
+        self.assertEqual(hot[0][2:], [self.one.name, f"{self.other.name} for {self.one.name}"])
         until(lambda: int(self.browser.text("#total")) >= 1)
         self.assertRegex(self.browser.text("#p50"), r"ms$")
         self.assertTrue(until(lambda: self.browser.run("return document.getElementById('bars').getAttribute('d')")))

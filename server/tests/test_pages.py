@@ -62,12 +62,24 @@ class Pages(unittest.TestCase):
         self.assertEqual(told - {("GET", "/page.js"), ("GET", "/page.css")}, wanted)
 
     def test_the_lines_of_curl_book_a_seat(self):
-        lines = [line.strip() for line in self.section("Begin").splitlines() if line.startswith("    curl")]
-        self.assertEqual(len(lines), 3)
-        for line in lines:
-            line = line.replace("localhost:7420", f"localhost:{self.served.port}").replace("curl ", "curl -sf ", 1)
-            told = subprocess.run(["sh", "-c", line], cwd=TOP, capture_output=True, text=True, check=True).stdout
-        self.assertEqual(json.loads(told), {"replies": ["ok", "ok"]})
+        with open(os.path.join(TOP, "README.md"), encoding="utf-8") as file:
+            readme = file.read()
+        for text in (readme, self.section("Begin")):
+            lines = [line.strip() for line in text.splitlines() if line.startswith("    curl")]
+            self.assertEqual(len(lines), 3)
+            for line in lines:
+                line = line.replace("localhost:7420", f"localhost:{self.served.port}").replace("curl ", "curl -sf ", 1)
+                told = subprocess.run(["sh", "-c", line], cwd=TOP, capture_output=True, text=True, check=True).stdout
+            self.assertEqual(json.loads(told), {"replies": ["ok", "ok"]})
+        self.assertEqual(self.served.get("/v1/snapshot?object=hall&call=free").json["objects"][0]["reply"], "2")
+
+    def test_the_line_that_starts_it_is_one_of_cargo(self):
+        for page in ("README.md", os.path.join("docs", "server.md")):
+            with open(os.path.join(TOP, page), encoding="utf-8") as file:
+                words = re.search(r"cargo run --release -p (\w+) -- (--data shop)$", file.read(), re.M)
+            self.assertEqual(words[1], "colockd", page)
+        told = subprocess.run(["cargo", "metadata", "--offline", "--no-deps", "--format-version", "1"], cwd=TOP, capture_output=True, check=True).stdout
+        self.assertEqual([target["name"] for each in json.loads(told)["packages"] for target in each["targets"] if target["kind"] == ["bin"]], ["colockd"])
 
     def test_the_bodies_of_the_page_are_read(self):
         bodies = re.findall(r"^    (\{\"(?:calls|type|objects|key|outcome)\".*\})$", self.page, re.M)

@@ -45,6 +45,18 @@ class Routes(unittest.TestCase):
             allowed = self.served.ask("PATCH", path).headers["allow"].lower().split(", ")
             self.assertEqual(sorted(allowed), sorted(key for key in methods if key in ("get", "put", "post")), path)
 
+    def test_each_limit_is_in_the_description(self):
+        described = self.served.get("/openapi.json").json
+        names = {"large-body": 413, "long-path": 414, "too-many-of-token": 429, "too-many-open": 503, "too-many-connections": 503,
+                 "too-many-requests": 503, "too-many-followers": 503, "slow-body": 408}
+        for name, status in names.items():
+            self.assertIn(f"(`{name}`, {status})", described["info"]["description"])
+            self.assertEqual(self.served.get(f"/problems/{name}").body.splitlines()[0].decode(), f"{name}, status {status}")
+        schemas = described["components"]["schemas"]
+        self.assertEqual((schemas["Calls"]["maxItems"], schemas["Call"]["properties"]["call"]["maxLength"]), (64, 32))
+        for name in ("S" * 64, "a/b.c:d_e-F"):
+            self.assertRegex(name, schemas["NewObject"]["properties"]["name"]["pattern"])
+
     def test_problems_are_explained(self):
         answer = self.served.get("/problems/busy")
         self.assertEqual((answer.status, answer.body.splitlines()[0]), (200, b"busy, status 409"))

@@ -36,6 +36,7 @@ class Tokens(unittest.TestCase):
             cls.text = file.read()
         cls.served.put("/v1/types/seats", cls.text, bearer("all"))
         cls.served.put("/v1/objects/A12", '{"type": "seats", "recovery": "undo"}', bearer("all"))
+        cls.served.put("/v1/decisions/known", '{"outcome": "abort"}', bearer("all"))
 
     @classmethod
     def tearDownClass(cls):
@@ -52,6 +53,7 @@ class Tokens(unittest.TestCase):
         routes = [("GET", "/v1/types", None, "read"), ("GET", "/v1/types/seats", None, "read"), ("GET", "/v1/objects", None, "read"),
                   ("GET", "/v1/objects/A12", None, "read"), ("GET", "/v1/snapshot?object=A12", None, "read"), ("GET", "/v1/status", None, "read"),
                   ("GET", "/v1/events?follow=false", None, "read"), ("GET", "/metrics", None, "read"), ("GET", "/v1/transactions", None, "read"),
+                  ("GET", "/v1/decisions/known", None, "read"), ("GET", "/v1/prepared", None, "read"),
                   ("PUT", "/v1/types/seats", self.text, "types"), ("PUT", "/v1/objects/A12", '{"type": "seats", "recovery": "undo"}', "types"),
                   ("POST", "/v1/objects", '{"objects": [{"name": "A12", "type": "seats", "recovery": "undo"}]}', "types"),
                   ("POST", "/v1/attempts", free, "write"), ("POST", "/v1/transactions", "", "write")]
@@ -81,6 +83,19 @@ class Tokens(unittest.TestCase):
         self.assertEqual(self.served.ask("POST", path + "/abort", "", {}).problem, "no-token")
         self.assertEqual(self.served.ask("POST", path + "/abort", "", bearer("chief")).status, 200)
         self.assertEqual(self.served.get(path, **bearer("writer")).json["cause"], "admin")
+
+    def test_whoever_may_write_or_is_in_charge_decides(self):
+        begun = self.served.ask("POST", "/v1/transactions", "", bearer("writer")).json["id"]
+        prepare = ("POST", f"/v1/transactions/{begun}/prepare", '{"key": "held", "for": 60}')
+        self.assertEqual(self.served.ask(*prepare, bearer("typist")).json["right"], "write")
+        self.assertEqual(self.served.ask(*prepare, bearer("reader")).problem, "no-right")
+        self.assertEqual(self.served.ask(*prepare, bearer("writer")).status, 200)
+        decide = ("PUT", "/v1/decisions/held", '{"outcome": "commit"}')
+        self.assertEqual(self.served.ask(*decide, {}).problem, "no-token")
+        for name in ("reader", "typist"):
+            self.assertEqual(self.served.ask(*decide, bearer(name)).json["right"], "write")
+        for name in ("chief", "writer", "all"):
+            self.assertEqual(self.served.ask(*decide, bearer(name)).status, 200)
 
     def test_a_token_that_is_revoked_is_none(self):
         self.assertEqual(self.served.get("/v1/types", **bearer("reader")).status, 200)

@@ -85,8 +85,9 @@ const waitsFor = (one) => (one.key ? `a decision on ${one.key}, ${seconds(one.le
 function showHot(status) {
   const holders = (name) => status.open.filter((one) => one.held.some((held) => held.object === name)).map((one) => one.id);
   fill("hot-rows", status.hot.map((hot) =>
-    row([element("td", hot.object, "word"), element("td", hot.busy, "number"), element("td", holders(hot.object).join(", ") || "–", "word")])),
-  3, "No call was busy since the start.");
+    row([element("td", hot.object, "word"), element("td", hot.busy, "number"), element("td", holders(hot.object).join(", ") || "–", "word"),
+      element("td", hot.waiting.map((one) => `${one.transaction || "an attempt"} for ${one.waits_for || "another"}`).join(", ") || "–", "word")])),
+  4, "No call was busy since the start.");
 }
 
 /** One that is prepared is decided; another one is aborted by its name. */

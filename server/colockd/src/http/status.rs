@@ -4,9 +4,14 @@ use crate::http::app::App;
 use crate::http::replies::{ok, text};
 use crate::http::transactions::shown;
 use crate::metrics::{clipped, HOTTEST};
+use crate::names::TransactionName;
 use crate::problem::{Problem, ProblemKind};
+use colock_waiting::ObjectIndex;
 use hyper::{Body, Response, StatusCode};
 use serde_json::json as value;
+
+/// The most who wait at an object that are shown.
+const MOST_SHOWN: usize = 16;
 
 const OPENAPI: &str = include_str!("../../page/openapi.json");
 
@@ -76,7 +81,10 @@ pub async fn status(app: &App) -> Result<Response<Body>, Problem> {
     let hottest = app.metrics.hottest();
     let hot = hottest.iter().take(HOTTEST).map(|(number, busy)| {
         let label = app.store.objects.get(*number).map_or_else(|| format!("#{number}"), |object| object.label());
-        value!({"object": label, "busy": busy})
+        let waiting = observer.waits.at(ObjectIndex(*number), MOST_SHOWN);
+        let named = |name: Option<TransactionName>| name.map(|name| name.to_string());
+        let waiting = waiting.iter().map(|one| value!({"transaction": named(one.transaction), "waits_for": named(one.waits_for)}));
+        value!({"object": label, "busy": busy, "waiting": waiting.collect::<Vec<_>>()})
     });
     let counts = observer.waits.counts();
     Ok(ok(&value!({

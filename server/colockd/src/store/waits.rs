@@ -1,6 +1,7 @@
 //! Who waits for whom: the engine of waiting, driven by what the store answers, in its order.
 
 use crate::locks::locked;
+use crate::names::TransactionName;
 use crate::store::bell::{Bell, Woken};
 use crate::store::objects::SharedObjects;
 use colock_waiting::{Age, Asker, Class, Conflicts, Decision, Edge, Number, ObjectIndex, Touched, Verdict, Waiting};
@@ -39,10 +40,25 @@ pub struct WaitCounts {
     pub deadlocks: u64,
 }
 
+/// Somebody who waits, as it is shown.
+#[derive(Clone, Copy, Debug, PartialEq, Eq)]
+pub struct Waiter {
+    /// Its transaction; none is that of an attempt.
+    pub transaction: Option<TransactionName>,
+    /// For whom it waits, where that is known.
+    pub waits_for: Option<TransactionName>,
+}
+
+#[derive(Debug)]
+struct Place {
+    bell: Arc<Bell>,
+    object: ObjectIndex,
+}
+
 #[derive(Debug)]
 struct Inner {
     waiting: Waiting<Rules>,
-    bells: HashMap<Number, Arc<Bell>>,
+    places: HashMap<Number, Place>,
     attempts: u64,
     deadlocks: u64,
 }
@@ -57,7 +73,7 @@ pub struct Waits {
 impl Waits {
     /// Nobody waits. Who is to be asked for is sent on: at most one for each that waits.
     pub fn new(objects: SharedObjects, due: UnboundedSender<Due>) -> Waits {
-        let inner = Inner { waiting: Waiting::new(Rules(objects)), bells: HashMap::new(), attempts: 0, deadlocks: 0 };
+        let inner = Inner { waiting: Waiting::new(Rules(objects)), places: HashMap::new(), attempts: 0, deadlocks: 0 };
         Waits { inner: Mutex::new(inner), due }
     }
 
@@ -80,10 +96,21 @@ impl Waits {
         locked(&self.inner).waiting.edge(number)
     }
 
+    /// At most so many of those who wait at an object.
+    pub fn at(&self, object: ObjectIndex, most: usize) -> Vec<Waiter> {
+        let inner = locked(&self.inner);
+        let name = |number: Number| (!is_attempt(number)).then(|| TransactionName::unpacked(number.0));
+        let waiter = |number: &Number| {
+            let waits_for = inner.waiting.edge(*number).and_then(|edge| name(edge.to));
+            Waiter { transaction: name(*number), waits_for }
+        };
+        inner.places.iter().filter(|(_, place)| place.object == object).take(most).map(|(number, _)| waiter(number)).collect()
+    }
+
     /// What happened.
     pub fn counts(&self) -> WaitCounts {
         let inner = locked(&self.inner);
-        WaitCounts { waiting: inner.bells.len(), deadlocks: inner.deadlocks }
+        WaitCounts { waiting: inner.places.len(), deadlocks: inner.deadlocks }
     }
 
     /// Whether a call is to go behind older ones that wait; then it waits from now on.
@@ -92,7 +119,7 @@ impl Waits {
         if inner.waiting.is_empty() || inner.waiting.gate(asker).is_none() {
             return false;
         }
-        inner.bells.insert(asker.number, Arc::clone(bell));
+        inner.places.insert(asker.number, Place { bell: Arc::clone(bell), object: asker.object });
         inner.waiting.enter(asker);
         self.settle(&mut inner);
         true
@@ -103,7 +130,7 @@ impl Waits {
     /// The store answered that this one is in the way of a call, which waits from now on.
     pub fn busy(&self, asker: Asker, bell: &Arc<Bell>, blocker: Number) {
         let mut inner = locked(&self.inner);
-        inner.bells.insert(asker.number, Arc::clone(bell));
+        inner.places.insert(asker.number, Place { bell: Arc::clone(bell), object: asker.object });
         let is_there = inner.waiting.waits(asker.number) && !is_attempt(asker.number);
         if !is_there {
             // an attempt that waits at another call begins anew, with its age
@@ -127,7 +154,7 @@ impl Waits {
     /// Somebody waits no more.
     pub fn leave(&self, number: Number) {
         let mut inner = locked(&self.inner);
-        if inner.bells.remove(&number).is_some() {
+        if inner.places.remove(&number).is_some() {
             inner.waiting.leave(number);
             self.settle(&mut inner);
         }
@@ -179,7 +206,7 @@ impl Waits {
     }
 
     fn ask(&self, inner: &Inner, number: Number) {
-        if let Some(bell) = inner.bells.get(&number) {
+        if let Some(Place { bell, .. }) = inner.places.get(&number) {
             // it fails only where the server ends
             let _ = self.due.send(Due { number, words: bell.would().to_string() });
         }
@@ -199,7 +226,7 @@ fn is_attempt(number: Number) -> bool {
 }
 
 fn ring(inner: &Inner, number: Number, woken: Woken) {
-    if let Some(bell) = inner.bells.get(&number) {
+    if let Some(Place { bell, .. }) = inner.places.get(&number) {
         bell.ring(woken);
     }
 }
@@ -226,7 +253,8 @@ impl Drop for Stay {
 
 #[cfg(test)]
 mod tests {
-    use super::{Due, Waits};
+    use super::{Due, Waiter, Waits};
+    use crate::names::TransactionName;
     use crate::store::bell::{Bell, Woken};
     use crate::store::objects::SharedObjects;
     use colock_waiting::{Age, Asker, Class, Number, ObjectIndex, Touched, Verdict};
@@ -291,6 +319,18 @@ mod tests {
         assert_eq!(rung(&bell).await, None);
         waits.epoch_ended();
         assert_eq!(rung(&bell).await, Some(Woken::Again));
+    }
+
+    #[tokio::test]
+    async fn who_waits_at_an_object_is_shown() {
+        let ((waits, _asked), name) = (waits(), |number| Some(TransactionName { life: 0, number }));
+        let (number, age) = waits.next_attempt();
+        waits.busy(Asker { number, age, ..asker(0) }, &bell(""), Number(9));
+        assert_eq!(waits.at(ObjectIndex(0), 5), [Waiter { transaction: None, waits_for: name(9) }]);
+        waits.busy(asker(1), &bell("a"), Number(9));
+        assert_eq!((waits.at(ObjectIndex(0), 5).len(), waits.at(ObjectIndex(0), 1).len(), waits.at(ObjectIndex(1), 5).len()), (2, 1, 0));
+        waits.leave(number);
+        assert_eq!(waits.at(ObjectIndex(0), 5), [Waiter { transaction: name(1), waits_for: name(9) }]);
     }
 
     #[tokio::test]
