@@ -127,6 +127,7 @@ class Http(unittest.TestCase):
         for byte in range(256):
             path = "/v1/objects/" + "a%%%02x" % byte
             self.assertIn(self.served.get(path).status, (404, 422), byte)
+            self.assertIn(self.served.get("/v1/decisions/a%%%02x" % byte).status, (404, 422), byte)
             if chr(byte).isprintable():
                 self.assertIn(self.served.attempt((f"up{chr(byte)}", "inc:1")).status, (404, 422), byte)
 

@@ -107,7 +107,7 @@ impl Observer {
 
     fn prepared(&self, name: TransactionName, hold: &Hold, answer: Answer<'_>) {
         match answer {
-            Answer::Ok(_) => self.open.prepares(name, hold),
+            Answer::Ok(_) => self.open.prepares(name, hold, || self.waits.next_age()),
             Answer::Refused(Refusal::NotOpen) => self.ended(name, Standing::Aborted(Cause::Epoch)),
             _ => {}
         }
@@ -134,7 +134,7 @@ impl Observer {
 
     fn listed_prepared(&self, listed: &str) {
         for (name, hold) in holds_in(listed) {
-            self.open.is_prepared(name, &hold, || self.waits.next_age());
+            self.open.prepares(name, &hold, || self.waits.next_age());
         }
     }
 

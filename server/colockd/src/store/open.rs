@@ -172,16 +172,9 @@ impl OpenTransactions {
         locked(&self.0).open.insert(name, Arc::new(open));
     }
 
-    /// One is prepared from now on. What held it before holds it still.
-    pub fn prepares(&self, name: TransactionName, hold: &Hold) {
-        let mut table = locked(&self.0);
-        let Some(open) = table.open.get(&name) else { return };
-        let key = Arc::clone(&locked(&open.state).hold.get_or_insert_with(|| hold.clone()).key);
-        table.keys.insert(key, name);
-    }
-
-    /// The store says that one is prepared. Of one that isn't known it isn't known either what it did, nor where.
-    pub fn is_prepared(&self, name: TransactionName, hold: &Hold, age: impl FnOnce() -> Age) {
+    /// One is prepared, now or before. What held it before holds it still. Of one that isn't known it isn't known either what it did,
+    /// nor where.
+    pub fn prepares(&self, name: TransactionName, hold: &Hold, age: impl FnOnce() -> Age) {
         let mut table = locked(&self.0);
         if !table.open.contains_key(&name) {
             let owner = table.ended.remove(&name).map_or_else(|| Arc::from(""), |ended| ended.owner);
@@ -189,8 +182,9 @@ impl OpenTransactions {
             let open = open_now(name, &Beginning { owner, idle: Duration::ZERO }, age(), State::of(everywhere, None));
             table.open.insert(name, Arc::new(open));
         }
-        drop(table);
-        self.prepares(name, hold);
+        let Some(open) = table.open.get(&name) else { return };
+        let key = Arc::clone(&locked(&open.state).hold.get_or_insert_with(|| hold.clone()).key);
+        table.keys.insert(key, name);
     }
 
     /// The one that is prepared under a key.
@@ -326,12 +320,12 @@ mod tests {
         let hold = |key: &str, until| Hold { key: Arc::from(key), until };
         begin(&all, name(1, 0));
         begin(&all, name(1, 1));
-        all.prepares(name(1, 0), &hold("k", 7));
-        all.prepares(name(1, 0), &hold("k", 9));
+        all.prepares(name(1, 0), &hold("k", 7), || Age(8));
+        all.prepares(name(1, 0), &hold("k", 9), || Age(8));
         assert_eq!((all.under("k"), all.unprepared().len(), all.end_older(2, Cause::Lost)), (Some(name(1, 0)), 1, 1));
-        all.is_prepared(name(1, 1), &hold("l", 8), || Age(9));
+        all.prepares(name(1, 1), &hold("l", 8), || Age(9));
         assert!(matches!(all.known(name(1, 1)), Some(Known::Open(open)) if &*open.owner == "shop" && open.hold() == Some(hold("l", 8))));
-        all.is_prepared(name(1, 2), &hold("m", 9), || Age(10));
+        all.prepares(name(1, 2), &hold("m", 9), || Age(10));
         assert_eq!((all.len(), all.under("m")), (3, Some(name(1, 2))));
         assert!(all.ends(name(1, 2), Standing::Committed).is_some_and(|touched| touched.has(ObjectIndex(77))));
         assert!(all.holds().contains(&hold("k", 7)));
