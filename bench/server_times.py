@@ -146,7 +146,7 @@ def of_postgres(folder, seconds):
             script = os.path.join(room, name.replace(" ", "_") + ".sql")
             programs.written(room, os.path.basename(script), text)
             for clients in (*CONNECTIONS[:2], 4, 32, *CONNECTIONS[2:]):
-                told = run("pgbench", "-h", room, "-n", "-M", "prepared", "-c", str(clients), "-j", "2", "-T", str(seconds), "-f", script, "postgres")
+                told = run("pgbench", "-h", room, "-n", "-M", "prepared", "-c", str(clients), "-j", "2", "-T", str(max(seconds, 5)), "-f", script, "postgres")
                 rate = float(re.search(r"tps = ([0-9.]+)", told)[1])
                 best = max(best, rate) if name == "one statement" else best
                 print(f"PostgreSQL, one row, {name}, {clients} clients: {rate:.0f} bookings a second", flush=True)

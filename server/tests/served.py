@@ -202,7 +202,7 @@ def served(*words, **how):
         one.close()
 
 
-def until(test, seconds=10):
+def until(test, seconds=60):
     """Waits until something is so."""
     end = time.monotonic() + seconds
     while time.monotonic() < end:
@@ -224,7 +224,7 @@ class InBackground(threading.Thread):
     def run(self):
         self.answer = self.ask()
 
-    def result(self, seconds=20):
+    def result(self, seconds=60):
         self.join(seconds)
         assert not self.is_alive(), f"no answer within {seconds} s"
         return self.answer

@@ -34,8 +34,8 @@ class Crowd(unittest.TestCase):
             self.disturb(one, end)
             for client in clients:
                 client.join()
-            until(lambda: one.get("/readyz").status == 200, 60)
-            until(lambda: not one.get("/v1/prepared").json["prepared"], 60)
+            until(lambda: one.get("/readyz").status == 200)
+            until(lambda: not one.get("/v1/prepared").json["prepared"])
             for client in clients:
                 client.settle()
             self.assertEqual([fault for client in clients for fault in client.faults], [])

@@ -58,7 +58,7 @@ class Decisions(unittest.TestCase):
         waiting = InBackground(lambda: self.served.attempt(("S1", "hold:1"), wait=20))
         until(lambda: self.served.get("/v1/status").json["waiting"] > 0)
         self.assertEqual(decide(self.served, "guest:1", "abort").json, {"key": "guest:1", "outcome": "aborted"})
-        self.assertEqual(waiting.result(5).json, {"replies": ["ok"]})
+        self.assertEqual(waiting.result().json, {"replies": ["ok"]})
         self.assertEqual((one.known()["state"], one.known()["cause"], one.abort().status), ("aborted", "decided", 200))
         self.assertEqual(decide(self.served, "guest:1", "commit").json["outcome"], "aborted")
 
@@ -162,7 +162,7 @@ class Restarts(unittest.TestCase):
         waiting = InBackground(lambda: self.served.attempt(("A", "hold:1"), wait=20))
         until(lambda: self.served.get("/v1/status").json["waiting"] > 0)
         self.assertEqual(decide(self.served, "a", "commit").status, 200)
-        self.assertEqual(waiting.result(5).json, {"replies": ["taken"]})
+        self.assertEqual(waiting.result().json, {"replies": ["taken"]})
         self.kill()
         self.assertEqual((self.free("A"), self.keys()), ("2", {}))
         self.assertEqual((decide(self.served, "a", "commit").status, decide(self.served, "a", "abort").json["outcome"]), (200, "committed"))
@@ -172,7 +172,7 @@ class Restarts(unittest.TestCase):
         self.served.kill()
         time.sleep(2.5)
         self.served.start()
-        until(lambda: self.served.get("/v1/decisions/a").json["outcome"] == "aborted", 3)
+        until(lambda: self.served.get("/v1/decisions/a").json["outcome"] == "aborted")
         self.assertEqual((self.keys(), one.known()["cause"]), ({"b": other.name}, "undecided"))
         self.assertEqual(self.served.attempt(("A", "hold:1")).json, {"replies": ["ok"]})
 

@@ -120,7 +120,7 @@ class Failures(unittest.TestCase):
                 self.assertEqual(self.served.put(f"/v1/objects/o{amount}", {"type": "n", "recovery": "escrow"}).status, 201)
             if amount in (12, 13, 30):
                 self.served.kill_store()
-        until(lambda: len(follower.calls) >= 40 or print(follower.first, follower.calls), 20)
+        until(lambda: len(follower.calls) >= 40 or print(follower.first, follower.calls))
         self.assertEqual(follower.calls, [f"give:{amount}" for amount in range(1, 41)])
         self.served.end()
         self.served.start()

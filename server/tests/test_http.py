@@ -239,7 +239,7 @@ class Limits(unittest.TestCase):
         self.assertEqual(connection.getresponse().status, 200)
         self.assertEqual(self.served.get("/v1/events").problem, "too-many-followers")
         connection.close()
-        until(lambda: self.served.get("/v1/events?follow=false").status == 200, 30)
+        until(lambda: self.served.get("/v1/events?follow=false").status == 200)
 
     def test_an_idle_server_uses_no_processor(self):
         def ticks():

@@ -47,7 +47,7 @@ class Transactions(unittest.TestCase):
         waiting = InBackground(lambda: other.call(("S2", "hold:1"), wait=20))
         until(lambda: other.known()["waits_for"] == one.name)
         one.commit()
-        self.assertEqual(waiting.result(5).json, {"replies": ["taken"]})
+        self.assertEqual(waiting.result().json, {"replies": ["taken"]})
         other.abort()
 
     def test_an_attempt_waits_until_it_may_go(self):
@@ -56,7 +56,7 @@ class Transactions(unittest.TestCase):
         waiting = InBackground(lambda: self.served.attempt(("S3", "hold:1"), ("S3", "book:1"), wait=20))
         until(lambda: self.served.get("/v1/status").json["waiting"] > 0)
         one.abort()
-        self.assertEqual(waiting.result(5).json, {"replies": ["ok", "ok"]})
+        self.assertEqual(waiting.result().json, {"replies": ["ok", "ok"]})
 
     def test_a_rollback_lets_others_go(self):
         one = self.served.begin()
@@ -64,7 +64,7 @@ class Transactions(unittest.TestCase):
         waiting = InBackground(lambda: self.served.attempt(("S4", "hold:1"), wait=20))
         until(lambda: self.served.get("/v1/status").json["waiting"] > 0)
         one.rollback(1)
-        self.assertEqual(waiting.result(5).json, {"replies": ["ok"]})
+        self.assertEqual(waiting.result().json, {"replies": ["ok"]})
         one.abort()
 
     def test_the_youngest_of_a_circle_is_aborted(self):
@@ -75,7 +75,7 @@ class Transactions(unittest.TestCase):
         until(lambda: one.known()["waits_for"] == other.name)
         answer = other.call(("S5", "hold:1"), wait=20)
         self.assertEqual((answer.problem, answer.json["waited_for"]), ("deadlock", one.name))
-        self.assertEqual(waiting.result(5).json, {"replies": ["ok"]})
+        self.assertEqual(waiting.result().json, {"replies": ["ok"]})
         self.assertEqual((other.known()["state"], other.known()["cause"]), ("aborted", "deadlock"))
         one.abort()
 
@@ -87,9 +87,9 @@ class Transactions(unittest.TestCase):
         second = InBackground(lambda: younger.call(("S10", "hold:1"), wait=20))
         until(lambda: younger.known()["waits_for"] == older.name)
         holder.abort()
-        self.assertEqual(first.result(5).json, {"replies": ["ok"]})
+        self.assertEqual(first.result().json, {"replies": ["ok"]})
         older.abort()
-        self.assertEqual(second.result(5).json, {"replies": ["ok"]})
+        self.assertEqual(second.result().json, {"replies": ["ok"]})
 
     def test_many_that_wait_for_one_seat_get_it_one_after_the_other(self):
         names = [f"a{n}" for n in range(20)]
@@ -99,7 +99,7 @@ class Transactions(unittest.TestCase):
         waiting = [InBackground(lambda: self.served.post("/v1/attempts", body)) for _ in names]
         until(lambda: self.served.get("/v1/status").json["waiting"] >= len(names))
         holder.abort()
-        self.assertEqual({one.result(15).status for one in waiting}, {200})
+        self.assertEqual({one.result().status for one in waiting}, {200})
 
     def test_one_of_which_nothing_is_asked_is_aborted(self):
         one = self.served.begin(idle=0.5)

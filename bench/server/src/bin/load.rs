@@ -106,7 +106,7 @@ fn is_ok(body: &str) -> Result<(), Fault> {
     }
 }
 
-/// Books until it is over; how long each turn took that began after the warming.
+/// Books until it is over; how long each turn took that ended after the warming.
 async fn book(kind: Kind, port: u16, start: Instant, end: Instant) -> Result<Vec<u32>, Fault> {
     let mut connection = Connection::to(port).await?;
     let (one, list) = (request("/v1/attempts", CALLS), request("/v1/attempts", &format!("[{}]", [CALLS; LISTED].join(","))));
@@ -121,7 +121,7 @@ async fn book(kind: Kind, port: u16, start: Instant, end: Instant) -> Result<Vec
             Kind::Lists => is_ok(connection.ask(&list).await?)?,
             Kind::Transactions => transact(&mut connection).await?,
         }
-        if begun >= start {
+        if Instant::now() >= start {
             times.push(u32::try_from(begun.elapsed().as_micros()).unwrap_or(u32::MAX));
         }
     }

@@ -191,7 +191,7 @@ mod tests {
     use tokio::io::{duplex, AsyncReadExt, AsyncWriteExt};
     use tokio::time::{sleep, timeout};
 
-    const PATIENCE: Duration = Duration::from_millis(40);
+    const PATIENCE: Duration = Duration::from_millis(320);
 
     #[tokio::test]
     async fn who_takes_nothing_is_left() {
