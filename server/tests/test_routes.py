@@ -1,9 +1,10 @@
 """Each route does what docs/server.md says."""
 import json
 import os
+import subprocess
 import unittest
 
-from served import EXAMPLES, InBackground, Served, of_program, until
+from served import EXAMPLES, InBackground, Served, of_program, served, until
 
 
 class Routes(unittest.TestCase):
@@ -210,6 +211,26 @@ class Routes(unittest.TestCase):
             status = until(lambda: self.served.get("/v1/status").json)
             self.assertIn(one.name, [open_one["id"] for open_one in status["open"]])
             self.assertIn({"object": "A13", "call": "free", "reply": "3"}, one.known()["held"])
+
+
+class Logs(unittest.TestCase):
+    def test_a_line_tells_of_each_slow_commit_and_each_epoch(self):
+        with served("--slow", "0") as one:
+            one.add("seats", "undo", "A")
+            answer = one.attempt(("A", "free"))
+            lines = until(lambda: [json.loads(line) for line in one.lines if "a slow commit" in line])
+            self.assertEqual((lines[0]["level"], lines[0]["route"], lines[0]["id"]), ("WARN", "attempts", answer.headers["x-request-id"]))
+            self.assertTrue(until(lambda: [line for line in one.lines if "another epoch has begun" in line]))
+            one.kill_store()
+            self.assertTrue(until(lambda: [line for line in one.lines if "the store has ended, and is started again" in line]))
+
+    def test_lines_are_for_people_or_for_machines(self):
+        with served() as one:
+            self.assertTrue(all(json.loads(line)["timestamp"] for line in one.lines))
+            command = [*one.process.args]
+            command[command.index("--log") + 1] = "text"
+            told = subprocess.run(command, capture_output=True, text=True, timeout=60, check=False)
+            self.assertRegex(told.stderr, "ERROR.* it doesn't serve")
 
 
 class Begun:

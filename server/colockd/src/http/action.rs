@@ -129,80 +129,69 @@ impl Action {
     ///
     /// A [`Problem`] where there is no such path, or it doesn't take the method.
     pub fn of(method: &Method, path: &str) -> Result<Action, Problem> {
-        let route = Route::of(path)?;
+        let mut takes = taken_by(path).ok_or_else(|| Problem::new(ProblemKind::NoRoute, "there is no such path"))?;
         let is_head = method == Method::HEAD;
         let method = if is_head { &Method::GET } else { method };
-        route.takes.into_iter().find(|(taken, _)| *taken == method).map(|(_, action)| action).ok_or_else(|| {
-            let allow = route.allow;
-            Problem::new(ProblemKind::NoMethod, format!("{path} takes {allow}")).with("allow", allow)
-        })
-    }
-}
-
-/// A path with what it takes.
-struct Route {
-    takes: Vec<(&'static Method, Action)>,
-    allow: String,
-}
-
-impl Route {
-    fn new(takes: Vec<(&'static Method, Action)>) -> Route {
-        let allow = takes.iter().map(|(method, _)| method.as_str()).collect::<Vec<_>>().join(", ");
-        Route { takes, allow }
-    }
-
-    fn of(path: &str) -> Result<Route, Problem> {
-        let no_route = || Problem::new(ProblemKind::NoRoute, "there is no such path");
-        let takes = match path {
-            "/" => vec![(GET, Action::Page)],
-            "/page.js" => vec![(GET, Action::Script)],
-            "/page.css" => vec![(GET, Action::Style)],
-            "/healthz" => vec![(GET, Action::Healthz)],
-            "/readyz" => vec![(GET, Action::Readyz)],
-            "/metrics" => vec![(GET, Action::Metrics)],
-            "/openapi.json" => vec![(GET, Action::OpenApi)],
-            "/v1/types" => vec![(GET, Action::ListTypes)],
-            "/v1/objects" => vec![(GET, Action::ListObjects), (POST, Action::AddObjects)],
-            "/v1/attempts" => vec![(POST, Action::Attempt)],
-            "/v1/transactions" => vec![(GET, Action::ListTransactions), (POST, Action::Begin)],
-            "/v1/prepared" => vec![(GET, Action::ListPrepared)],
-            "/v1/snapshot" => vec![(GET, Action::Snapshot)],
-            "/v1/events" => vec![(GET, Action::Events)],
-            "/v1/status" => vec![(GET, Action::Status)],
-            _ => Route::with_name(path).ok_or_else(no_route)?,
+        let Some(place) = takes.iter().position(|(taken, _)| *taken == method) else {
+            let allow = takes.iter().map(|(taken, _)| taken.as_str()).collect::<Vec<_>>().join(", ");
+            return Err(Problem::new(ProblemKind::NoMethod, format!("{path} takes {allow}")).with("allow", allow));
         };
-        Ok(Route::new(takes))
+        Ok(takes.swap_remove(place).1)
     }
+}
 
-    fn with_name(path: &str) -> Option<Vec<(&'static Method, Action)>> {
-        if let Some(name) = path.strip_prefix("/v1/objects/") {
-            let name = decoded(name)?;
-            return Some(vec![(GET, Action::GetObject(name.clone())), (PUT, Action::PutObject(name))]);
-        }
-        if let Some(name) = path.strip_prefix("/v1/types/") {
-            let name = decoded(name)?;
-            return Some(vec![(GET, Action::GetType(name.clone())), (PUT, Action::PutType(name))]);
-        }
-        if let Some(name) = path.strip_prefix("/problems/") {
-            return Some(vec![(GET, Action::Explain(decoded(name)?))]);
-        }
-        if let Some(key) = path.strip_prefix("/v1/decisions/") {
-            let key = decoded(key)?;
-            return Some(vec![(GET, Action::GetDecision(key.clone())), (PUT, Action::Decide(key))]);
-        }
-        let rest = path.strip_prefix("/v1/transactions/")?;
-        let (name, what) = rest.split_once('/').unwrap_or((rest, ""));
-        let name: TransactionName = name.parse().ok()?;
-        Some(vec![match what {
-            "" => (GET, Action::GetTransaction(name)),
-            "calls" => (POST, Action::Call(name)),
-            "rollback" => (POST, Action::Rollback(name)),
-            "commit" => (POST, Action::Commit(name)),
-            "abort" => (POST, Action::Abort(name)),
-            "prepare" => (POST, Action::Prepare(name)),
-            _ => return None,
-        }])
+/// The methods that a path takes, and what each of them asks.
+type Taken = Vec<(&'static Method, Action)>;
+
+fn taken_by(path: &str) -> Option<Taken> {
+    Some(match path {
+        "/" => vec![(GET, Action::Page)],
+        "/page.js" => vec![(GET, Action::Script)],
+        "/page.css" => vec![(GET, Action::Style)],
+        "/healthz" => vec![(GET, Action::Healthz)],
+        "/readyz" => vec![(GET, Action::Readyz)],
+        "/metrics" => vec![(GET, Action::Metrics)],
+        "/openapi.json" => vec![(GET, Action::OpenApi)],
+        "/v1/types" => vec![(GET, Action::ListTypes)],
+        "/v1/objects" => vec![(GET, Action::ListObjects), (POST, Action::AddObjects)],
+        "/v1/attempts" => vec![(POST, Action::Attempt)],
+        "/v1/transactions" => vec![(GET, Action::ListTransactions), (POST, Action::Begin)],
+        "/v1/prepared" => vec![(GET, Action::ListPrepared)],
+        "/v1/snapshot" => vec![(GET, Action::Snapshot)],
+        "/v1/events" => vec![(GET, Action::Events)],
+        "/v1/status" => vec![(GET, Action::Status)],
+        _ => return taken_by_name(path),
+    })
+}
+
+fn taken_by_name(path: &str) -> Option<Taken> {
+    if let Some(name) = path.strip_prefix("/v1/objects/") {
+        let name = decoded(name)?;
+        return Some(vec![(GET, Action::GetObject(name.clone())), (PUT, Action::PutObject(name))]);
     }
+    if let Some(name) = path.strip_prefix("/v1/types/") {
+        let name = decoded(name)?;
+        return Some(vec![(GET, Action::GetType(name.clone())), (PUT, Action::PutType(name))]);
+    }
+    if let Some(name) = path.strip_prefix("/problems/") {
+        return Some(vec![(GET, Action::Explain(decoded(name)?))]);
+    }
+    if let Some(key) = path.strip_prefix("/v1/decisions/") {
+        let key = decoded(key)?;
+        return Some(vec![(GET, Action::GetDecision(key.clone())), (PUT, Action::Decide(key))]);
+    }
+    let rest = path.strip_prefix("/v1/transactions/")?;
+    let (name, what) = rest.split_once('/').unwrap_or((rest, ""));
+    let name: TransactionName = name.parse().ok()?;
+    Some(vec![match what {
+        "" => (GET, Action::GetTransaction(name)),
+        "calls" => (POST, Action::Call(name)),
+        "rollback" => (POST, Action::Rollback(name)),
+        "commit" => (POST, Action::Commit(name)),
+        "abort" => (POST, Action::Abort(name)),
+        "prepare" => (POST, Action::Prepare(name)),
+        _ => return None,
+    }])
 }
 
 const GET: &Method = &Method::GET;
