@@ -202,13 +202,15 @@ mod tests {
 
     #[tokio::test]
     async fn who_takes_slowly_is_served() {
+        // each piece comes within a quarter of it, and all of them don't, also where the machine is busy
+        let patience = PATIENCE * 6;
         let (near, mut far) = duplex(4);
-        let mut near = Patient::new(near, PATIENCE, Arc::default());
+        let mut near = Patient::new(near, patience, Arc::default());
         let reader = tokio::spawn(async move {
             let mut all = Vec::new();
             let mut room = [0; 2];
             while all.len() < 12 {
-                sleep(PATIENCE / 4).await;
+                sleep(patience / 4).await;
                 let count = far.read(&mut room).await.unwrap();
                 all.extend_from_slice(&room[..count]);
             }
@@ -268,9 +270,9 @@ mod tests {
         };
         tokio::select! {
             () = follows => {}
-            rested = timeout(PATIENCE, requests.rest(PATIENCE / 4)) => assert!(rested.is_err()),
+            rested = timeout(PATIENCE * 3, requests.rest(PATIENCE * 2)) => assert!(rested.is_err()),
         }
-        assert!(timeout(PATIENCE, requests.rest(PATIENCE / 8)).await.is_ok());
+        assert!(timeout(PATIENCE * 60, requests.rest(PATIENCE / 8)).await.is_ok());
     }
 
     #[tokio::test]
