@@ -60,7 +60,7 @@ class Served:
         self.process = subprocess.Popen(command, stdout=subprocess.DEVNULL, stderr=subprocess.PIPE, text=True, env={**os.environ, **environment})
         self.lines, ready = [], threading.Event()
         threading.Thread(target=self.listen, args=(self.process.stderr, self.lines, ready), daemon=True).start()
-        if not ready.wait(60) or self.port is None:
+        if not ready.wait(240) or self.port is None:
             raise AssertionError(f"it didn't get ready: {self.lines}")
 
     def listen(self, stream, lines, ready):
