@@ -61,6 +61,7 @@ class Served:
         self.lines, ready = [], threading.Event()
         threading.Thread(target=self.listen, args=(self.process.stderr, self.lines, ready), daemon=True).start()
         if not ready.wait(240) or self.port is None:
+            self.kill()
             raise AssertionError(f"it didn't get ready: {self.lines}")
 
     def listen(self, stream, lines, ready):
