@@ -168,9 +168,10 @@ class Restarts(unittest.TestCase):
         self.assertEqual((decide(self.served, "a", "commit").status, decide(self.served, "a", "abort").json["outcome"]), (200, "committed"))
 
     def test_its_time_goes_on_over_a_restart(self):
-        one, other = self.prepared("A", "a", 2), self.prepared("B", "b", 600)
+        other, one = self.prepared("B", "b", 600), self.prepared("A", "a", 6)
+        over = one.known()["until"]
         self.served.kill()
-        time.sleep(2.5)
+        time.sleep(max(0, over - time.time()) + 0.5)
         self.served.start()
         until(lambda: self.served.get("/v1/decisions/a").json["outcome"] == "aborted")
         self.assertEqual((self.keys(), one.known()["cause"]), ({"b": other.name}, "undecided"))
