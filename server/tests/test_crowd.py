@@ -97,8 +97,18 @@ def audit(folder):
     for path, text in zip(types, texts):
         with open(path, "w", encoding="ascii") as file:
             file.write(text if isinstance(text, str) else text.decode())
-    first, *others = [*histories, os.path.join(folder, "last.history")]
+    first, *others = without_beginnings([*histories, os.path.join(folder, "last.history")])
     return asked("audit", first, *[word for path in others for word in ("--then", path)], *types)
+
+
+def without_beginnings(paths):
+    """The histories but for those whose epoch went on: the store was killed between its archive and the next epoch, and the next
+    history begins with the same events."""
+    texts = []
+    for path in paths:
+        with open(path, encoding="ascii") as file:
+            texts.append(file.read())
+    return [path for path, text, then in zip(paths, texts, [*texts[1:], ""]) if not then.startswith(text.removesuffix("end\n"))]
 
 
 def effects_of(calls, replies):
