@@ -19,13 +19,24 @@ ELEMENT = "element-6066-11e4-a52e-4f735466cecf"
 SIZES = {"phone": (390, 844), "tablet": (820, 1180), "desk": (1440, 900)}
 
 
+def started():
+    """A driver, and its port. It takes one that is free for IPv4, and ends where the same one isn't free for IPv6."""
+    for _ in range(10):
+        driver = subprocess.Popen([DRIVER, "--port=0"], stdout=subprocess.PIPE, text=True)
+        line = next((line for line in driver.stdout if "was started successfully on port" in line), None)
+        if line:
+            return driver, line.rstrip().rstrip(".").split()[-1]
+        driver.wait()
+        driver.stdout.close()
+    raise AssertionError("chromedriver doesn't start")
+
+
 class Browser:
     """A browser, by the protocol of WebDriver."""
 
     def __init__(self):
-        self.driver = subprocess.Popen([DRIVER, "--port=0"], stdout=subprocess.PIPE, text=True)
-        line = next(line for line in self.driver.stdout if "was started successfully on port" in line)
-        self.base = f"http://127.0.0.1:{line.rstrip().rstrip('.').split()[-1]}"
+        self.driver, port = started()
+        self.base = f"http://127.0.0.1:{port}"
         options = {"args": ["--headless=new", "--no-sandbox", "--disable-gpu", "--disable-dev-shm-usage"]}
         wanted = {"capabilities": {"alwaysMatch": {"goog:chromeOptions": options, "goog:loggingPrefs": {"browser": "ALL"}}}}
         self.session = self.ask("POST", "/session", wanted)["sessionId"]
