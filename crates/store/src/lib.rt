@@ -30,5 +30,6 @@ pub use laws::{renewals_are_serial, steps_are_followed, steps_are_retraced};
 pub use object_calls::Answer;
 pub use refusals::{CarryRefusal, ExtendRefusal, NewRefusal, PeekRefusal, RenewRefusal};
 pub use store::Store;
+pub use strong_types::are_strong;
 
 pub mod worked;

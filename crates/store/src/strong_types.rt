@@ -9,7 +9,7 @@ use object_trait::Renew;
 use table_checker::at_is_strong;
 
 /// Whether the yes of each is strong. An object of the type of the one before it is known by that.
-pub(crate) fn are_strong<R: Renew>(objects: &[R]) -> bool
+pub fn are_strong<R: Renew>(objects: &[R]) -> bool
     ensures { (result ≡ true) ↔ AreStrong (types_of (map R.meaning objects.now)) }
 {
     for x in 0..objects.len() {

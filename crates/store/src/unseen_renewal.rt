@@ -142,12 +142,12 @@ impl<R: Renew> Store<R> {
         }
     }
 
-    /// The open transactions, in the order of their numbers.
+    /// The open transactions, in the order of their numbers: those that `carry_all` carries.
     ///
     /// # Errors
     ///
     /// Memory was refused.
-    fn open_ones(&self, alloc: Global) -> Result<Vec<u32>, AllocError>
+    pub fn open_ones(&self, alloc: Global) -> Result<Vec<u32>, AllocError>
         ensures { IfOk result (λ those. those.items ≡ open_ones self.now.history) }
     {
         rows_say_who_is_open();
