@@ -1,5 +1,5 @@
 -- What is open is aborted by worker 0, who began it.
-use Rattle.std.proofs.Common.{◌≡◌, ◌∙◌, ℕ, ◌≤◌, zero, suc, List, [], ◌∷◌, ◌++◌, map, filter, refl, sym, ap, ap₂, subst, length, take, drop, arith}
+use Rattle.std.proofs.Common.{◌≡◌, ◌↔◌, ◌∙◌, true, ℕ, ◌≤◌, zero, suc, List, [], ◌∷◌, ◌++◌, map, filter, refl, sym, ap, ap₂, subst, length, take, drop, arith}
 use Rattle.std.proofs.lemmas.List.{length-append}
 use Rattle.std.proofs.Math.Seq.{drop-append_seam, take-append_seam}
 use Rattle.sqlite_trees.specs.declared.store.Store.{Ghosts}
@@ -10,6 +10,7 @@ use Rattle.object_trait.specs.declared.event.EventKind.{EventKind}
 use Rattle.object_trait.specs.declared.event.EventKind.TheVariants.{Begin, Op, Busy, None, Commit, Abort, Rollback}
 use Rattle.serial_order.specs.History.{summary}
 use Rattle.serial_order.specs.After.{beginners}
+use Rattle.carried_orders.specs.Orders.{AreStrong}
 use Rattle.store.specs.Ends.{closing_but, is_other}
 use Rattle.store.specs.Retraces.{ClosingIsTraced, IsTracedHistory}
 use Rattle.store_laws.specs.Stored.{Stored}
@@ -19,7 +20,7 @@ use Rattle.durable_store.specs.Types.{HasTypes}
 use Rattle.durable_store.specs.Durable.{IsBehind, IsDurable, events_of_kinds, kinds}
 
 -- each transaction was begun by worker 0
-began-zero : (happened : List EventKind) (t : ℕ) → slice_index_or (beginners (events_of_kinds happened)) t 0 ≡ 0
+pub began-zero : (happened : List EventKind) (t : ℕ) → slice_index_or (beginners (events_of_kinds happened)) t 0 ≡ 0
 began-zero [] t = refl
 began-zero (Begin n ∷ more) zero = refl
 began-zero (Begin n ∷ more) (suc t) = began-zero more t
@@ -42,7 +43,7 @@ closing-by-zero those happened =
 
 -- the aborts of what was open, but of those, are what the journal hasn't yet
 pub aborts-behind : {S : Type 0} (g : Ghosts S) (those : List ℕ) (d : Durable S) (s : Stored) (count : ℕ) → ClosingIsTraced → IsDurable g d → count ≡ length d.store.history → d.store.forgotten ≤ count
-    → s ≡ record d.store { history = d.store.history ++ closing_but those d.store.history } → IsBehind g (record { store = s; journal = d.journal; names = d.names; prepared = d.prepared }) count
+    → s ≡ record d.store { history = d.store.history ++ closing_but those d.store.history } → IsBehind g (record { store = s; journal = d.journal; names = d.names; prepared = d.prepared; strong = d.strong }) count
 aborts-behind g those d s count closing sound is remembered aborted =
     let more = closing_but those d.store.history in
     let history : s.history ≡ d.store.history ++ more = ap (λ (s : Stored). s.history) aborted in
@@ -59,4 +60,5 @@ aborts-behind g those d s count closing sound is remembered aborted =
       inside = omega (arith, long, is);
       history = λ clean. ap₂ take is history ∙ take-append_seam d.store.history more ∙ sound.history clean;
       by_zero = λ clean. subst (λ es. es ≡ events_of_kinds (kinds es)) (sym rest) (subst (λ H. closing_but those H ≡ events_of_kinds (kinds (closing_but those H))) (sym (sound.history clean)) (closing-by-zero those (written g d.journal).events));
+      strong = subst (λ (s : Stored). (d.strong ≡ true) ↔ AreStrong s.types) (sym aborted) sound.strong;
     }

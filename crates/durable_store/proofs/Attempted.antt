@@ -43,7 +43,7 @@ attempt-events old calls (Ended at how) new ended =
 attempt-events old calls (NotBegun r) new none = ([], none.1 ∙ ap (λ H. record old { history = H }) (sym (append-nil old.history)))
 
 pub attempt-behind : {S : Type 0} (g : Ghosts S) (d : Durable S) (calls : List CallAt) (came : Attempt) (s : Stored) (count : ℕ) → StepsAreTraced → IsDurable g d → count ≡ length d.store.history → d.store.forgotten ≤ count
-    → s ≡ commands_replayed d.store (is_memory_refused_at came) 0 (attempt_commands (begins d.store.history) calls came) → AttemptAnswers d.store 0 calls came s → IsBehind g (record { store = s; journal = d.journal; names = d.names; prepared = d.prepared }) count
+    → s ≡ commands_replayed d.store (is_memory_refused_at came) 0 (attempt_commands (begins d.store.history) calls came) → AttemptAnswers d.store 0 calls came s → IsBehind g (record { store = s; journal = d.journal; names = d.names; prepared = d.prepared; strong = d.strong }) count
 attempt-behind g d calls came s count steps sound is remembered replays answers =
     let it = attempt-events d.store calls came s answers in
     behind-more g d s count it.0 sound is remembered it.1

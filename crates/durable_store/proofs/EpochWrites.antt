@@ -1,5 +1,5 @@
 -- A new epoch is begun in the file, and the store's first events of it are what the journal hasn't yet.
-use Rattle.std.proofs.Common.{◌≡◌, ◌∙◌, ℕ, ◌+◌, suc, List, [], ◌∷◌, ◌++◌, take, drop, refl, sym, ap, subst, arith}
+use Rattle.std.proofs.Common.{◌≡◌, ◌↔◌, ◌∙◌, ℕ, ◌+◌, suc, true, List, [], ◌∷◌, ◌++◌, take, drop, refl, sym, ap, subst, arith}
 use Rattle.sqlite_trees.specs.declared.store.Store.{Ghosts}
 use Rattle.sqlite_trees.specs.Tree.{Trees}
 use Rattle.object_trait.specs.declared.event.Event.{Event}
@@ -10,6 +10,7 @@ use Rattle.journal.specs.declared.state_row.FirstState.{FirstState}
 use Rattle.journal.specs.declared.journal.Journal.{Journal}
 use Rattle.journal.specs.Contents.{Contents, extended, from_states, in_life}
 use Rattle.journal.specs.Journal.{Clean, IsJournal, IsSettled, durable, may_leave, written}
+use Rattle.carried_orders.specs.Orders.{AreStrong}
 use Rattle.store.specs.Retraces.{IsTracedHistory}
 use Rattle.durable_store.specs.declared.durable.Durable.{Durable}
 use Rattle.durable_store.specs.Types.{HasTypes}
@@ -48,10 +49,10 @@ grown-is c now texts lines states header life d is are raised last =
 
 -- where the file says this now, which has no event
 first-behind : {S : Type 0} (g : Ghosts S) (d : Durable S) (new : Journal S) (c : Contents) → c.events ≡ [] → (Clean g d.journal → IsSettled g d.journal) → d.store.limits ≡ file_limits → d.store.forgotten ≡ 0
-    → d.store.history ≡ events_of_kinds (kinds d.store.history) → IsTracedHistory d.store → (Clean g d.journal → IndexesNames c.objects d.names) → (Clean g d.journal → HasTypes c d.store.types)
+    → (Clean g d.journal → d.store.history ≡ events_of_kinds (kinds d.store.history)) → IsTracedHistory d.store → (d.strong ≡ true) ↔ AreStrong d.store.types → (Clean g d.journal → IndexesNames c.objects d.names) → (Clean g d.journal → HasTypes c d.store.types)
     → IsJournal g new → (Clean g new → written g new ≡ c) → (Clean g new → durable g new ≡ durable g d.journal) → (Clean g new → Clean g d.journal) → ((db : Trees) → may_leave g new db → may_leave g d.journal db)
-    → IsBehind g (record { store = d.store; journal = new; names = d.names; prepared = d.prepared }) 0
-first-behind g d new c none settled limit remembered by_zero own named types kept is same was crash = record {
+    → IsBehind g (record { store = d.store; journal = new; names = d.names; prepared = d.prepared; strong = d.strong }) 0
+first-behind g d new c none settled limit remembered by_zero own strong named types kept is same was crash = record {
   journal = kept;
   types = λ clean. subst (λ (c : Contents). HasTypes c d.store.types) (sym (is clean)) (types (was clean));
   settled = λ clean db left. settled (was clean) db (crash db left) ∙ sym (same clean);
@@ -61,27 +62,28 @@ first-behind g d new c none settled limit remembered by_zero own named types kep
   remembered = omega (arith, remembered);
   inside = omega arith;
   history = λ clean. take-none d.store.history ∙ ap events_of_kinds (sym none) ∙ ap (λ (c : Contents). events_of_kinds c.events) (sym (is clean));
-  by_zero = λ clean. subst (λ H. H ≡ events_of_kinds (kinds H)) (sym (drop-none d.store.history)) by_zero;
+  by_zero = λ clean. subst (λ H. H ≡ events_of_kinds (kinds H)) (sym (drop-none d.store.history)) (by_zero (was clean));
+  strong = strong;
 }
 
 -- with the new epoch in the file
 pub begun-behind : {S : Type 0} (g : Ghosts S) (d : Durable S) (new : Journal S) (states : List FirstState) (life : ℕ) → IsAhead g d → states ≡ firsts d.store.types
     → IsJournal g new → (Clean g new → written g new ≡ in_life (from_states (written g d.journal) states) life) → (Clean g new → durable g new ≡ durable g d.journal)
     → (Clean g new → Clean g d.journal) → ((db : Trees) → may_leave g new db → may_leave g d.journal db)
-    → IsBehind g (record { store = d.store; journal = new; names = d.names; prepared = d.prepared }) 0
+    → IsBehind g (record { store = d.store; journal = new; names = d.names; prepared = d.prepared; strong = d.strong }) 0
 begun-behind g d new states life sound are kept is same was crash =
     let c = written g d.journal in
-    first-behind g d new (in_life (from_states c (firsts d.store.types)) life) refl sound.settled sound.limit sound.remembered sound.by_zero sound.own sound.named sound.types
+    first-behind g d new (in_life (from_states c (firsts d.store.types)) life) refl sound.settled sound.limit sound.remembered sound.by_zero sound.own sound.strong sound.named sound.types
     kept (λ clean. is clean ∙ ap (λ ss. in_life (from_states c ss) life) are) same was crash
 
 -- and with that of more objects
 pub grown-behind : {S : Type 0} (g : Ghosts S) (d : Durable S) (new : Journal S) (texts : List (List ℕ)) (lines : List ObjectLine) (states : List FirstState) (life : ℕ) → IsAheadBy g texts lines d → states ≡ firsts d.store.types
     → IsJournal g new → (Clean g new → written g new ≡ in_life (extended (written g d.journal) texts lines states) life) → (Clean g new → durable g new ≡ durable g d.journal)
     → (Clean g new → Clean g d.journal) → ((db : Trees) → may_leave g new db → may_leave g d.journal db)
-    → IsBehind g (record { store = d.store; journal = new; names = d.names; prepared = d.prepared }) 0
+    → IsBehind g (record { store = d.store; journal = new; names = d.names; prepared = d.prepared; strong = d.strong }) 0
 grown-behind g d new texts lines states life sound are kept is same was crash =
     let c = written g d.journal in
-    first-behind g d new (in_life (extended c texts lines (firsts d.store.types)) life) refl sound.settled sound.limit sound.remembered sound.by_zero sound.own sound.named sound.types
+    first-behind g d new (in_life (extended c texts lines (firsts d.store.types)) life) refl sound.settled sound.limit sound.remembered sound.by_zero sound.own sound.strong sound.named sound.types
     kept (λ clean. is clean ∙ ap (λ ss. in_life (extended c texts lines ss) life) are) same was crash
 
 -- what is prepared is still to be written
@@ -98,7 +100,7 @@ first-prepared H K c begun d ps qs history same is none kept are =
 pub prepared-behind : {S : Type 0} (g : Ghosts S) (d : Durable S) (count : ℕ) (new : Journal S) (those : List Prepared) → IsBehind g d count → IsJournal g new
     → (Clean g new → written g new ≡ with_all_prepared (written g d.journal) those) → (Clean g new → durable g new ≡ durable g d.journal)
     → (Clean g new → Clean g d.journal) → ((db : Trees) → may_leave g new db → may_leave g d.journal db)
-    → IsBehind g (record { store = d.store; journal = new; names = d.names; prepared = d.prepared }) count
+    → IsBehind g (record { store = d.store; journal = new; names = d.names; prepared = d.prepared; strong = d.strong }) count
 prepared-behind g d count new those late kept is same was crash = record {
   journal = kept;
   types = λ clean. subst (λ (c : Contents). HasTypes c d.store.types) (sym (is clean)) (late.types (was clean));
@@ -110,6 +112,7 @@ prepared-behind g d count new those late kept is same was crash = record {
   inside = late.inside;
   history = λ clean. late.history (was clean) ∙ ap (λ (c : Contents). events_of_kinds c.events) (sym (is clean));
   by_zero = λ clean. late.by_zero (was clean);
+  strong = late.strong;
 }
 
 -- what is written then

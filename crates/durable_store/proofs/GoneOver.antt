@@ -13,8 +13,7 @@ use Rattle.carried_runs.proofs.Renumbering.{number-below}
 use Rattle.journal.specs.declared.outcome_row.KeyedOutcome.{KeyedOutcome}
 use Rattle.journal.specs.declared.prepared_row.Prepared.{Prepared}
 use Rattle.journal.specs.Contents.{Contents}
-use Rattle.durable_store.specs.Held.{AreTheirNumbers, ArePrepared, moved_among, undecided}
-use Rattle.durable_store.proofs.HeldNumbers.{each-among}
+use Rattle.durable_store.specs.Held.{ArePrepared, moved_among, undecided}
 
 -- ---- what the first events say
 
@@ -59,11 +58,10 @@ prepared-alike H c d ps rows kept are = record {
 }
 
 -- it is prepared there too, with the numbers that it has there
-pub gone-over : (worker : ℕ → ℕ) (those : List ℕ) (order : List Entry) (H : List Event) (c : Contents) (ps : List Prepared) → ArePrepared H c ps → AreTheirNumbers ps those
+pub gone-over : (worker : ℕ → ℕ) (those : List ℕ) (order : List Entry) (H : List Event) (c : Contents) (ps : List Prepared) → ArePrepared H c ps → AllByRecursion (λ (p : Prepared). is_among those p.number ≡ true) ps
     → ArePrepared (carried_by worker those order) (record c { prepared = map (moved_among those) ps }) (map (moved_among those) ps)
-gone-over worker those order H c ps are in_order =
+gone-over worker those order H c ps are mine =
     let K = carried_by worker those order in
-    let mine = each-among ps those in_order in
     let low : (p : Prepared) → is_among those p.number ≡ true → number_in those p.number < length those = λ p inside. number-below those p.number inside in
     record {
       begun =

@@ -8,7 +8,6 @@ use Rattle.sqlite_trees.specs.Tree.{Trees}
 use Rattle.table_checker.specs.Checked.{Checked}
 use Rattle.object_trait.specs.Meaning.{Meaning}
 use Rattle.object_trait.specs.declared.event.Event.{Event}
-use Rattle.store.specs.Carries.{Carries}
 use Rattle.store.specs.Ends.{AreFresh}
 use Rattle.store_laws.specs.Stored.{Stored, types_of}
 use Rattle.store_text.specs.declared.line.ObjectLine.{ObjectLine}
@@ -20,12 +19,13 @@ use Rattle.durable_store.specs.declared.durable.Durable.{Durable}
 use Rattle.durable_store.specs.declared.growth.Growth.{Growth}
 use Rattle.durable_store.specs.declared.open_error.OpenError.{OpenError}
 use Rattle.durable_store.specs.declared.open_error.OpenError.TheVariants as error
-use Rattle.durable_store.specs.Durable.{kinds}
+use Rattle.durable_store.specs.Durable.{IsDurable, kinds}
 use Rattle.durable_store.specs.Epochs.{GoesOver}
 use Rattle.durable_store.specs.Growth.{AreAdded, ArePlaced, AreUnknown, Grows, LeavesGrowth, RefusesGrowth, grown}
 use Rattle.durable_store.specs.GrowthParts.{IsGrowth, LeavesGrown, RefusesObjects}
-use Rattle.durable_store.specs.Held.{AreTheirNumbers, moved_among}
-use Rattle.durable_store.proofs.Carried.{goes}
+use Rattle.durable_store.specs.Held.{moved_among}
+use Rattle.durable_store.specs.NextStore.{BeginsNext, GoOver}
+use Rattle.durable_store.proofs.NextStores.{goes}
 
 -- from the same store, with the same transactions prepared
 pub over-alike : (added : List Checked) (old was : Stored) (rows were : List Prepared) (new : Stored) (ps : List Prepared) → was ≡ old → were ≡ rows → GoesOver added was were new ps → GoesOver added old rows new ps
@@ -90,12 +90,12 @@ grown-by g d new texts fresh lines placed types H ps same alike leaves = λ db l
 
 -- what a crash leaves of a store that is ahead
 pub leaves-grown : {S : Type 0} (g : Ghosts S) (d : Durable S) (those : List ℕ) (store : Stored) (ps : Vec Prepared Global) (new : Durable S) (fresh : List (List ℕ)) (placed : List ObjectLine) (added : List Checked)
-    → AreTheirNumbers d.prepared.items those → ps.items ≡ map (moved_among those) d.prepared.items → Carries d.store 0 those added store
+    → IsDurable g d → GoOver d.strong d.store.history d.prepared.items those → BeginsNext d.strong d.store those added store → ps.items ≡ map (moved_among those) d.prepared.items
     → ((db : Trees) → may_leave g new.journal db
     → (Clean g d.journal × IsFile db × (contents_of db ≡ grown (written g d.journal) fresh placed store.types (kinds store.history) ps.items) × ((written g d.journal).headers ≡ d.journal.header ∷ [])) ⊎ may_leave g d.journal db)
     → LeavesGrown g fresh placed added d new
-leaves-grown g d those store ps new fresh placed added in_order are carries leaves = λ db left. elim (leaves db left) [
-  | inl is ↦ inl (is.0, is.1, (record store { forgotten = length store.history }, ps.items, goes added d.store d.prepared.items those store ps.items in_order carries are, is.2), is.3)
+leaves-grown g d those store ps new fresh placed added sound going begins are leaves = λ db left. elim (leaves db left) [
+  | inl is ↦ inl (is.0, is.1, (record store { forgotten = length store.history }, ps.items, goes d.strong added d.store d.prepared.items those store ps.items sound.strong going begins are, is.2), is.3)
   | inr before ↦ inr before
 ]
 

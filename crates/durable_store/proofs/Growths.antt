@@ -1,5 +1,5 @@
 -- A store that has begun anew with more objects is ahead of its journal: their types are those of a file that has their texts and lines too.
-use Rattle.std.proofs.Common.{◌≡◌, ◌∙◌, inl, inr, ℕ, ◌+◌, ◌-◌, ◌<◌, zero, suc, List, [], ◌∷◌, ◌++◌, map, length, get_or, None, Some, refl, sym, ap, subst, arith}
+use Rattle.std.proofs.Common.{◌≡◌, ◌↔◌, ◌∙◌, Bool, true, inl, inr, ℕ, ◌+◌, ◌-◌, ◌<◌, zero, suc, List, [], ◌∷◌, ◌++◌, map, length, get_or, None, Some, refl, sym, ap, subst, arith}
 use Rattle.std.specs.declared.alloc.Global.{Global}
 use Rattle.std.specs.declared.vec.Vec.{Vec}
 use Rattle.std.specs.Prelude.{slice_get}
@@ -10,14 +10,14 @@ use Rattle.type_table.proofs.Elements.{found-front, slice_get-front}
 use Rattle.sqlite_trees.specs.declared.store.Store.{Ghosts}
 use Rattle.declared_types.specs.declared.declared_type.Declaration.{Declaration}
 use Rattle.declared_types.specs.Declarations.{file_of, IsDeclaredFor}
-use Rattle.table_checker.specs.At.{checked_at, IsInside}
+use Rattle.table_checker.specs.At.{AtIsStrong, checked_at, IsInside}
 use Rattle.table_checker.specs.Checked.{Checked, IsChecked}
 use Rattle.object_types.specs.Types.{AreTypesOf}
 use Rattle.object_types.proofs.CheckedTypes.{types_checked}
 use Rattle.object_types.proofs.Pairs.{Each}
 use Rattle.serial_order.specs.Epochs.{types_at}
 use Rattle.serial_order.proofs.EpochTypes.{length-types_at}
-use Rattle.store.specs.Carries.{Carries}
+use Rattle.carried_orders.specs.Orders.{AreStrong}
 use Rattle.store.specs.Retraces.{IsTracedHistory}
 use Rattle.store_laws.specs.Stored.{Stored}
 use Rattle.store_text.specs.declared.line.ObjectLine.{ObjectLine}
@@ -31,13 +31,14 @@ use Rattle.durable_store.specs.Names.{IndexesNames}
 use Rattle.durable_store.specs.Begun.{AreRead}
 use Rattle.durable_store.specs.Durable.{IsDurable}
 use Rattle.durable_store.specs.Epochs.{firsts}
-use Rattle.durable_store.specs.Held.{AreTheirNumbers, moved_among}
+use Rattle.durable_store.specs.Held.{moved_among}
 use Rattle.durable_store.specs.Growth.{AreAdded, ArePlaced, HavePlaces}
 use Rattle.durable_store.specs.GrowthParts.{ArePlacesOf, IsAheadBy}
 use Rattle.durable_store.specs.Types.{AreTypes, HasTypes, IsTypeAt}
 use Rattle.durable_store.proofs.Begun.{are-types}
-use Rattle.durable_store.proofs.Carried.{has-kept, over-by-zero, prepared-over}
+use Rattle.durable_store.proofs.Carried.{IsCarried, has-kept, over-by-zero, prepared-over}
 use Rattle.durable_store.proofs.New.{at-own, first-of}
+use Rattle.durable_store.proofs.StrongOver.{strong-grown}
 
 -- ---- what is added
 
@@ -150,27 +151,29 @@ has-grown c fresh placed types added has are =
     (types-behind (c.types ++ fresh) c.objects placed (firsts types) (firsts added) types added (more-texts c.types fresh c.objects (firsts types) types has) are)
 
 -- after a new epoch of the store alone
-pub ahead-by : {S : Type 0} (g : Ghosts S) (d : Durable S) (those : List ℕ) (new : Stored) (ps : Vec Prepared Global) (names : ObjectNames) (fresh : List (List ℕ)) (placed : List ObjectLine) (added : List Checked)
-    → IsDurable g d → AreTheirNumbers d.prepared.items those → ps.items ≡ map (moved_among those) d.prepared.items → Carries d.store 0 those added new → IsTracedHistory new → length placed ≡ length added
-    → (Clean g d.journal → AreAdded ((written g d.journal).types ++ fresh) placed added) → (Clean g d.journal → IndexesNames ((written g d.journal).objects ++ placed) names)
-    → IsAheadBy g fresh placed (record { store = new; journal = d.journal; names = names; prepared = ps })
-ahead-by g d those new ps names fresh placed added sound in_order moved carries traced as-many are named =
-    let now = types_at d.store.types carries.kept in
-    let types : new.types ≡ now ++ added = ap (λ (s : Stored). s.types) carries.is in
-    let long : length now ≡ length d.store.types = length-types_at d.store.types carries.kept carries.epoch.as_many in
+pub ahead-by : {S : Type 0} (g : Ghosts S) (d : Durable S) (those : List ℕ) (new : Stored) (ps : Vec Prepared Global) (names : ObjectNames) (still : Bool) (fresh : List (List ℕ)) (placed : List ObjectLine) (added : List Checked)
+    → AtIsStrong → IsDurable g d → IsCarried g d those added new → ps.items ≡ map (moved_among those) d.prepared.items → IsTracedHistory new → (still ≡ true) ↔ ((d.strong ≡ true) × AreStrong added)
+    → length placed ≡ length added → (Clean g d.journal → AreAdded ((written g d.journal).types ++ fresh) placed added) → (Clean g d.journal → IndexesNames ((written g d.journal).objects ++ placed) names)
+    → IsAheadBy g fresh placed (record { store = new; journal = d.journal; names = names; prepared = ps; strong = still })
+ahead-by g d those new ps names still fresh placed added at sound carried moved traced stays as-many are named =
+    let begins = carried.begins in
+    let now = types_at d.store.types begins.kept in
+    let types : new.types ≡ now ++ added = ap (λ (s : Stored). s.types) begins.is in
+    let long : length now ≡ length d.store.types = length-types_at d.store.types begins.kept begins.epoch.as_many in
     record {
       journal = sound.journal;
       settled = sound.settled;
-      limit = ap (λ (s : Stored). s.limits) carries.is ∙ sound.limit;
-      remembered = ap (λ (s : Stored). s.forgotten) carries.is;
-      by_zero = over-by-zero d.store those added new carries;
+      limit = ap (λ (s : Stored). s.limits) begins.is ∙ sound.limit;
+      remembered = ap (λ (s : Stored). s.forgotten) begins.is;
+      by_zero = over-by-zero g d those added new carried;
       own = traced;
+      strong = subst (λ ts. (still ≡ true) ↔ AreStrong ts) (sym types) (strong-grown at d.store.types begins.kept added d.strong still begins.epoch.as_many sound.strong stays);
       named = named;
       some = omega (arith, ap length types, length-append now added, as-many);
       as_many = λ clean. omega (arith, ap length types, length-append now added, as-many, long, (sound.types clean).as_many, (sound.types clean).as_many_states);
       objects = λ clean. sym (sound.types clean).as_many_states;
       types = λ clean.
           subst (λ ts. HasTypes (extended (written g d.journal) fresh placed (firsts ts)) ts) (sym types)
-          (has-grown (written g d.journal) fresh placed now added (has-kept (written g d.journal) d.store those added new carries (sound.types clean)) (are clean));
-      prepared = prepared-over g d those added new ps.items sound in_order moved carries;
+          (has-grown (written g d.journal) fresh placed now added (has-kept (written g d.journal) d.store carried.worker those added new begins (sound.types clean)) (are clean));
+      prepared = prepared-over g d those added new ps.items sound carried moved;
     }

@@ -1,5 +1,5 @@
 -- Keys under which transactions are prepared.
-use Rattle.std.proofs.Common.{◌≡◌, ◌≢◌, ◌∙◌, ℕ, ◌<◌, Bool, true, false, cond, not, if◌then◌else◌, List, [], ◌∷◌, ◌++◌, filter, Option, Some, None, inl, inr, refl, sym, ap, subst}
+use Rattle.std.proofs.Common.{◌≡◌, ◌≢◌, ◌↔◌, ◌∙◌, ℕ, ◌<◌, Bool, true, false, cond, not, if◌then◌else◌, List, [], ◌∷◌, ◌++◌, filter, Option, Some, None, inl, inr, refl, sym, ap, subst}
 use Rattle.std.specs.Prelude.{Vec, ◌==◌}
 use Rattle.std.specs.declared.alloc.Global.{Global}
 use Rattle.std.specs.List.{AllByRecursion}
@@ -23,6 +23,7 @@ use Rattle.journal.specs.declared.outcome_row.Outcome.{Outcome}
 use Rattle.journal.specs.declared.prepared_row.Prepared.{Prepared}
 use Rattle.journal.specs.Contents.{Contents, with_outcome, with_prepared}
 use Rattle.journal.specs.Journal.{Clean, IsJournal, durable, may_leave, written}
+use Rattle.carried_orders.specs.Orders.{AreStrong}
 use Rattle.store.specs.Retraces.{IsTracedHistory}
 use Rattle.store_laws.specs.Stored.{Stored}
 use Rattle.durable_store.specs.declared.durable.Durable.{Durable}
@@ -147,11 +148,11 @@ prepared-kept H c ps o alone are = record {
 
 -- ---- a store whose file has other rows of who is prepared, or another outcome
 
-pub still-sound : {S : Type 0} (g : Ghosts S) (d now : Durable S) (rows : List Prepared) (outcomes : ℕ → Option KeyedOutcome) → IsDurable g d → now.store ≡ d.store → now.names ≡ d.names → IsJournal g now.journal
+pub still-sound : {S : Type 0} (g : Ghosts S) (d now : Durable S) (rows : List Prepared) (outcomes : ℕ → Option KeyedOutcome) → IsDurable g d → now.store ≡ d.store → now.names ≡ d.names → now.strong ≡ d.strong → IsJournal g now.journal
     → (Clean g now.journal → written g now.journal ≡ record (written g d.journal) { prepared = rows; outcomes = outcomes }) → (Clean g now.journal → durable g now.journal ≡ durable g d.journal)
     → (Clean g now.journal → Clean g d.journal) → ((db : Trees) → may_leave g now.journal db → may_leave g d.journal db)
     → (Clean g d.journal → ArePrepared d.store.history (record (written g d.journal) { prepared = rows; outcomes = outcomes }) now.prepared.items) → IsDurable g now
-still-sound g d now rows outcomes sound store names kept is same was crash are = record {
+still-sound g d now rows outcomes sound store names known kept is same was crash are = record {
   journal = kept;
   history = λ clean. ap (λ (s : Stored). s.history) store ∙ sound.history (was clean) ∙ ap (λ (c : Contents). events_of_kinds c.events) (sym (is clean));
   types = λ clean.
@@ -165,6 +166,7 @@ still-sound g d now rows outcomes sound store names kept is same was crash are =
   prepared = λ clean.
       subst (λ (c : Contents). ArePrepared now.store.history c now.prepared.items) (sym (is clean))
       (subst (λ (s : Stored). ArePrepared s.history (record (written g d.journal) { prepared = rows; outcomes = outcomes }) now.prepared.items) (sym store) (are (was clean)));
+  strong = subst (λ b. (b ≡ true) ↔ AreStrong now.store.types) (sym known) (subst (λ (s : Stored). (d.strong ≡ true) ↔ AreStrong s.types) (sym store) sound.strong);
 }
 
 -- ---- what is known of a key

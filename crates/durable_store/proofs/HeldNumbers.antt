@@ -4,15 +4,17 @@ use Rattle.std.specs.List.{AllByRecursion, AllPairs, dedup, slice_index}
 use Rattle.std.specs.List.Sorted.{IsBinarySearchResult, IsPermutation, IsSorted, IsStrictlyIncreasing}
 use Rattle.std.specs.Option.{option_map}
 use Rattle.std.specs.Ordering.{nat_cmp}
-use Rattle.std.proofs.lemmas.Bool.{cases_lt, eq-eqb}
+use Rattle.std.proofs.lemmas.Bool.{cases_Bool, eq-eqb, eqb-true, false≢true}
 use Rattle.std.proofs.lemmas.List.{map_push}
 use Rattle.std.proofs.lemmas.List.Folds.{list_any_at}
 use Rattle.std.proofs.lemmas.List.Kept.{AllPairs-from_increasing}
-use Rattle.std.proofs.lemmas.List.Sorted.{searched}
 use Rattle.std.proofs.lemmas.Option.{get_or_from_slice_get, slice_get-map, slice_get_within}
-use Rattle.type_table.proofs.Elements.{each-places, take-found}
+use Rattle.type_table.proofs.Elements.{each-places, each-weaker, take-found}
 use Rattle.object_trait.specs.Orders.{Pairs}
 use Rattle.serial_order.specs.Operations.{is_among}
+use Rattle.serial_order.proofs.Pairs.{each-all}
+use Rattle.carried_runs.specs.Carried.{number_in}
+use Rattle.carried_runs.proofs.FirstEvents.{is-place}
 use Rattle.journal.specs.declared.prepared_row.Prepared.{Prepared}
 use Rattle.store.proofs.SortedNumbers.{sorted-once}
 use Rattle.durable_store.specs.Held.{AreTheirNumbers, prepared_numbers}
@@ -32,29 +34,21 @@ each-below (n ∷ ns) pairs = (
 pub ascends : (ns : List ℕ) → IsStrictlyIncreasing ns → Pairs (λ a b. a < b) ns
 ascends ns rises = each-below ns (AllPairs-from_increasing ns rises)
 
--- they rise
-rising : (ns : List ℕ) → IsStrictlyIncreasing ns → (i j : ℕ) → i ≤ j → j < length ns → get_or ns i 0 ≤ get_or ns j 0
-rising ns rises i j low inside =
-    elim (cases_lt i j) [
-      | inl less ↦ (let apart = AllPairs-from_increasing ns rises i j 0 less inside in omega (arith, apart))
-      | inr rest ↦ (let same : i ≡ j = omega (arith, low, rest) in subst (λ k. get_or ns i 0 ≤ get_or ns k 0) same (omega arith))
+-- the number of one of them is no greater than it
+number-from : (ns : List ℕ) (n t : ℕ) → Pairs (λ a b. a < b) ns → AllByRecursion (λ b. n ≤ b) ns → is_among ns t ≡ true → n + number_in ns t ≤ t
+number-from [] n t ascend low inside = absurd (false≢true inside)
+number-from (u ∷ ns) n t ascend low inside =
+    elim (cases_Bool (u == t)) [
+      | inl is ↦ rw is (let same = eqb-true u t is in omega (arith, low.0, same))
+      | inr isnt ↦ rw isnt (let rest = number-from ns (suc n) t ascend.1 (each-weaker (λ b less. omega (arith, less, low.0)) ns ascend.0) (rw isnt at inside) in omega (arith, rest))
     ]
 
--- none is less than its place
-place-within : (ns : List ℕ) → IsStrictlyIncreasing ns → (i : ℕ) → i < length ns → i ≤ get_or ns i 0
-place-within ns rises zero inside = omega arith
-place-within ns rises (suc i) inside =
-    let before = place-within ns rises i (omega (arith, inside)) in
-    let more : i + 1 ≡ suc i = omega arith in
-    let next : slice_index ns i < slice_index ns (suc i) = subst (λ k. slice_index ns i < slice_index ns k) more (rises i (omega (arith, inside))) in
-    omega (arith, before, next)
-
 -- so the place of t is no greater than t
-pub found-within : (ns : List ℕ) (t i : ℕ) → IsStrictlyIncreasing ns → IsBinarySearchResult (λ y. nat_cmp y t) ns (Ok i) → i ≤ t
-found-within ns t i rises says =
-    let at = searched ns t (Ok i) says (rising ns rises) in
-    let low = place-within ns rises i at.0 in
-    omega (arith, low, at.1)
+pub found-within : (ns : List ℕ) (t i : ℕ) → Pairs (λ a b. a < b) ns → IsBinarySearchResult (λ y. nat_cmp y t) ns (Ok i) → i ≤ t
+found-within ns t i ascend says =
+    let its = is-place ns t i ascend says in
+    let low = number-from ns 0 t ascend (each-all (λ b. omega arith) ns) its.0 in
+    omega (arith, low, its.1)
 
 -- ---- in their order
 

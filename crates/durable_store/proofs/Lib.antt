@@ -5,6 +5,8 @@ pub mod CatchUp
 pub mod Firsts
 pub mod Found
 pub mod Growths
+pub mod StrongOver
+pub mod NextStores
 pub mod Carried
 pub mod EpochWrites
 mod Followed

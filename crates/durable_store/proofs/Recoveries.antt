@@ -27,7 +27,7 @@ raised-prepared H c now life ps is are = subst (λ (n : Contents). ArePrepared H
 
 pub raised-durable : {S : Type 0} (g : Ghosts S) (d : Durable S) (raised : Journal S) (life : ℕ) → IsDurable g d → IsJournal g raised → (Clean g raised → written g raised ≡ in_life (written g d.journal) life)
     → (Clean g raised → durable g raised ≡ durable g d.journal) → (Clean g raised → Clean g d.journal) → ((db : Trees) → may_leave g raised db → may_leave g d.journal db)
-    → IsDurable g (record { store = d.store; journal = raised; names = d.names; prepared = d.prepared })
+    → IsDurable g (record { store = d.store; journal = raised; names = d.names; prepared = d.prepared; strong = d.strong })
 raised-durable g d raised life sound kept is same was crash = record {
   journal = kept;
   history = λ clean. sound.history (was clean) ∙ ap (λ (c : Contents). events_of_kinds c.events) (sym (is clean));
@@ -37,6 +37,7 @@ raised-durable g d raised life sound kept is same was crash = record {
   own = sound.own;
   named = λ clean. subst (λ (c : Contents). IndexesNames c.objects d.names) (sym (is clean)) (sound.named (was clean));
   prepared = λ clean. raised-prepared d.store.history (written g d.journal) (written g raised) life d.prepared.items (is clean) (sound.prepared (was clean));
+  strong = sound.strong;
 }
 
 -- what is written then is the file as an open leaves it

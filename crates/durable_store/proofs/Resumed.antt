@@ -1,5 +1,5 @@
 -- A store that is made again of its file.
-use Rattle.std.proofs.Common.{◌≡◌, ◌∙◌, List, ◌++◌, sym, ap, subst, inl, inr}
+use Rattle.std.proofs.Common.{◌≡◌, ◌↔◌, ◌∙◌, Bool, true, List, ◌++◌, sym, ap, subst, inl, inr}
 use Rattle.std.specs.Prelude.{◌⊎◌}
 use Rattle.std.specs.declared.alloc.Global.{Global}
 use Rattle.std.specs.declared.vec.Vec.{Vec}
@@ -7,6 +7,7 @@ use Rattle.sqlite_trees.specs.declared.store.Store.{Ghosts}
 use Rattle.sqlite_trees.specs.Tree.{Trees}
 use Rattle.object_trait.specs.declared.event.Event.{Event}
 use Rattle.store.specs.Ends.{closing_but}
+use Rattle.carried_orders.specs.Orders.{AreStrong}
 use Rattle.store.specs.Retraces.{IsTracedHistory}
 use Rattle.store_laws.specs.Stored.{Stored}
 use Rattle.journal.specs.declared.contents.FileContents.{FileContents}
@@ -37,9 +38,10 @@ pub record IsReadAgain {S : Type 0} (g : Ghosts S) (journal read : Journal S) (s
   pub crash : (db : Trees) → may_leave g read db → may_leave g journal db
 
 -- the store is sound before its recovery
-pub resumed : {S : Type 0} (g : Ghosts S) (journal read : Journal S) (said : FileContents) (store : Stored) (names : ObjectNames) (ps : Vec Prepared Global) → IsReadAgain g journal read said store
-    → IndexesNames said.objects.items names → (Clean g read → ArePrepared store.history (written g journal) ps.items) → IsDurable g (record { store = store; journal = read; names = names; prepared = ps })
-resumed g journal read said store names ps it named are = record {
+pub resumed : {S : Type 0} (g : Ghosts S) (journal read : Journal S) (said : FileContents) (store : Stored) (names : ObjectNames) (ps : Vec Prepared Global) (strong : Bool) → IsReadAgain g journal read said store
+    → IndexesNames said.objects.items names → (Clean g read → ArePrepared store.history (written g journal) ps.items) → (strong ≡ true) ↔ AreStrong store.types
+    → IsDurable g (record { store = store; journal = read; names = names; prepared = ps; strong = strong })
+resumed g journal read said store names ps strong it named are told = record {
   journal = it.kept;
   history = λ clean. it.of.history ∙ ap (λ (c : Contents). events_of_kinds c.events) (sym (it.written clean ∙ it.same (it.clean clean) ∙ it.says (it.clean clean)));
   types = λ clean. subst (λ (c : Contents). HasTypes c store.types) (sym (it.written clean ∙ it.same (it.clean clean) ∙ it.says (it.clean clean))) it.of.types;
@@ -48,6 +50,7 @@ resumed g journal read said store names ps it named are = record {
   own = it.own;
   named = λ clean. subst (λ (c : Contents). IndexesNames c.objects names) (sym (it.written clean ∙ it.same (it.clean clean) ∙ it.says (it.clean clean))) named;
   prepared = λ clean. subst (λ (c : Contents). ArePrepared store.history c ps.items) (sym (it.written clean)) (are clean);
+  strong = told;
 }
 
 -- and recovered afterwards

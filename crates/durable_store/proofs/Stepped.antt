@@ -1,5 +1,5 @@
 -- A command of the store makes an event at most, which the journal hasn't yet.
-use Rattle.std.proofs.Common.{◌≡◌, ◌∙◌, ℕ, ◌≤◌, List, [], ◌∷◌, ◌++◌, if◌then◌else◌, length, take, drop, Option, Some, None, Result, is_some, inl, inr, refl, sym, ap, ap₂, subst, append-nil, arith}
+use Rattle.std.proofs.Common.{◌≡◌, ◌↔◌, ◌∙◌, true, ℕ, ◌≤◌, List, [], ◌∷◌, ◌++◌, if◌then◌else◌, length, take, drop, Option, Some, None, Result, is_some, inl, inr, refl, sym, ap, ap₂, subst, append-nil, arith}
 use Rattle.std.proofs.lemmas.List.{length-append}
 use Rattle.std.proofs.Math.Seq.{drop-append_seam, take-append_seam}
 use Rattle.sqlite_trees.specs.declared.store.Store.{Ghosts}
@@ -9,6 +9,7 @@ use Rattle.serial_order.specs.History.{summary}
 use Rattle.serial_order.specs.Replay.{appended, event_of}
 use Rattle.serial_order.specs.declared.command.Command.{Command}
 use Rattle.serial_order.specs.declared.refusal.Refusal.{Refusal}
+use Rattle.carried_orders.specs.Orders.{AreStrong}
 use Rattle.store_laws.specs.Stored.{MayStep, Steps, Stored, objects, refusal_of}
 use Rattle.store.specs.Retraces.{IsTracedHistory, StepsAreTraced}
 use Rattle.journal.specs.Journal.{written}
@@ -17,7 +18,7 @@ use Rattle.durable_store.specs.Types.{HasTypes}
 use Rattle.durable_store.specs.Durable.{IsBehind, IsDurable, events_of_kinds, kinds}
 
 -- what happened, back from the events
-kinds-back : (happened : List EventKind) → kinds (events_of_kinds happened) ≡ happened
+pub kinds-back : (happened : List EventKind) → kinds (events_of_kinds happened) ≡ happened
 kinds-back [] = refl
 kinds-back (k ∷ more) = ap (λ ks. k ∷ ks) (kinds-back more)
 
@@ -29,7 +30,7 @@ appends H None (Some kind) = (kind ∷ [], refl)
 
 -- a store that has more events than the journal
 pub behind-more : {S : Type 0} (g : Ghosts S) (d : Durable S) (s : Stored) (count : ℕ) (more : List EventKind) → IsDurable g d → count ≡ length d.store.history → d.store.forgotten ≤ count
-    → s ≡ record d.store { history = d.store.history ++ events_of_kinds more } → IsTracedHistory s → IsBehind g (record { store = s; journal = d.journal; names = d.names; prepared = d.prepared }) count
+    → s ≡ record d.store { history = d.store.history ++ events_of_kinds more } → IsTracedHistory s → IsBehind g (record { store = s; journal = d.journal; names = d.names; prepared = d.prepared; strong = d.strong }) count
 behind-more g d s count more sound is remembered now own =
     let events = events_of_kinds more in
     let history : s.history ≡ d.store.history ++ events = ap (λ (s : Stored). s.history) now in
@@ -46,11 +47,12 @@ behind-more g d s count more sound is remembered now own =
       inside = omega (arith, long, is);
       history = λ clean. ap₂ take is history ∙ take-append_seam d.store.history events ∙ sound.history clean;
       by_zero = λ clean. rest ∙ ap events_of_kinds (sym (kinds-back more) ∙ ap kinds (sym rest));
+      strong = subst (λ (s : Stored). (d.strong ≡ true) ↔ AreStrong s.types) (sym now) sound.strong;
     }
 
 -- a store that did a command
 pub done-behind : {S T : Type 0} (g : Ghosts S) (d : Durable S) (command : Command) (r : Result T Refusal) (s : Stored) (count : ℕ) → StepsAreTraced → IsDurable g d → count ≡ length d.store.history
-    → d.store.forgotten ≤ count → Steps d.store 0 command r s → IsBehind g (record { store = s; journal = d.journal; names = d.names; prepared = d.prepared }) count
+    → d.store.forgotten ≤ count → Steps d.store 0 command r s → IsBehind g (record { store = s; journal = d.journal; names = d.names; prepared = d.prepared; strong = d.strong }) count
 done-behind g d command r s count steps sound is remembered step =
     let it = appends d.store.history (refusal_of d.store command) (event_of (objects d.store) (summary d.store.history) command) in
     behind-more g d s count it.0 sound is remembered (step.1 ∙ ap (λ H. record d.store { history = H }) it.1)
@@ -58,7 +60,7 @@ done-behind g d command r s count steps sound is remembered step =
 
 -- or may have done it, where memory wasn't refused
 pub step-behind : {S T : Type 0} (g : Ghosts S) (d : Durable S) (command : Command) (r : Result T Refusal) (s : Stored) (count : ℕ) → StepsAreTraced → IsDurable g d → count ≡ length d.store.history
-    → d.store.forgotten ≤ count → MayStep d.store 0 command r s → IsBehind g (record { store = s; journal = d.journal; names = d.names; prepared = d.prepared }) count
+    → d.store.forgotten ≤ count → MayStep d.store 0 command r s → IsBehind g (record { store = s; journal = d.journal; names = d.names; prepared = d.prepared; strong = d.strong }) count
 step-behind g d command r s count steps sound is remembered may = elim may [
   | inl step ↦ done-behind g d command r s count steps sound is remembered step
   | inr refused ↦
@@ -67,7 +69,7 @@ step-behind g d command r s count steps sound is remembered may = elim may [
 ]
 
 -- whoever is prepared
-pub behind-alike : {S : Type 0} (g : Ghosts S) (d now : Durable S) (count : ℕ) → IsBehind g (record { store = now.store; journal = now.journal; names = now.names; prepared = d.prepared }) count → IsBehind g now count
+pub behind-alike : {S : Type 0} (g : Ghosts S) (d now : Durable S) (count : ℕ) → IsBehind g (record { store = now.store; journal = now.journal; names = now.names; prepared = d.prepared; strong = now.strong }) count → IsBehind g now count
 behind-alike g d now count late = record {
   journal = late.journal;
   types = late.types;
@@ -79,4 +81,5 @@ behind-alike g d now count late = record {
   inside = late.inside;
   history = late.history;
   by_zero = late.by_zero;
+  strong = late.strong;
 }

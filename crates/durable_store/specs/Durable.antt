@@ -1,10 +1,11 @@
 -- What a durable store keeps: the history of its store is what its journal has written.
-use Rattle.std.specs.Prelude.{◌≡◌, ℕ, Bool, ◌≤◌, List, ◌++◌, map, take, drop, length}
+use Rattle.std.specs.Prelude.{◌≡◌, ◌↔◌, ℕ, Bool, true, ◌≤◌, List, ◌++◌, map, take, drop, length}
 use Rattle.sqlite_trees.specs.declared.store.Store.{Ghosts}
 use Rattle.sqlite_trees.specs.Tree.{Trees}
 use Rattle.durable_store.specs.FileLimits.{file_limits}
 use Rattle.object_trait.specs.declared.event.Event.{Event}
 use Rattle.object_trait.specs.declared.event.EventKind.{EventKind}
+use Rattle.carried_orders.specs.Orders.{AreStrong}
 use Rattle.store.specs.Retraces.{IsTracedHistory}
 use Rattle.journal.specs.Contents.{Contents}
 use Rattle.journal.specs.Journal.{Clean, IsJournal, IsSettled, durable, may_leave, written}
@@ -35,8 +36,8 @@ with_all c more = record c { events = c.events ++ kinds more }
 abbrev pub prepared_in : Contents → List Prepared
 prepared_in c = undecided (events_of_kinds c.events) c.prepared
 
--- the journal has the whole history, which the store's commands made; the types are those of its objects, and so are the names; it knows who is prepared;
--- and a crash at this moment leaves what was settled
+-- the journal has the whole history, which the store's commands made; the types are those of its objects, and so are the names; it knows who is prepared,
+-- and whether each yes is strong; and a crash at this moment leaves what was settled
 pub record IsDurable {S : Type 0} (g : Ghosts S) (d : Durable S) : Type 0 where
   pub journal : IsJournal g d.journal
   pub history : Clean g d.journal → d.store.history ≡ events_of_kinds (written g d.journal).events
@@ -46,6 +47,7 @@ pub record IsDurable {S : Type 0} (g : Ghosts S) (d : Durable S) : Type 0 where
   pub own : IsTracedHistory d.store
   pub named : Clean g d.journal → IndexesNames (written g d.journal).objects d.names
   pub prepared : Clean g d.journal → ArePrepared d.store.history (written g d.journal) d.prepared.items
+  pub strong : (d.strong ≡ true) ↔ AreStrong d.store.types
 
 -- but for the events after the first ones, as many as these, which the journal hasn't yet, and but for who is prepared
 pub record IsBehind {S : Type 0} (g : Ghosts S) (d : Durable S) (count : ℕ) : Type 0 where
@@ -59,6 +61,7 @@ pub record IsBehind {S : Type 0} (g : Ghosts S) (d : Durable S) (count : ℕ) : 
   pub inside : count ≤ length d.store.history
   pub history : Clean g d.journal → take count d.store.history ≡ events_of_kinds (written g d.journal).events
   pub by_zero : Clean g d.journal → drop count d.store.history ≡ events_of_kinds (kinds (drop count d.store.history))
+  pub strong : (d.strong ≡ true) ↔ AreStrong d.store.types
 
 -- transaction t is prepared and not decided
 abbrev pub is_prepared : {S : Type 0} → Durable S → ℕ → Bool

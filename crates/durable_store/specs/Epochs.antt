@@ -1,7 +1,8 @@
 -- A new epoch of a durable store.
-use Rattle.std.specs.Prelude.{◌≡◌, ◌⊎◌, ℕ, List, ◌∷◌, [], ◌++◌, map, length}
+use Rattle.std.specs.Prelude.{◌≡◌, ◌⊎◌, ◌↔◌, ℕ, true, List, ◌∷◌, [], ◌++◌, map, length}
 use Rattle.sqlite_trees.specs.declared.store.Store.{Ghosts}
 use Rattle.sqlite_trees.specs.Tree.{Trees}
+use Rattle.object_trait.specs.Meaning.{Meaning}
 use Rattle.object_trait.specs.declared.event.EventKind.{EventKind}
 use Rattle.table_checker.specs.Checked.{Checked}
 use Rattle.journal.specs.declared.prepared_row.Prepared.{Prepared}
@@ -9,8 +10,11 @@ use Rattle.journal.specs.declared.state_row.FirstState.{FirstState}
 use Rattle.journal.specs.Contents.{Contents, IsFile, contents_of, from_states, in_life}
 use Rattle.journal.specs.Journal.{Clean, IsJournal, IsSettled, may_leave, written}
 use Rattle.store_laws.specs.Stored.{Stored}
-use Rattle.store.specs.Carries.{Carries}
+use Rattle.carried_orders.specs.Orders.{AreStrong}
+use Rattle.store.specs.Carries.{Carries, RefusesCarry}
+use Rattle.store.specs.CarriesAll.{CarriesAll, IsUnseen, RefusesAll, open_ones}
 use Rattle.store.specs.Retraces.{IsTracedHistory}
+use Rattle.store.specs.declared.refusals.CarryRefusal.{CarryRefusal}
 use Rattle.durable_store.specs.declared.durable.Durable.{Durable}
 use Rattle.durable_store.specs.Durable.{events_of_kinds, kinds}
 use Rattle.durable_store.specs.FileLimits.{file_limits}
@@ -45,8 +49,9 @@ pub record IsAhead {S : Type 0} (g : Ghosts S) (d : Durable S) : Type 0 where
   pub settled : Clean g d.journal → IsSettled g d.journal
   pub limit : d.store.limits ≡ file_limits
   pub remembered : d.store.forgotten ≡ 0
-  pub by_zero : d.store.history ≡ events_of_kinds (kinds d.store.history)
+  pub by_zero : Clean g d.journal → d.store.history ≡ events_of_kinds (kinds d.store.history)
   pub own : IsTracedHistory d.store
+  pub strong : (d.strong ≡ true) ↔ AreStrong d.store.types
   pub named : Clean g d.journal → IndexesNames (written g d.journal).objects d.names
   pub as_many : Clean g d.journal → length d.store.types ≡ length (written g d.journal).states
   pub types : Clean g d.journal → HasTypes (from_states (written g d.journal) (firsts d.store.types)) d.store.types
@@ -56,12 +61,19 @@ pub record IsAhead {S : Type 0} (g : Ghosts S) (d : Durable S) : Type 0 where
 abbrev pub CarriesOver : Stored → List ℕ → List Checked → Stored → Type 0
 CarriesOver old those added new = (s : Stored) × Carries old 0 those added s × (new ≡ record s { forgotten = length s.history })
 
--- it begins anew: what is prepared goes over, and has other numbers there
-pub record GoesOver (added : List Checked) (old : Stored) (prepared : List Prepared) (new : Stored) (now : List Prepared) : Type 0 where
-  pub those : List ℕ
-  pub in_order : AreTheirNumbers prepared those
-  pub carries : CarriesOver old those added new
-  pub renumbers : now ≡ map (moved_among those) prepared
+-- all that is open, so that no later answer can tell it where each yes of what is added is strong too
+abbrev pub CarriesAllOver : Stored → List Checked → Stored → Type 0
+CarriesAllOver old added new = (s : Stored) × CarriesAll old added s × (AreStrong (old.types ++ added) → IsUnseen old added s) × (new ≡ record s { forgotten = length s.history })
+
+-- it begins anew, and what goes over has other numbers there: all that is open where each yes is strong, and else what is prepared
+pub data GoesOver (added : List Checked) (old : Stored) (prepared : List Prepared) (new : Stored) (now : List Prepared) : Type 0 where
+  all : AreStrong old.types → CarriesAllOver old added new → now ≡ map (moved_among (open_ones old.history)) prepared → GoesOver added old prepared new now
+  some : (AreStrong old.types → ⊥) → (those : List ℕ) → AreTheirNumbers prepared those → CarriesOver old those added new → now ≡ map (moved_among those) prepared → GoesOver added old prepared new now
+
+-- why it doesn't, with these objects more
+pub data RefusesOver (old : Stored) (prepared : List Prepared) (ms : List Meaning) (why : CarryRefusal) : Type 0 where
+  refuses_all : AreStrong old.types → RefusesAll old ms why → RefusesOver old prepared ms why
+  refuses_some : (AreStrong old.types → ⊥) → (those : List ℕ) → AreTheirNumbers prepared those → RefusesCarry old those ms why → RefusesOver old prepared ms why
 
 -- ---- a crash
 
@@ -71,7 +83,7 @@ LeavesAhead g old new = (db : Trees) → may_leave g new.journal db
     → (Clean g old.journal × IsFile db × (contents_of db ≡ renewed_with (written g old.journal) old.store.types (kinds old.store.history) old.prepared.items)
     × ((written g old.journal).headers ≡ old.journal.header ∷ [])) ⊎ may_leave g old.journal db
 
--- it leaves what it could have left before, or the new epoch, at the states that had committed, in which what is prepared goes on
+-- it leaves what it could have left before, or the new epoch, at the states that had committed, in which what goes over goes on
 abbrev pub LeavesEpoch : {S : Type 0} (g : Ghosts S) → Durable S → Durable S → Type 0
 LeavesEpoch g old new = (db : Trees) → may_leave g new.journal db
     → (Clean g old.journal × IsFile db

@@ -6,7 +6,6 @@ use Rattle.object_trait.specs.Meaning.{Meaning}
 use Rattle.table_checker.specs.Checked.{Checked}
 use Rattle.store_laws.specs.Stored.{Stored, types_of}
 use Rattle.store.specs.Ends.{AreFresh}
-use Rattle.store.specs.Carries.{RefusesCarry}
 use Rattle.store_text.specs.declared.line.ObjectLine.{ObjectLine}
 use Rattle.object_trait.specs.declared.event.EventKind.{EventKind}
 use Rattle.journal.specs.declared.prepared_row.Prepared.{Prepared}
@@ -16,8 +15,7 @@ use Rattle.durable_store.specs.declared.durable.Durable.{Durable}
 use Rattle.durable_store.specs.declared.open_error.OpenError.{OpenError}
 use Rattle.durable_store.specs.declared.open_error.OpenError.TheVariants.{Journal, NotExtended}
 use Rattle.durable_store.specs.Durable.{IsDurable, KeepsSettled, kinds}
-use Rattle.durable_store.specs.Epochs.{GoesOver, firsts}
-use Rattle.durable_store.specs.Held.{AreTheirNumbers}
+use Rattle.durable_store.specs.Epochs.{GoesOver, RefusesOver, firsts}
 use Rattle.durable_store.specs.Recovered.{next_life}
 use Rattle.durable_store.specs.Types.{AreTypes}
 
@@ -45,7 +43,7 @@ AreAdded texts lines added = AreTypes texts lines (firsts added) added
 abbrev pub grown : Contents → List (List ℕ) → List ObjectLine → List Checked → List EventKind → List Prepared → Contents
 grown c fresh placed types events prepared = in_life (record (extended c fresh placed (firsts types)) { events = events; prepared = prepared }) (next_life c.headers)
 
--- objects of these lines, which mean types among these texts, are added to a file and to its store; what is prepared goes over
+-- objects of these lines, which mean types among these texts, are added to a file and to its store, and what goes over is in it
 pub record Grows (texts : List (List ℕ)) (lines : List ObjectLine) (old : Stored) (prepared : List Prepared) (new : Stored) (ps : List Prepared) (c now : Contents) : Type 0 where
   pub added : List Checked
   pub are : AreAdded texts lines added
@@ -82,7 +80,7 @@ pub record IsAsBefore {S : Type 0} (g : Ghosts S) (old new : Durable S) : Type 0
 -- where the store refuses, it is for objects of these lines
 abbrev pub RefusesGrowth : List (List ℕ) → List ObjectLine → Stored → List Prepared → OpenError → Type 0
 RefusesGrowth texts lines old prepared (NotExtended why) =
-    (ms : List Meaning) × AreAdded texts lines (types_of ms) × AreFresh ms × ((those : List ℕ) × AreTheirNumbers prepared those × RefusesCarry old those ms why)
+    (ms : List Meaning) × AreAdded texts lines (types_of ms) × AreFresh ms × RefusesOver old prepared ms why
 RefusesGrowth texts lines old prepared error = ⊤
 
 -- ---- inside

@@ -1,12 +1,12 @@
 -- How what is added to a store in a file is put together.
-use Rattle.std.specs.Prelude.{◌≡◌, ◌⊎◌, ⊤, ℕ, ◌+◌, ◌≤◌, List, [], ◌∷◌, ◌++◌, length, map, slice_get, Some}
+use Rattle.std.specs.Prelude.{◌≡◌, ◌⊎◌, ◌↔◌, ⊤, ℕ, true, ◌+◌, ◌≤◌, List, [], ◌∷◌, ◌++◌, length, map, slice_get, Some}
 use Rattle.sqlite_trees.specs.declared.store.Store.{Ghosts}
 use Rattle.sqlite_trees.specs.Tree.{Trees}
 use Rattle.object_trait.specs.Meaning.{Meaning}
 use Rattle.table_checker.specs.Checked.{Checked}
 use Rattle.store_laws.specs.Stored.{Stored, types_of}
 use Rattle.store.specs.Ends.{AreFresh}
-use Rattle.store.specs.Carries.{RefusesCarry}
+use Rattle.carried_orders.specs.Orders.{AreStrong}
 use Rattle.store.specs.Retraces.{IsTracedHistory}
 use Rattle.objects.specs.Object.{meaning_of}
 use Rattle.store_text.specs.declared.line.ObjectLine.{ObjectLine}
@@ -18,8 +18,8 @@ use Rattle.durable_store.specs.declared.growth.Growth.{Growth}
 use Rattle.durable_store.specs.declared.open_error.OpenError.{OpenError}
 use Rattle.durable_store.specs.declared.open_error.OpenError.TheVariants.{NameTaken, NotExtended, NotMade, NotPrepared}
 use Rattle.durable_store.specs.Durable.{events_of_kinds, kinds}
-use Rattle.durable_store.specs.Epochs.{GoesOver, firsts}
-use Rattle.durable_store.specs.Held.{AreTheirNumbers, ArePrepared}
+use Rattle.durable_store.specs.Epochs.{GoesOver, RefusesOver, firsts}
+use Rattle.durable_store.specs.Held.{ArePrepared}
 use Rattle.durable_store.specs.FileLimits.{file_limits}
 use Rattle.durable_store.specs.Names.{IndexesNames, IsFirstTaken}
 use Rattle.durable_store.specs.Growth.{AreAdded, ArePlaced, AreUnknown, grown}
@@ -49,7 +49,7 @@ IsGrowthError known lines error = ⊤
 
 -- where the store refuses, it is for these objects, whatever their names
 abbrev pub RefusesObjects : List Meaning → Stored → List Prepared → OpenError → Type 0
-RefusesObjects ms old prepared (NotExtended why) = (those : List ℕ) × AreTheirNumbers prepared those × RefusesCarry old those ms why
+RefusesObjects ms old prepared (NotExtended why) = RefusesOver old prepared ms why
 RefusesObjects ms old prepared (NameTaken x) = ⊥
 RefusesObjects ms old prepared error = ⊤
 
@@ -66,8 +66,9 @@ pub record IsAheadBy {S : Type 0} (g : Ghosts S) (fresh : List (List ℕ)) (plac
   pub settled : Clean g d.journal → IsSettled g d.journal
   pub limit : d.store.limits ≡ file_limits
   pub remembered : d.store.forgotten ≡ 0
-  pub by_zero : d.store.history ≡ events_of_kinds (kinds d.store.history)
+  pub by_zero : Clean g d.journal → d.store.history ≡ events_of_kinds (kinds d.store.history)
   pub own : IsTracedHistory d.store
+  pub strong : (d.strong ≡ true) ↔ AreStrong d.store.types
   pub named : Clean g d.journal → IndexesNames ((written g d.journal).objects ++ placed) d.names
   pub some : length placed ≤ length d.store.types
   pub as_many : Clean g d.journal → length d.store.types ≡ length (written g d.journal).states + length placed

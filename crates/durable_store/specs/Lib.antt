@@ -4,6 +4,7 @@ pub mod Durable
 pub mod Begun
 pub mod Recovered
 pub mod Epochs
+pub mod NextStore
 pub mod Created
 pub mod Names
 pub mod Growth

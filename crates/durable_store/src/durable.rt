@@ -7,6 +7,8 @@ ghost use Rattle.journal.specs.Journal.{Clean, IsAsWritten, ShowsCommit, durable
 ghost use Rattle.table_checker.specs.Checked.{Checked};
 ghost use Rattle.durable_store.specs.Durable.{IsDurable, KeepsSettled, OutcomesStay, WritesSince, is_prepared, kinds, events_of_kinds, IsBehind, with_all};
 ghost use Rattle.durable_store.specs.Held.{ArePrepared, prepared_numbers};
+ghost use Rattle.durable_store.specs.NextStore.{GoOver};
+ghost use Rattle.object_trait.specs.Orders.{Pairs};
 ghost use Rattle.durable_store.specs.Epochs.{IsAhead, LeavesAhead, firsts, renewed, renewed_with, with_all_prepared};
 ghost use Rattle.serial_order.specs.History.{begins, is_open, summary};
 ghost use Rattle.store_laws.specs.Stored.{MayStep};
@@ -18,6 +20,7 @@ ghost use Rattle.durable_store.specs.Recovered.{Recovers, recovered};
 ghost use Rattle.serial_order.specs.declared.command.Command.TheVariants as command;
 
 use crate::held_list::{has_transaction, numbers_of};
+use crate::next_store::going_over;
 use crate::object_names::ObjectNames;
 use crate::prepared::prepare_all;
 use attempts::{Attempt, AttemptCall, attempt};
@@ -44,6 +47,8 @@ pub struct Durable<S: Alter> {
     pub(crate) names: ObjectNames,
     // Those that aren't decided, in the order in which they were prepared.
     pub(crate) prepared: Vec<Prepared>,
+    // Whether the yes of each object's type is strong.
+    pub(crate) strong: bool,
 }
 
 impl<S: Alter> Durable<S> {
@@ -100,6 +105,27 @@ impl<S: Alter> Durable<S> {
         ensures { result ≡ is_prepared self.now t }
     {
         has_transaction(&self.prepared, t)
+    }
+
+    /// Whether the yes of each object's type is strong, as `Store::is_strong`, without a search: then all that is open goes over
+    /// into the next epoch.
+    pub fn is_strong(&self) -> bool
+        ensures { result ≡ self.now.strong }
+    {
+        self.strong
+    }
+
+    /// The numbers of the transactions that go over into the next epoch, in their order: of all that is open where each yes is
+    /// strong, and else of what is prepared.
+    ///
+    /// # Errors
+    ///
+    /// Memory was refused.
+    pub fn going_over(&self, alloc: Global) -> Result<Vec<u32>, AllocError>
+        ensures going { IfOk result (λ those. GoOver self.now.strong self.now.store.history self.now.prepared.items those.items) }
+        ensures ascend { IfOk result (λ those. Pairs (λ a b. a < b) those.items) }
+    {
+        going_over(alloc, &self.store, &self.prepared, self.strong)
     }
 
     /// Begins a transaction, as the store's `begin`. Its event is written, and a crash may still take it away.
@@ -311,6 +337,7 @@ impl<S: Alter> Durable<S> {
             journal,
             names: _,
             prepared: _,
+            strong: _,
         } = self;
         let _ = store.close();
         journal.into_store()

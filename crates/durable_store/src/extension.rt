@@ -15,18 +15,19 @@ ghost use Rattle.durable_store.specs.Names.{IndexesNames, HaveNewNames, SaysTake
 
 use crate::durable::{Durable, MOST_STATES, first_states};
 use crate::growth::{Growth, Known, growth_of};
-use crate::held_list::moved_over;
+use crate::next_store::{moved_over, next_store, stays_strong};
 use crate::object_names::ObjectNames;
 use crate::open_error::OpenError;
 use journal::{JournalError, TypeText};
 use sqlite_trees::store::Alter;
 use std::alloc::Global;
 use store_text::ObjectLine;
+use table_checker::at_is_strong;
 
 impl<S: Alter> Durable<S> {
     /// Begins another epoch with more objects, in another life: objects of these lines, whose places are those of
-    /// these texts, come after those that there are, at the initial states of their types; what is prepared goes over. All of it is
-    /// in one commit, as `renew` makes it, and no text that the file has is written again. The answer is the number of the first
+    /// these texts, come after those that there are, at the initial states of their types. The same goes over as at `renew`. All of
+    /// it is in one commit, and no text that the file has is written again. The answer is the number of the first
     /// new object.
     ///
     /// # Errors
@@ -155,7 +156,8 @@ impl<S: Alter> Durable<S> {
         ensures clean { Clean S.Store result.0.journal → Clean S.Store self.journal }
         ensures crash { LeavesGrown S.Store growth.texts.items growth.lines.items (types_of (map meaning_of growth.objects.items)) self result.0 }
     {
-        let moved = match moved_over(alloc, &self.prepared) {
+        at_is_strong();
+        let moved = match moved_over(alloc, &self.store, &self.prepared, self.strong) {
             Ok(moved) => moved,
             Err(_) => return (self, Err(OpenError::NoMemory)),
         };
@@ -164,6 +166,7 @@ impl<S: Alter> Durable<S> {
             journal,
             names: former,
             prepared,
+            strong,
         } = self;
         let Growth {
             texts,
@@ -171,13 +174,15 @@ impl<S: Alter> Durable<S> {
             objects,
         } = growth;
         let first = store.object_count();
-        match store.carry(alloc, 0, &moved.those, objects) {
-            Ok((store, _)) => {
+        let still = stays_strong(strong, &objects);
+        match next_store(alloc, store, strong, &moved.those, objects) {
+            Ok(store) => {
                 let mut ahead = Durable {
                     store,
                     journal,
                     names,
                     prepared: moved.prepared,
+                    strong: still,
                 };
                 match ahead.write_growth(alloc, known, &texts, &lines) {
                     Ok(()) => (ahead, Ok(first)),
@@ -190,6 +195,7 @@ impl<S: Alter> Durable<S> {
                     journal,
                     names: former,
                     prepared,
+                    strong,
                 };
                 (durable, Err(OpenError::NotExtended(refusal)))
             }

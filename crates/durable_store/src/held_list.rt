@@ -1,8 +1,8 @@
 //! Transactions that are prepared and not decided.
 
-ghost use Rattle.std.specs.Prelude.{◌≡◌, IfOk, map, true};
-ghost use Rattle.std.specs.List.Sorted.{IsStrictlyIncreasing};
+ghost use Rattle.std.specs.Prelude.{◌≡◌, ◌<◌, IfOk, map};
 ghost use Rattle.std.specs.Option.{option_copied};
+ghost use Rattle.object_trait.specs.Orders.{Pairs};
 ghost use Rattle.carried_runs.specs.Carried.{number_in};
 ghost use Rattle.serial_order.specs.Operations.{is_among};
 ghost use Rattle.durable_store.specs.Held.{AreTheirNumbers, but_number, first_passing, has_key, has_number, has_place, prepared_numbers, moved_among};
@@ -47,29 +47,6 @@ pub(crate) fn remove_transaction(prepared: &mut Vec<Prepared>, t: u32)
     prepared.retain(|p| p.number != t);
 }
 
-/// Transactions that go over into the next epoch.
-#[derive(Drop)]
-pub(crate) struct Moved {
-    /// Their numbers, in their order.
-    pub(crate) those: Vec<u32>,
-    /// The same with the numbers that they have there.
-    pub(crate) prepared: Vec<Prepared>,
-}
-
-/// These, as they go over into the next epoch.
-///
-/// # Errors
-///
-/// Memory was refused.
-pub(crate) fn moved_over(alloc: Global, prepared: &[Prepared]) -> Result<Moved, AllocError>
-    ensures in_order { IfOk result (λ moved. AreTheirNumbers prepared.now moved.those.items) }
-    ensures renumbers { IfOk result (λ moved. moved.prepared.items ≡ map (moved_among moved.those.items) prepared.now) }
-{
-    let those = in_order(alloc, prepared)?;
-    let prepared = renumbered(alloc, prepared, &those)?;
-    Ok(Moved { those, prepared })
-}
-
 /// Their numbers.
 ///
 /// # Errors
@@ -90,7 +67,7 @@ pub(crate) fn numbers_of(alloc: Global, prepared: &[Prepared]) -> Result<Vec<u32
 /// # Errors
 ///
 /// Memory was refused.
-fn in_order(alloc: Global, prepared: &[Prepared]) -> Result<Vec<u32>, AllocError>
+pub(crate) fn in_order(alloc: Global, prepared: &[Prepared]) -> Result<Vec<u32>, AllocError>
     ensures { IfOk result (λ those. AreTheirNumbers prepared.now those.items) }
 {
     let mut those = numbers_of(alloc, prepared)?;
@@ -103,33 +80,35 @@ fn in_order(alloc: Global, prepared: &[Prepared]) -> Result<Vec<u32>, AllocError
 ///
 /// # Errors
 ///
-/// Memory was refused.
-fn renumbered(
+/// Memory was refused, or one isn't among those.
+pub(crate) fn renumbered(
     alloc: Global,
     prepared: &[Prepared],
     those: &[u32],
 ) -> Result<Vec<Prepared>, AllocError>
-    requires { AreTheirNumbers prepared.now those.now }
+    requires { Pairs (λ a b. a < b) those.now }
     ensures { IfOk result (λ now. now.items ≡ map (moved_among those.now) prepared.now) }
 {
     let mut now = Vec::with_capacity(alloc, prepared.len())?;
     for p in prepared {
         let mut moved = *p;
-        moved.number = new_number(those, p.number);
+        moved.number = new_number(those, p.number)?;
         now.push_reserved(moved);
     }
     Ok(now)
 }
 
-/// How many of those stand before t, which is one of them.
-fn new_number(those: &[u32], t: u32) -> u32
-    requires ascend { IsStrictlyIncreasing those.now }
-    requires among { is_among those.now t ≡ true }
-    ensures { result ≡ number_in those.now t }
+/// How many of those stand before t.
+///
+/// # Errors
+///
+/// `AllocError` where t isn't one of them: as where memory is refused, nothing goes over.
+fn new_number(those: &[u32], t: u32) -> Result<u32, AllocError>
+    requires { Pairs (λ a b. a < b) those.now }
+    ensures { IfOk result (λ number. number ≡ number_in those.now t) }
 {
     match those.binary_search(&t) {
-        Ok(place) => place as u32,
-        // it is one of them
-        Err(_) => unreachable!(),
+        Ok(place) => Ok(place as u32),
+        Err(_) => Err(AllocError),
     }
 }

@@ -13,6 +13,7 @@ mod held_list;
 mod keyed;
 mod limits;
 mod new_file;
+mod next_store;
 mod object_names;
 mod open_error;
 mod outage;

@@ -28,6 +28,7 @@ pub fn restart<S: Alter + Reopen + Drop>(alloc: Global, running: Durable<S>) -> 
         journal,
         names: _,
         prepared: _,
+        strong: _,
     } = running;
     let _ = store.close();
     let (journal, said) = journal::restart(alloc, journal)?;

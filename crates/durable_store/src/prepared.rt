@@ -13,13 +13,15 @@ ghost use Rattle.durable_store.specs.Keys.{IsFree};
 
 use crate::durable::Durable;
 use crate::ends::end_in;
-use crate::held_list::{moved_over, of_transaction, remove_transaction, under_key};
+use crate::held_list::{of_transaction, remove_transaction, under_key};
 use crate::keyed::KeyState;
+use crate::next_store::{moved_over, next_store};
 use crate::votes::{Decision, Verdict, Vote};
 use journal::{Journal, JournalError, Outcome, Prepared, ReplyText};
 use sqlite_trees::store::Alter;
 use std::alloc::{AllocError, Global};
 use store::steps_are_retraced;
+use table_checker::at_is_strong;
 use transaction_key::TransactionKey;
 
 impl<S: Alter> Durable<S> {
@@ -100,10 +102,11 @@ impl<S: Alter> Durable<S> {
         }
     }
 
-    /// Begins another epoch, in another life, into which what is prepared goes over: it begins there by the numbers 0, 1, 2
-    /// and so on, in the order of the numbers before, and what survives of it is done again. What else is open is let go, as
-    /// by an abort. The file begins anew at the committed states, with these events, and with these transactions prepared,
-    /// all of it in one commit.
+    /// Begins another epoch, in another life. Where the yes of each object's type is strong, all that is open goes over into it,
+    /// and no later answer can tell it; else what is prepared goes over, and what else is open is let go, as by an abort. What
+    /// goes over begins there by the numbers 0, 1, 2 and so on, in the order of the numbers before, and what survives of it is
+    /// done again. The file begins anew at the committed states, with these events, and with what is prepared by its new
+    /// numbers, all of it in one commit.
     ///
     /// # Errors
     ///
@@ -119,7 +122,8 @@ impl<S: Alter> Durable<S> {
         ensures clean { Clean S.Store result.0.journal → Clean S.Store self.journal }
         ensures crash { LeavesEpoch S.Store self result.0 }
     {
-        let moved = match moved_over(alloc, &self.prepared) {
+        at_is_strong();
+        let moved = match moved_over(alloc, &self.store, &self.prepared, self.strong) {
             Ok(moved) => moved,
             Err(refused) => return (self, Ok(Err(refused))),
         };
@@ -128,14 +132,16 @@ impl<S: Alter> Durable<S> {
             journal,
             names,
             prepared,
+            strong,
         } = self;
-        match store.carry(alloc, 0, &moved.those, Vec::new(alloc)) {
-            Ok((store, _)) => {
+        match next_store(alloc, store, strong, &moved.those, Vec::new(alloc)) {
+            Ok(store) => {
                 let mut ahead = Durable {
                     store,
                     journal,
                     names,
                     prepared: moved.prepared,
+                    strong,
                 };
                 match ahead.write_epoch(alloc) {
                     Ok(()) => (ahead, Ok(Ok(()))),
@@ -148,6 +154,7 @@ impl<S: Alter> Durable<S> {
                     journal,
                     names,
                     prepared,
+                    strong,
                 };
                 (durable, Ok(Err(AllocError)))
             }

@@ -118,6 +118,7 @@ pub fn resume<S: Alter>(
         Ok(store) => store,
         Err(error) => return Err((error, journal.into_store())),
     };
+    let strong = store.is_strong();
     let mut journal = journal;
     match prepared_of(alloc, &store, &mut journal, &said.prepared) {
         Ok(prepared) => {
@@ -126,6 +127,7 @@ pub fn resume<S: Alter>(
                 journal,
                 names,
                 prepared,
+                strong,
             };
             recovered_or_back(alloc, made)
         }

@@ -28,12 +28,12 @@ recovered_or_back-requires g c =
       clean = c.prepared_of.ensures.clean;
       crash = c.prepared_of.ensures.crash;
     } in
-    resumed g.S.Store c.args.journal c.prepared_of.new.journal c.args.said.now c.in-Ok-store_of.store c.in-Ok.names c.in-Ok-prepared_of.prepared read
-    (subst (λ os. IndexesNames os c.in-Ok.names) c.deref.ensures.value c.in-Ok.ensures) c.in-Ok-prepared_of.ensures.prepared
+    resumed g.S.Store c.args.journal c.prepared_of.new.journal c.args.said.now c.in-Ok-store_of.store c.in-Ok.names c.in-Ok-prepared_of.prepared c.is_strong-strong.result read
+    (subst (λ os. IndexesNames os c.in-Ok.names) c.deref.ensures.value c.in-Ok.ensures) c.in-Ok-prepared_of.ensures.prepared c.is_strong-strong.ensures
 
 pub returns-in-Ok-prepared_of-clause-found : goal.returns-in-Ok-prepared_of-clause-found
 returns-in-Ok-prepared_of-clause-found g c =
-    let made : Durable g.row.S.Denot = record { store = c.in-Ok-store_of.store; journal = c.prepared_of.new.journal; names = c.in-Ok.names; prepared = c.in-Ok-prepared_of.prepared } in
+    let made : Durable g.row.S.Denot = record { store = c.in-Ok-store_of.store; journal = c.prepared_of.new.journal; names = c.in-Ok.names; prepared = c.in-Ok-prepared_of.prepared; strong = c.is_strong-strong.result } in
     let says : Clean g.S.Store made.journal → written g.S.Store made.journal ≡ durable g.S.Store c.args.journal = λ clean. c.in-Ok-prepared_of.ensures.written clean ∙ c.requires.same (c.prepared_of.ensures.clean clean) in
     let read : IsReadAgain g.S.Store c.args.journal c.prepared_of.new.journal c.args.said.now c.in-Ok-store_of.store = record {
       same = c.requires.same;
@@ -48,13 +48,13 @@ returns-in-Ok-prepared_of-clause-found g c =
       crash = c.prepared_of.ensures.crash;
     } in
     let sound =
-    resumed g.S.Store c.args.journal c.prepared_of.new.journal c.args.said.now c.in-Ok-store_of.store c.in-Ok.names c.in-Ok-prepared_of.prepared read
-    (subst (λ os. IndexesNames os c.in-Ok.names) c.deref.ensures.value c.in-Ok.ensures) c.in-Ok-prepared_of.ensures.prepared in
+    resumed g.S.Store c.args.journal c.prepared_of.new.journal c.args.said.now c.in-Ok-store_of.store c.in-Ok.names c.in-Ok-prepared_of.prepared c.is_strong-strong.result read
+    (subst (λ os. IndexesNames os c.in-Ok.names) c.deref.ensures.value c.in-Ok.ensures) c.in-Ok-prepared_of.ensures.prepared c.is_strong-strong.ensures in
     IfOk-weaker c.recovered_or_back.result _ _ (λ d did clean. resumed-found g.S.Store (durable g.S.Store c.args.journal) made d sound says did clean) c.recovered_or_back.ensures.recovers
 
 pub returns-in-Ok-prepared_of-clause-crash : goal.returns-in-Ok-prepared_of-clause-crash
 returns-in-Ok-prepared_of-clause-crash g c =
-    let made : Durable g.row.S.Denot = record { store = c.in-Ok-store_of.store; journal = c.prepared_of.new.journal; names = c.in-Ok.names; prepared = c.in-Ok-prepared_of.prepared } in
+    let made : Durable g.row.S.Denot = record { store = c.in-Ok-store_of.store; journal = c.prepared_of.new.journal; names = c.in-Ok.names; prepared = c.in-Ok-prepared_of.prepared; strong = c.is_strong-strong.result } in
     let says : Clean g.S.Store made.journal → written g.S.Store made.journal ≡ durable g.S.Store c.args.journal = λ clean. c.in-Ok-prepared_of.ensures.written clean ∙ c.requires.same (c.prepared_of.ensures.clean clean) in
     IfErr-weaker c.recovered_or_back.result _ _ (λ e leaves. leaves-before g.S.Store c.args.journal made e.1 c.prepared_of.ensures.clean says c.prepared_of.ensures.crash leaves) c.recovered_or_back.ensures.crash
 

@@ -16,3 +16,10 @@ returns-in-Prepared-clause-decides g c = λ clean.
       | inl is ↦ absurd (nobody-under g.S.Store d key c.requires was none (subst (IsInState (written g.S.Store d.journal) key) is knows))
       | inr is ↦ (subst (IsInState (written g.S.Store d.journal) key) is knows, c.in_ok-outcome.ensures.store, c.in_ok-outcome.ensures.written clean)
     ]
+
+pub returns-then-agrees-clause-decides : goal.returns-then-agrees-clause-decides
+returns-then-agrees-clause-decides g c = λ clean.
+    let key = c.args.key in
+    let c' = written g.S.Store c.args.self.now.journal in
+    let kept = subst (IsInState c' key) c.in-Known.is (c.in_ok-outcome.ensures.knows clean) in
+    inr (inl (c.in-Known.outcome, kept, sym c.agrees.ensures ∙ c.if-agrees.true, c.in_ok-outcome.ensures.written clean), c.in_ok-outcome.ensures.store)

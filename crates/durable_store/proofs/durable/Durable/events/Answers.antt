@@ -3,7 +3,12 @@ use Rattle.std.proofs.lemmas.Result.{IfOk-weaker}
 use Rattle.object_trait.specs.declared.event.EventKind.{EventKind}
 use Rattle.journal.specs.Journal.{Clean, written}
 use Rattle.durable_store.specs.Durable.{events_of_kinds, kinds}
+use Rattle.durable_store.proofs.CatchUp.{read-again}
 use Rattle.durable_store.proofs.durable.Durable.events.Goals as goal
+
+pub returns-clause-sound : goal.returns-clause-sound
+returns-clause-sound g c =
+    read-again g.S.Store c.args.self.now c.events.new.self c.events.result c.requires.sound c.events.ensures.kept c.events.ensures.written c.events.ensures.durable c.events.ensures.clean c.events.ensures.crash
 
 kinds-events : (happened : List EventKind) → kinds (events_of_kinds happened) ≡ happened
 kinds-events [] = refl

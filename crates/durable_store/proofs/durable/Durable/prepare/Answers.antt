@@ -1,4 +1,4 @@
-use Rattle.std.proofs.Common.{◌≡◌, ◌∙◌, ◌++◌, [], ◌∷◌, true, ap, refl, sym, subst}
+use Rattle.std.proofs.Common.{◌≡◌, ◌∙◌, true, ap, refl, sym, subst}
 use Rattle.serial_order.specs.History.{is_open, summary}
 use Rattle.store_laws.specs.Stored.{Stored}
 use Rattle.journal.specs.Contents.{with_prepared}
@@ -14,7 +14,7 @@ returns-clause-sound g c =
     let p = c.args.prepared in
     let c' = written g.S.Store d.journal in
     let sound = c.in_ok-state_of.ensures.sound in
-    still-sound g.S.Store d _ (with_prepared c' p).prepared c'.outcomes sound refl refl c.in_ok-prepare.ensures.kept c.in_ok-prepare.ensures.written c.in_ok-prepare.ensures.durable
+    still-sound g.S.Store d _ (with_prepared c' p).prepared c'.outcomes sound refl refl refl c.in_ok-prepare.ensures.kept c.in_ok-prepare.ensures.written c.in_ok-prepare.ensures.durable
     c.prepare.ensures.clean c.prepare.ensures.crash
     (λ clean.
     let free : IsFree c' p.key = subst (λ f. IsFree f p.key) (sym (c.in_ok-state_of.ensures.written clean)) (subst (IsInState (written g.S.Store c.args.self.now.journal) p.key) c.in-Free.is (c.in_ok-state_of.ensures.knows clean)) in
