@@ -3,7 +3,8 @@ use Rattle.std.specs.Prelude.{◌≡◌, ◌-◌, length, slice_index}
 use Rattle.command_words.specs.Words.{Text}
 use Rattle.command_words.specs.declared.task.Topic.{Topic}
 use Rattle.command_words.specs.declared.task.Topic.TheVariants.{Program, Check, Explain, Make, Tables, Run, Audit, Work, Stress, Create, Extend, Serve, History, Prepared, Outcome, Help, Faults}
-use Rattle.command_words.specs.declared.help.TheConstants.{AUDIT, CHECK, CREATE, EXPLAIN, EXTEND, FAULTS, HELP, HISTORY, MAKE, OUTCOME, PREPARED, PROGRAM, RUN, SERVE, STRESS, TABLES, VERSION, WORK}
+use Rattle.command_words.specs.declared.file_help.TheConstants.{CREATE, EXTEND, HISTORY, OUTCOME, PREPARED, SERVE}
+use Rattle.command_words.specs.declared.help.TheConstants.{AUDIT, CHECK, EXPLAIN, FAULTS, HELP, MAKE, PROGRAM, RUN, STRESS, TABLES, VERSION, WORK}
 
 -- the text of help on a topic
 abbrev pub text_of_topic : Topic → Text

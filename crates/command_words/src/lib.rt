@@ -1,6 +1,7 @@
 //! The words of the command line: what they ask for, and the texts of help and version.
 #![tactic(auto)]
 
+mod file_help;
 mod help;
 mod ordered;
 mod program;

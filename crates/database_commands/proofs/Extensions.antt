@@ -1,5 +1,5 @@
 -- What comes of objects that are added to the store in a file.
-use Rattle.std.proofs.Common.{◌≡◌, ℕ, List, map, Option, IfSome, Ok, subst}
+use Rattle.std.proofs.Common.{◌≡◌, ℕ, List, map, Option, IfSome, Result, Ok, Err, OnOk, subst}
 use Rattle.sqlite_trees.specs.declared.store.Store.{Ghosts}
 use Rattle.sqlite_trees.specs.Tree.{Trees}
 use Rattle.declared_types.specs.declared.declared_type.Declaration.{Declaration}
@@ -8,7 +8,7 @@ use Rattle.object_types.specs.Types.{value_of}
 use Rattle.store_laws.specs.Stored.{Stored}
 use Rattle.store_text.specs.declared.line.ObjectLine.{ObjectLine}
 use Rattle.journal.specs.Contents.{Contents}
-use Rattle.journal.specs.Journal.{written}
+use Rattle.journal.specs.Journal.{Clean, written}
 use Rattle.durable_store.specs.declared.durable.Durable.{Durable}
 use Rattle.durable_store.specs.Growth.{Grows}
 use Rattle.durable_store.specs.Durable as durable
@@ -33,6 +33,11 @@ has-grown g c d texts objects s ps now found grows = record {
   prepared = ps;
   grows = subst (λ w. Grows texts objects d.store (durable.prepared_in c) s ps w now) found.written (subst (λ hs. Grows texts objects d.store hs s ps (written g d.journal) now) found.prepared grows);
 }
+
+pub grown-in : {S T E : Type 0} (g : Ghosts S) (c : Contents) (d : Durable S) (texts : List (List ℕ)) (objects : List ObjectLine) (r : Result T E) (clean : Type 0) (now : Contents) → (Clean g d.journal → IsRecovered g c d)
+    → OnOk r (clean → Clean g d.journal) → OnOk r (clean → (s : Stored) × (ps : List Prepared) × Grows texts objects d.store d.prepared.items s ps (written g d.journal) now) → OnOk r (clean → HasGrown texts objects c now)
+grown-in g c d texts objects (Ok x) clean now found sure grows = λ is. let it = grows is in has-grown g c d texts objects it.0 it.1 now (found (sure is)) it.2
+grown-in g c d texts objects (Err e) clean now found sure grows = tt
 
 -- what is answered of the types that were found is answered of the files
 pub extends : (holds later : Held) (kept : (other : List ℕ) → later other ≡ holds other) (path : List ℕ) (words : List (List ℕ)) (objects : List ObjectLine)

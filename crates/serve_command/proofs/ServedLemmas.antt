@@ -1,9 +1,9 @@
 -- What is served at trees is served at the path of their database.
-use Rattle.std.proofs.Common.{◌≡◌, ◌∙◌, inl, inr, ℕ, suc, ◌-◌, List, length, ◌++◌, refl, sym, ap, subst, Option, Some, None, Result, Ok, Err, arith, ◌⊎◌, false}
+use Rattle.std.proofs.Common.{◌≡◌, ◌∙◌, inl, inr, ℕ, suc, ◌-◌, List, length, ◌++◌, refl, sym, ap, subst, Option, Some, None, Result, Ok, Err, arith, ◌⊎◌, true, false}
 use Rattle.std.proofs.Math.Seq.{take-append-le}
 use Rattle.std.proofs.KnownBytes.{Appends-trans}
 use Rattle.std.proofs.lemmas.List.{append-nil, length-append, length-map}
-use Rattle.std.specs.Prelude.{IfErr, IfOk, IfSome, MatchResult, OnErr, OnOk}
+use Rattle.std.specs.Prelude.{IfErr, IfOk, IfSome, MatchBool, MatchResult, OnErr, OnOk}
 use Rattle.std.specs.Io.KnownBytes.{Appends}
 use Rattle.sqlite_trees.specs.declared.store.Store.{Ghosts}
 use Rattle.sqlite_trees.specs.Tree.{Trees}
@@ -11,24 +11,25 @@ use Rattle.sqlite_trees.specs.View.{IsClean}
 use Rattle.store_laws.specs.Stored.{Stored}
 use Rattle.journal.specs.Contents.{Contents, contents_of}
 use Rattle.journal.specs.Journal.{Clean, ShowsCommit, written}
+use Rattle.journal.specs.declared.prepared_row.Prepared.{Prepared}
 use Rattle.durable_store.specs.declared.durable.Durable.{Durable}
 use Rattle.store.specs.Ends.{closing_but}
 use Rattle.durable_store.specs.Held.{prepared_numbers}
 use Rattle.durable_store.specs.Durable as durable
 use Rattle.durable_store.specs.Durable.{IsDurable, events_of_kinds, with_all}
-use Rattle.durable_store.specs.Epochs.{firsts}
 use Rattle.durable_store.specs.Recovered.{IsRecovered}
 use Rattle.request_text.specs.declared.request.Asked.{Asked}
-use Rattle.table_checker.specs.Checked.{Checked}
 use Rattle.serving.specs.declared.answer_line.Answered.{Answered}
 use Rattle.serving.specs.declared.extension.Extension.{Extension}
-use Rattle.serving.specs.EpochEnd.{last_answers}
+use Rattle.serving.specs.EpochEnd.{EndsEpoch, EndsInEpoch, ends_epoch, last_answers}
+use Rattle.serving.specs.Epochs.{closed_by}
 use Rattle.serving.specs.NextEpoch.{late_answer}
 use Rattle.serving.specs.Served.{Serves}
 use Rattle.serving.specs.Told.{AppendsPart, answers_text, greeting}
-use Rattle.serving.specs.Server.{life_of}
+use Rattle.serving.specs.Names.{KnownNames, given_names}
+use Rattle.serving.specs.Server.{life_of, first_names}
 use Rattle.serving.proofs.Premises.{serves-weaker}
-use Rattle.serving.proofs.HeldSaid.{held-said}
+use Rattle.serving.proofs.HeldSaid.{held-said, held-written}
 use Rattle.command_files.specs.Answers.{IsEarlyFault}
 use Rattle.command_files.specs.Status.{is_input}
 use Rattle.command_files.specs.declared.fault.Fault.{Fault}
@@ -36,14 +37,14 @@ use Rattle.command_files.specs.declared.fault.Fault.TheVariants.{Usage, Text, No
 use Rattle.command_files.specs.declared.status.Verdict.{Verdict}
 use Rattle.command_files.specs.declared.status.Verdict.TheVariants.{Yes}
 use Rattle.serve_command.specs.Found.{Finds, SaysFound, found_text}
-use Rattle.serve_command.proofs.NewEpochs.{begins-epoch}
-use Rattle.serve_command.specs.Served.{BeginsEpoch, BeginsBefore, BeginsServing, ComesOfServing, IsOpened, IsServed, ServesDatabase, ServesIn, StopsIn, ClientWork, epoch_events, told_text}
+use Rattle.serve_command.proofs.NewEpochs.{begins-epoch, stays-in-life}
+use Rattle.serve_command.specs.Served.{BeginsEpoch, BeginsBefore, BeginsServing, ComesOfServing, IsOpened, IsServed, KeepsFile, RenewsFile, StaysInLife, ServesDatabase, ServesIn, StopsIn, ClientWork, epoch_events, told_text}
 
 -- ---- under another premise
 
 abbrev work-under : {clean clean' : Type 0} {held : Option Trees} → (clean' → clean) → ClientWork clean held → ClientWork clean' held
 work-under sure w = record {
-  life = w.life;
+  names = w.names;
   file = w.file;
   began = w.began;
   lines = w.lines;
@@ -54,6 +55,7 @@ work-under sure w = record {
   ended = w.ended;
   waits = w.waits;
   lives = λ c. w.lives (sure c);
+  named = λ c. w.named (sure c);
   opened = λ c. w.opened (sure c);
   serves = serves-weaker sure w.serves;
 }
@@ -62,6 +64,20 @@ work-under sure w = record {
 pub at-path : (db : Trees) (P : Trees → Type 0) (left : Option Trees) → IfSome left (λ x. db ≡ x) → P db → IfSome left P
 at-path db P (Some x) same p = subst P same p
 at-path db P None same p = tt
+
+ends-under : {clean clean' : Type 0} {held : Option Trees} (db : Trees) (left : Option Trees) (sure : clean' → clean) → (clean' → IfSome left (λ x. db ≡ x)) → (w : ClientWork clean held) (prepared : List Prepared)
+    → MatchBool (ends_epoch w.waits w.ended) (RenewsFile w prepared (Some db)) (KeepsFile w prepared (Some db))
+    → MatchBool (ends_epoch w.waits w.ended) (RenewsFile (work-under sure w) prepared left) (KeepsFile (work-under sure w) prepared left)
+ends-under {clean} {clean'} {held} db left sure same w prepared ends =
+    elim (ends_epoch w.waits w.ended) as (λ v. MatchBool v (RenewsFile w prepared (Some db)) (KeepsFile w prepared (Some db)) → MatchBool v (RenewsFile (work-under sure w) prepared left) (KeepsFile (work-under sure w) prepared left)) [
+      | true ↦ λ it. record {
+        now = it.now;
+        goes_on = it.goes_on;
+        renews = it.renews;
+        left_is = λ c. at-path db (λ x. BeginsEpoch w.file w.said w.waits w.last.life x it.now it.goes_on) left (same c) (it.left_is (sure c));
+      }
+      | false ↦ λ it c. at-path db (StaysInLife w.file w.said w.last.life (closed_by false prepared w.reached)) left (same c) (it (sure c))
+    ] ends
 
 served-under : {clean clean' : Type 0} {held : Option Trees} {db : Trees} {given given_now : Option (List ℕ)} {text : List ℕ} (left : Option Trees) → (clean' → clean) → (clean' → IfSome left (λ x. db ≡ x))
     → IsServed clean held (Some db) given given_now text → IsServed clean' held left given given_now text
@@ -76,10 +92,7 @@ served-under {clean} {clean'} {held} {db} {given} {given_now} {text} left sure s
   told = s.told;
   prepared = s.prepared;
   are = λ c. s.are (sure c);
-  now = s.now;
-  goes_on = s.goes_on;
-  renews = s.renews;
-  left_is = λ c. at-path db (λ x. BeginsEpoch s.work.file s.work.said s.work.waits s.work.last x s.now s.goes_on) left (same c) (s.left_is (sure c));
+  ends = ends-under db left sure same s.work s.prepared s.ends;
 }
 
 -- where what is held at a path may be left, and is this
@@ -134,11 +147,11 @@ of-fault P (Err x) e is p = p
 -- ---- from a store to its trees
 
 -- the work of lines that were served
-abbrev work-of : {S : Type 0} (g : Ghosts S) (clean : Type 0) (lines : List (List ℕ)) (told : List Answered) (last : ℕ) (said : Contents) (reached : Stored) (ended : Option Asked) (waits : Option Extension) (held : Option Trees) (db : Trees) (began : Durable S)
+abbrev work-of : {S : Type 0} (g : Ghosts S) (clean : Type 0) (lines : List (List ℕ)) (told : List Answered) (last : KnownNames) (said : Contents) (reached : Stored) (ended : Option Asked) (waits : Option Extension) (held : Option Trees) (db : Trees) (began : Durable S)
     → IsDurable g began → ShowsCommit g began.journal → (clean → Clean g began.journal) → (Clean g began.journal → IfSome held (λ x. db ≡ x)) → (Clean g began.journal → IsRecovered g (contents_of db) began)
-    → Serves clean epoch_events (written g began.journal) (life_of began) lines began.store told last said reached ended waits → ClientWork clean held
+    → Serves clean epoch_events (written g began.journal) (first_names began) lines began.store told last said reached ended waits → ClientWork clean held
 work-of g clean lines told last said reached ended waits held db began sound shows sure same found serves = record {
-  life = life_of began;
+  names = first_names began;
   file = written g began.journal;
   began = began.store;
   lines = lines;
@@ -149,6 +162,7 @@ work-of g clean lines told last said reached ended waits held db began sound sho
   ended = ended;
   waits = waits;
   lives = λ c. let now = sure c in (began.journal.header, (sound.journal now).0.header_is (shows now).0.sound, refl);
+  named = λ c. ap (given_names (life_of began)) (held-written g began sound (sure c));
   opened = λ c.
       let is = found (sure c) in
       at-path db (λ x. IsOpened (contents_of x) (written g began.journal) began.store) held (same (sure c)) (record { types = is.types; history = is.history; left = is.written });
@@ -162,13 +176,32 @@ served-at : {S : Type 0} {g : Ghosts S} {given taken given_now taken_now : Optio
 served-at {S} {g} {given} {taken} {given_now} {taken_now} {trees} db began held sound shows same found s =
     subst (λ (x : S). (text : List ℕ) × IsServed (IsClean (g.view x)) held (Some (g.view x).committed) given given_now text × Appends taken taken_now text) (sym s.are)
     (let sc = s.serves in
-    let has = sc.tells in (
+    let has = sc.tells in
+    let work : ClientWork (Clean g s.now.journal) held = work-of g (Clean g s.now.journal) has.served.lines has.told sc.served.session.names has.served.said sc.served.session.store.store sc.served.end sc.served.session.waiting held db began sound shows s.clean same found
+    (serves-weaker sc.clean
+    (subst (λ all. Serves (Clean g sc.served.session.store.journal) epoch_events (written g began.journal) (first_names began) has.served.lines began.store all sc.served.session.names has.served.said sc.served.session.store.store sc.served.end sc.served.session.waiting)
+    (ap (λ more. has.told ++ more) has.waits ∙ append-nil has.told) has.served.serves)) in
+    let ps = sc.served.session.store.prepared.items in
+    let left : Option Trees = Some (g.view s.now.journal.store).committed in
+    let ends : MatchBool (ends_epoch sc.served.session.waiting sc.served.end) (RenewsFile work ps left) (KeepsFile work ps left) =
+    elim (ends_epoch sc.served.session.waiting sc.served.end) as (λ v. MatchBool v (EndsEpoch g false sc.served.session.waiting sc.served.session.store s.now) (EndsInEpoch g sc.served.session.store s.now)
+    → MatchBool v (RenewsFile work ps left) (KeepsFile work ps left)) [
+      | true ↦ λ renews. record {
+        now = s.now.store;
+        goes_on = s.now.prepared.items;
+        renews = renews.store;
+        left_is = λ c.
+            let (ended, reached, _) = has.served.lasts.reaches (sc.clean c) in
+            let lives = ap suc (sym has.served.lasts.named) in
+            begins-epoch g (written g began.journal) has.served.said sc.served.session.waiting ended sc.served.session.store s.now sc.served.session.names.life reached (has.served.says (sc.clean c)) s.sound s.shows c (renews.durable c) (renews.life c ∙ lives);
+      }
+      | false ↦ λ goes c.
+          let (ended, reached, _) = has.served.lasts.reaches (sc.clean c) in
+          stays-in-life g (written g began.journal) has.served.said ended sc.served.session.store s.now sc.served.session.names.life reached (has.served.says (sc.clean c)) s.sound s.shows c goes (sym has.served.lasts.named)
+    ] sc.renews in (
       (greeting (life_of began) ++ answers_text has.told) ++ answers_text (last_answers (late_answer sc.served.session.waiting sc.served.session.store.store) sc.served.end),
       record {
-        work = work-of g (Clean g s.now.journal) has.served.lines has.told sc.served.session.life has.served.said sc.served.session.store.store sc.served.end sc.served.session.waiting held db began sound shows s.clean same found
-            (serves-weaker sc.clean
-            (subst (λ all. Serves (Clean g sc.served.session.store.journal) epoch_events (written g began.journal) (life_of began) has.served.lines began.store all sc.served.session.life has.served.said sc.served.session.store.store sc.served.end sc.served.session.waiting)
-            (ap (λ more. has.told ++ more) has.waits ∙ append-nil has.told) has.served.serves));
+        work = work;
         seen = has.seen;
         half = has.served.half;
         rest = has.rest;
@@ -178,13 +211,7 @@ served-at {S} {g} {given} {taken} {given_now} {taken_now} {trees} db began held 
         told = refl;
         prepared = sc.served.session.store.prepared.items;
         are = λ c. held-said g has.served.said sc.served.session.store has.served.lasts.sound (sc.clean c) (has.served.says (sc.clean c));
-        now = s.now.store;
-        goes_on = s.now.prepared.items;
-        renews = sc.renews.store;
-        left_is = λ c.
-            let (ended, reached, _) = has.served.lasts.reaches (sc.clean c) in
-            let lives = ap suc (sym has.served.lasts.named) in
-            begins-epoch g (written g began.journal) has.served.said sc.served.session.waiting ended sc.served.session.store s.now sc.served.session.life reached (has.served.says (sc.clean c)) s.sound s.shows c (sc.renews.durable c) (sc.renews.life c ∙ lives);
+        ends = ends;
       },
       Appends-trans taken sc.answered taken_now (greeting (life_of began) ++ answers_text has.told) (answers_text (last_answers (late_answer sc.served.session.waiting sc.served.session.store.store) sc.served.end))
           (Appends-trans taken sc.greeted sc.answered (greeting (life_of began)) (answers_text has.told) sc.greets has.appended) sc.ends,
@@ -200,7 +227,7 @@ cut-at : {S : Type 0} {g : Ghosts S} {given taken given_now taken_now : Option (
 cut-at {S} {g} {given} {taken} {given_now} {taken_now} {trees} db began held sound shows same found s =
     subst (λ (x : S). (text : List ℕ) × BeginsBefore (IsClean (g.view x)) held (g.recovers x) given given_now text × AppendsPart taken taken_now text) (sym s.are)
     (let stops = s.stops in
-    let work : ClientWork (Clean g s.now.journal) held = work-of g (Clean g s.now.journal) stops.lines stops.answers stops.life stops.said stops.reached stops.ended stops.waits held db began sound shows s.clean same found stops.serves in (
+    let work : ClientWork (Clean g s.now.journal) held = work-of g (Clean g s.now.journal) stops.lines stops.answers stops.names stops.said stops.reached stops.ended stops.waits held db began sound shows s.clean same found stops.serves in (
       told_text work,
       record { work = work; told = refl; read = stops.read; leaves = λ clean. record { left = s.left clean; found = s.found clean } },
       elim stops.told [

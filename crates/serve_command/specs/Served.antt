@@ -1,5 +1,5 @@
 -- What `serve DATABASE` writes to its client, and what it leaves.
-use Rattle.std.specs.Prelude.{◌≡◌, ◌⊎◌, false, ℕ, suc, List, [], ◌++◌, map, Option, None, Some, IfSome, IsTrue, Result, Ok, Err}
+use Rattle.std.specs.Prelude.{◌≡◌, ◌⊎◌, false, ℕ, suc, List, [], ◌++◌, map, Option, None, Some, IfSome, MatchBool, IsTrue, Result, Ok, Err}
 use Rattle.std.specs.Io.KnownBytes.{Appends, Consumes, IsAtEnd}
 use Rattle.command_files.specs.Answers.{Answers}
 use Rattle.command_files.specs.Status.{is_input}
@@ -20,7 +20,7 @@ use Rattle.durable_store.specs.Durable.{IsDurable, events_of_kinds, kinds}
 use Rattle.durable_store.specs.Durable as durable
 use Rattle.durable_store.specs.Held.{prepared_numbers}
 use Rattle.durable_store.specs.Epochs.{firsts}
-use Rattle.durable_store.specs.Recovered.{recovered}
+use Rattle.durable_store.specs.Recovered.{IsStoreOf, recovered}
 use Rattle.durable_store.specs.Types.{HasTypes}
 use Rattle.request_text.specs.declared.request.Asked.{Asked}
 use Rattle.request_text.specs.declared.request.TransactionName.{TransactionName}
@@ -28,20 +28,21 @@ use Rattle.serving.specs.declared.answer_line.Answered.{Answered}
 use Rattle.serving.specs.Acknowledged.{AreLast}
 use Rattle.serving.specs.CommitsFound.{CommitsAreFound, HasCommit, TellsCommit}
 use Rattle.serving.specs.declared.extension.Extension.{Extension}
-use Rattle.serving.specs.EpochEnd.{last_answers}
-use Rattle.serving.specs.Epochs.{aborted}
+use Rattle.serving.specs.EpochEnd.{ends_epoch, last_answers}
+use Rattle.serving.specs.Epochs.{closed_by}
 use Rattle.serving.specs.Group.{AreFirstLines}
 use Rattle.serving.specs.Left.{Began, IsInLife, IsLeftAfter, Survives, began_at}
 use Rattle.serving.specs.Lines.{AreLines}
-use Rattle.serving.specs.NextEpoch.{IsNextStore, SaysNext, late_answer}
+use Rattle.serving.specs.Names.{KnownNames, given_names}
+use Rattle.serving.specs.NextEpoch.{IsNextStore, SaysNext, SaysSame, late_answer}
 use Rattle.serving.specs.Prepared.{now_says}
 use Rattle.serving.specs.Served.{Serves}
 use Rattle.serving.specs.Told.{AppendsPart, answers_text, greeting}
 use Rattle.serving.specs.Whole.{ServesClient, StopsServing, session_of}
 
--- with this many events an epoch is full
+-- with this many events more than it began with an epoch is full
 abbrev pub epoch_events : ℕ
-epoch_events = 980000
+epoch_events = 65536
 
 -- the store that was opened of what a file said, and the file as it was left then
 pub record IsOpened (said file : Contents) (began : Stored) : Type 0 where
@@ -50,25 +51,26 @@ pub record IsOpened (said file : Contents) (began : Stored) : Type 0 where
   pub left : file ≡ recovered said
 
 -- lines of a client that were done, in their order, by a store, and so they were answered, epoch after epoch; if no wrong answer of a disk was
--- taken as true, it is the store of what a file said, and what is read of the file is so
+-- taken as true, it is the store of what a file said, the client knows who is prepared by the names that the file says, and what is read of the file is so
 pub record ClientWork (clean : Type 0) (held : Option Trees) : Type 0 where
-  pub life : ℕ
+  pub names : KnownNames
   pub file : Contents
   pub began : Stored
   pub lines : List (List ℕ)
   pub told : List Answered
-  pub last : ℕ
+  pub last : KnownNames
   pub said : Contents
   pub reached : Stored
   pub ended : Option Asked
   pub waits : Option Extension
-  pub lives : clean → IsInLife file life
+  pub lives : clean → IsInLife file names.life
+  pub named : clean → names ≡ given_names names.life (durable.prepared_in file)
   pub opened : clean → IfSome held (λ db. IsOpened (contents_of db) file began)
-  pub serves : Serves clean epoch_events file life lines began told last said reached ended waits
+  pub serves : Serves clean epoch_events file names lines began told last said reached ended waits
 
 -- the lines that a client gets of it
 abbrev pub told_text : {clean : Type 0} {held : Option Trees} → ClientWork clean held → List ℕ
-told_text w = (greeting w.life ++ answers_text w.told) ++ answers_text (last_answers (late_answer w.waits w.reached) w.ended)
+told_text w = (greeting w.names.life ++ answers_text w.told) ++ answers_text (last_answers (late_answer w.waits w.reached) w.ended)
 
 -- the ids of stores in the headers of a file
 abbrev pub ids_in : Contents → List (List ℕ)
@@ -83,9 +85,27 @@ pub record BeginsEpoch (file said : Contents) (waits : Option Extension) (last :
   pub id : ids_in (contents_of db) ≡ ids_in file
   pub life : IsInLife (contents_of db) (suc last)
 
+-- a file that came from this one is that of this store in this life: with the texts and objects that it said last, of the store with the same id
+pub record StaysInLife (file said : Contents) (life : ℕ) (s : Stored) (db : Trees) : Type 0 where
+  pub store : IsStoreOf (contents_of db) s
+  pub says : SaysSame said (contents_of db)
+  pub id : ids_in (contents_of db) ≡ ids_in file
+  pub lives : IsInLife (contents_of db) life
+
+-- after this work the file begins a new epoch, in which what was prepared goes on
+pub record RenewsFile {clean : Type 0} {held : Option Trees} (work : ClientWork clean held) (prepared : List Prepared) (left : Option Trees) : Type 0 where
+  pub now : Stored
+  pub goes_on : List Prepared
+  pub renews : IsNextStore work.waits prepared (closed_by false prepared work.reached) now goes_on
+  pub left_is : clean → IfSome left (λ db. BeginsEpoch work.file work.said work.waits work.last.life db now goes_on)
+
+-- or its epoch goes on
+abbrev pub KeepsFile : {clean : Type 0} {held : Option Trees} → ClientWork clean held → List Prepared → Option Trees → Type 0
+KeepsFile {clean} work prepared left = clean → IfSome left (StaysInLife work.file work.said work.last.life (closed_by false prepared work.reached))
+
 -- a text that a client gets: the greeting, the answers and that of the end; of the input these bytes were taken, which are those lines and
--- after them a half one, or what comes after the end; what was open and wasn't prepared is aborted, and the file begins a new epoch, in which what was
--- prepared goes on
+-- after them a half one, or what comes after the end; what was open and wasn't prepared is aborted; and the file begins a new epoch where the end was asked for
+-- or an extension waited
 pub record IsServed (clean : Type 0) (held left : Option Trees) (given given_now : Option (List ℕ)) (text : List ℕ) : Type 0 where
   pub work : ClientWork clean held
   pub seen : List ℕ
@@ -97,10 +117,7 @@ pub record IsServed (clean : Type 0) (held left : Option Trees) (given given_now
   pub told : text ≡ told_text work
   pub prepared : List Prepared
   pub are : clean → prepared ≡ durable.prepared_in (now_says work.said work.reached)
-  pub now : Stored
-  pub goes_on : List Prepared
-  pub renews : IsNextStore work.waits prepared (aborted prepared work.reached) now goes_on
-  pub left_is : clean → IfSome left (λ db. BeginsEpoch work.file work.said work.waits work.last db now goes_on)
+  pub ends : MatchBool (ends_epoch work.waits work.ended) (RenewsFile work prepared left) (KeepsFile work prepared left)
 
 -- what serving answers: never no
 abbrev pub ServesDatabase : Type 0 → Option Trees → Option Trees → Option (List ℕ) → Option (List ℕ) → Answers
@@ -108,7 +125,7 @@ ServesDatabase clean held left given given_now v text = (v ≡ Yes) × IsServed 
 
 -- where it began
 abbrev pub work_began : {clean : Type 0} {held : Option Trees} → ClientWork clean held → Began
-work_began w = record { most = epoch_events; file = w.file; life = w.life; store = w.began }
+work_began w = record { most = epoch_events; file = w.file; names = w.names; store = w.began }
 
 -- whatever may be left is the file after the lines of the first bytes that were read, and has each commit that was answered
 pub record LeavesWork {clean : Type 0} {held : Option Trees} (w : ClientWork clean held) (bytes : List ℕ) (given_now : Option (List ℕ)) (may_be_left : Trees → Type 0) : Type 0 where

@@ -29,14 +29,14 @@ use std::io::Read;
 use std::rt::Clock;
 use std::time::{Duration, Instant};
 
-/// With how many events an epoch is full: 20,000 fewer than a text of a history may have, for what is open then.
-const EPOCH_EVENTS: u32 = 980_000;
+/// With how many events more than it began with an epoch is full: its end takes a few milliseconds.
+const EPOCH_EVENTS: u32 = 65_536;
 
 /// The most bytes that are read at once.
 const MOST_READ: usize = 65_536;
 
 /// How a store is to be served: the path of its database, what is supposed of torn writes, the folder of its archive, if
-/// any, and how long what is open may go on in an epoch that is full.
+/// any, and how long what is open may go on in an epoch that is full where it can't go over.
 #[derive(Clone, Copy)]
 pub struct Serving<'a> {
     pub path: &'a str,
@@ -47,9 +47,9 @@ pub struct Serving<'a> {
 
 /// `serve DATABASE`: the store is opened, what was open in it is aborted, and what was found is said in a line. Then the
 /// lines of the input are done one after another, and the output takes their answers, until the end is asked for
-/// or the input has ended. What is open then is aborted, and the file begins a new epoch. After 980,000 events
-/// another epoch begins too, and where more objects are to be added, with these: no further transaction begins before, and
-/// what is open is aborted where it goes on as long as it may. Before an epoch begins, the archive keeps the history of the one before; where the answer is yes, it has kept
+/// or the input has ended. What is open then is aborted; and where the end was asked for, or more objects are to be added, the
+/// file begins a new epoch. After 65,536 events another epoch begins too, and where more objects are to be added, with these. Where each yes is strong, all that is open
+/// goes over; else no further transaction begins before, and what is open is aborted where it goes on as long as it may. Before an epoch begins, the archive keeps the history of the one before; where the answer is yes, it has kept
 /// that of each epoch that ended, and nothing else.
 ///
 /// # Errors

@@ -1,6 +1,6 @@
 -- Clients get answers, and a crash leaves what they asked for, with each commit that was answered.
-use Rattle.std.proofs.Common.{◌≡◌, ◌∙◌, ◌⊎◌, inl, inr, ℕ, true, None, Option, Result, Ok, Err, List, [], ◌++◌, take, drop, refl, sym, ap, subst, IsTrue}
-use Rattle.std.proofs.KnownBytes.{Consumes-trans}
+use Rattle.std.proofs.Common.{◌≡◌, ◌∙◌, false, Bool, inl, inr, ℕ, true, None, Option, Result, Ok, Err, List, [], ◌++◌, take, drop, refl, sym, length, ap, subst, IsTrue}
+use Rattle.std.proofs.KnownBytes.{Consumes-trans, Keeps-refl}
 use Rattle.std.proofs.lemmas.List.{append-nil}
 use Rattle.std.specs.Io.KnownBytes.{Appends, Consumes, IsAtEnd}
 use Rattle.std.specs.Prelude.{MatchResult, OnErr, OnOk}
@@ -18,20 +18,21 @@ use Rattle.serving.specs.Acknowledged.{NoneLast, ServesSafely, StopsSafely, Stop
 use Rattle.serving.specs.Archives.{KeptHistory}
 use Rattle.serving.specs.Does.{is_epoch_full}
 use Rattle.serving.specs.declared.extension.Extension.{Extension}
-use Rattle.serving.specs.EpochEnd.{EndsEpoch, LeavesEnd, last_answers}
-use Rattle.serving.specs.NextEpoch.{answers_in, late_answer, limit_while}
+use Rattle.serving.specs.EpochEnd.{EndsEpoch, EndsServing, LeavesEnd, last_answers}
+use Rattle.serving.specs.NextEpoch.{answers_in, full_with, late_answer, limit_while}
 use Rattle.serving.specs.Epochs.{LeavesEpochs, WritesEpochs}
 use Rattle.serving.specs.Follows.{LeavesWritten}
 use Rattle.serving.specs.Group.{HasTold, IsUnasked}
-use Rattle.serving.specs.Left.{LeavesLines, Survives, began_at}
+use Rattle.serving.specs.Left.{MayEnd, LeavesLines, Survives, began_at}
+use Rattle.serving.specs.Names.{AreCarriedOver, KnownNames}
 use Rattle.serving.specs.Requests.{LetsGo}
-use Rattle.serving.specs.Server.{StaysInEpoch, HasServed, ServesBytes, life_of}
+use Rattle.serving.specs.Server.{HasServed, ServesBytes, StaysInEpoch, full_at, life_of}
 use Rattle.serving.specs.Told.{AppendsPart, answers_text, greeting, has_lasting}
 use Rattle.serving.specs.Whole.{session_of}
-use Rattle.serving.proofs.EndLemmas.{EndsPart, ends-as, last-as, left-as, part-as, stops-answering, stops-ending, stops-greeting}
+use Rattle.serving.proofs.EndLemmas.{EndsPart, last-as, left-as, part-as, serving-as, stops-answering, stops-ending, stops-greeting}
 use Rattle.serving.proofs.Groups.{group-told, stops-answered, stops-before, stops-telling, told-none}
 use Rattle.serving.proofs.LaterEpochs.{served-epoch, told-as, told-epoch}
-use Rattle.serving.proofs.TextParts.{late-alone, part-then, told-more}
+use Rattle.serving.proofs.TextParts.{late-alone, part-of-whole, part-then, told-more}
 use Rattle.serving.proofs.LeftLines.{lines-begun, lines-ended, lines-group, lines-last, lines-none, lines-on, lines-survive, rest-read, survives-last}
 
 -- while the trees of a store are open, a crash leaves their last commit
@@ -45,7 +46,7 @@ pub tells-none : {S : Type 0} {g : Ghosts S} (given taken : Option (List ℕ)) (
     → TellsSafely g s.session given taken s given taken
 tells-none given taken s sound fresh last = record {
   tells = told-none given taken s sound fresh;
-  safe = λ shows clean. lines-none s.session sound fresh.named clean shows last;
+  safe = λ shows clean. lines-none s.session sound (ap (λ (n : KnownNames). n.life) fresh.named) clean shows last;
 }
 
 -- where a group begins: what was read is served, and no answer waits
@@ -112,40 +113,41 @@ tells-as {S} {g} {began} new session line answers ended so_far = record {
 }
 
 -- an epoch is over, as its file may show
-ended-lines : {S : Type 0} {g : Ghosts S} {began : Session S} {given taken given_now taken_now : Option (List ℕ)} {old : Server S} {last : List (List ℕ) → Type 0} (new : Durable S)
-    → (has : HasTold g began given taken old given_now taken_now) → ((is_epoch_full (limit_while old.session.waiting began.most_events) old.session.store.store ≡ true) ⊎ last has.served.lines) → LeavesEnd g old.session.waiting old.session.store new
+ended-lines : {S : Type 0} {g : Ghosts S} (goes : Bool) {began : Session S} {given taken given_now taken_now : Option (List ℕ)} {old : Server S} {last : List (List ℕ) → Type 0} (new : Durable S)
+    → (has : HasTold g began given taken old given_now taken_now) → MayEnd began.most_events old.session.waiting old.session.names old.session.store.store (last has.served.lines) goes → LeavesEnd g goes old.session.waiting old.session.store new
     → LeavesLines g (began_at g began) NoneLast (has.seen ++ has.rest) has.told [] old.session.store → LeavesLines g (began_at g began) last (has.seen ++ has.rest) has.told [] new
-ended-lines {S} {g} {began} {old = old} {last} new has so crash so_far =
+ended-lines {S} {g} goes {began} {old = old} {last} new has so crash so_far =
     subst (λ xs. LeavesLines g (began_at g began) last (has.seen ++ has.rest) has.told xs new) has.waits
-    (lines-ended old new has.rest has.served so crash
+    (lines-ended goes old new has.rest has.served so crash
     (subst (λ xs. LeavesLines g (began_at g began) last (has.seen ++ has.rest) has.told xs old.session.store) (sym has.waits) (lines-last g (began_at g began) old.session.store (λ lines none. absurd none) so_far)))
 
 -- one that is full, by how many events make it so
 full-since : {S : Type 0} {g : Ghosts S} {began : Session S} {given taken given_now taken_now : Option (List ℕ)} {old : Server S} → HasTold g began given taken old given_now taken_now
-    → is_epoch_full (limit_while old.session.waiting old.session.most_events) old.session.store.store ≡ true → is_epoch_full (limit_while old.session.waiting began.most_events) old.session.store.store ≡ true
-full-since {old = old} has full = subst (λ n. is_epoch_full (limit_while old.session.waiting n) old.session.store.store ≡ true) has.served.lasts.most full
+    → is_epoch_full (full_at old.session) old.session.store.store ≡ true → is_epoch_full (limit_while old.session.waiting (full_with began.most_events old.session.names)) old.session.store.store ≡ true
+full-since {old = old} has full = subst (λ n. is_epoch_full (limit_while old.session.waiting (full_with n old.session.names)) old.session.store.store ≡ true) has.served.lasts.most full
 
 -- another one has begun, and its client was told
-begun-lines : {S : Type 0} {g : Ghosts S} {began : Session S} {last : List (List ℕ) → Type 0} {told : List Answered} {seen bytes : List ℕ} {others waiting : List Answered} (rest : List ℕ) (old : Durable S) (waits : Option Extension) (new : Server S)
-    → HasServed g began told seen new → new.answers.items ≡ [] → ShowsCommit g new.session.store.journal → Clean g new.session.store.journal → LeavesEnd g waits old new.session.store
+begun-lines : {S : Type 0} {g : Ghosts S} (goes : Bool) {began : Session S} {last : List (List ℕ) → Type 0} {told : List Answered} {seen bytes : List ℕ} {others waiting : List Answered} (rest : List ℕ) (old : Durable S) (waits : Option Extension) (new : Server S)
+    → HasServed g began told seen new → new.answers.items ≡ [] → ShowsCommit g new.session.store.journal → Clean g new.session.store.journal → LeavesEnd g goes waits old new.session.store
     → LeavesLines g (began_at g began) NoneLast bytes others waiting old → LeavesLines g (began_at g began) last (seen ++ rest) told [] new.session.store
-begun-lines {S} {g} {began} {last} {told} {seen} rest old waits new served empty shows clean left so_far =
+begun-lines {S} {g} goes {began} {last} {told} {seen} rest old waits new served empty shows clean left so_far =
     subst (λ xs. LeavesLines g (began_at g began) last (seen ++ rest) told xs new.session.store) empty
     (lines-begun new rest served shows clean (λ db leaves. elim (left db leaves) [ inl it ↦ it.1 | inr before ↦ (so_far db before).0 ]))
 
 -- another epoch began
 pub tells-epoch : {S : Type 0} {g : Ghosts S} {began : Session S} {given taken given_now taken_now : Option (List ℕ)} {old : Server S} (new : Server S) (taken_new : Option (List ℕ)) (kept kept_now : Option (List KeptHistory)) → old.end ≡ None
-    → is_epoch_full (limit_while old.session.waiting old.session.most_events) old.session.store.store ≡ true → EndsEpoch g old.session.waiting old.session.store new.session.store → IsDurable g new.session.store → new.session.life ≡ life_of new.session.store
+    → is_epoch_full (full_at old.session) old.session.store.store ≡ true → EndsEpoch g old.session.store.strong old.session.waiting old.session.store new.session.store → IsDurable g new.session.store → new.session.names.life ≡ life_of new.session.store → AreCarriedOver old.session.names old.session.store.strong old.session.store.store.history old.session.store.prepared.items new.session.names.carried
+    → new.session.names.begun_with ≡ length new.session.store.store.history
     → new.session.most_events ≡ old.session.most_events → new.session.waiting ≡ None → ShowsCommit g new.session.store.journal
     → WritesEpochs g old.session.store new.session.store kept kept_now → (Clean g new.session.store.journal → Clean g old.session.store.journal)
-    → LeavesEpochs g old.session.store new.session.store kept kept_now → LeavesEnd g old.session.waiting old.session.store new.session.store → new.line ≡ old.line → new.answers ≡ old.answers → new.end ≡ old.end
+    → LeavesEpochs g old.session.store new.session.store kept kept_now → LeavesEnd g old.session.store.strong old.session.waiting old.session.store new.session.store → new.line ≡ old.line → new.answers ≡ old.answers → new.end ≡ old.end
     → Appends taken_now taken_new (answers_text (last_answers (late_answer old.session.waiting old.session.store.store) None))
     → TellsSafely g began given taken old given_now taken_now → TellsSafely g began given taken new given_now taken_new
-tells-epoch {old = old} new taken_new kept kept_now none full ends sound named most no_more shows writes clean crash left line answers ended appended so_far =
-    let tells = told-epoch new taken_new kept kept_now none full ends sound named most no_more shows writes clean crash line answers ended appended so_far.tells in
+tells-epoch {old = old} new taken_new kept kept_now none full ends sound named over_names counted most no_more shows writes clean crash left line answers ended appended so_far =
+    let tells = told-epoch new taken_new kept kept_now none full ends sound named over_names counted most no_more shows writes clean crash line answers ended appended so_far.tells in
     record {
       tells = tells;
-      safe = λ showed now. begun-lines tells.rest old.session.store old.session.waiting new tells.served tells.waits shows now left (so_far.safe showed (clean now));
+      safe = λ showed now. begun-lines old.session.store.strong tells.rest old.session.store old.session.waiting new tells.served tells.waits shows now left (so_far.safe showed (clean now));
     }
 
 -- ---- a server stops
@@ -160,31 +162,32 @@ stops-here {S} {g} {began} {given_now = given_now} {old = old} so_far = record {
 
 -- while another epoch begins
 pub stops-epoch : {S : Type 0} {g : Ghosts S} {began : Session S} {given taken given_now taken_now : Option (List ℕ)} {old : Server S} (new : Durable S)
-    → is_epoch_full (limit_while old.session.waiting old.session.most_events) old.session.store.store ≡ true → (Clean g new.journal → Clean g old.session.store.journal) → LeavesEnd g old.session.waiting old.session.store new
+    → is_epoch_full (full_at old.session) old.session.store.store ≡ true → (Clean g new.journal → Clean g old.session.store.journal) → LeavesEnd g old.session.store.strong old.session.waiting old.session.store new
     → TellsSafely g began given taken old given_now taken_now → StopsSafely g began given taken new taken_now
-stops-epoch {S} {g} {began} {given_now = given_now} new full clean left so_far = record {
+stops-epoch {S} {g} {began} {given_now = given_now} {old = old} new full clean left so_far = record {
   stops = stops-before new so_far.tells.rest given_now clean so_far.tells so_far.tells.consumed;
-  safe = λ shows now. lines-survive g (began_at g began) new (ended-lines new so_far.tells (inl (full-since so_far.tells full)) left (so_far.safe shows (clean now)));
+  safe = λ shows now. lines-survive g (began_at g began) new (ended-lines old.session.store.strong new so_far.tells (inl (full-since so_far.tells full, so_far.tells.served.lasts.sound.strong)) left (so_far.safe shows (clean now)));
 }
 
 -- as it tells that another one has begun
 pub stops-begun : {S : Type 0} {g : Ghosts S} {began : Session S} {given taken given_now taken_now : Option (List ℕ)} {old : Server S} (new : Server S) (taken_new : Option (List ℕ)) (kept kept_now : Option (List KeptHistory)) → old.end ≡ None
-    → is_epoch_full (limit_while old.session.waiting old.session.most_events) old.session.store.store ≡ true → EndsEpoch g old.session.waiting old.session.store new.session.store → IsDurable g new.session.store → new.session.life ≡ life_of new.session.store
+    → is_epoch_full (full_at old.session) old.session.store.store ≡ true → EndsEpoch g old.session.store.strong old.session.waiting old.session.store new.session.store → IsDurable g new.session.store → new.session.names.life ≡ life_of new.session.store → AreCarriedOver old.session.names old.session.store.strong old.session.store.store.history old.session.store.prepared.items new.session.names.carried
+    → new.session.names.begun_with ≡ length new.session.store.store.history
     → new.session.most_events ≡ old.session.most_events → new.session.waiting ≡ None → ShowsCommit g new.session.store.journal
     → WritesEpochs g old.session.store new.session.store kept kept_now → (Clean g new.session.store.journal → Clean g old.session.store.journal)
-    → LeavesEpochs g old.session.store new.session.store kept kept_now → LeavesEnd g old.session.waiting old.session.store new.session.store → new.line ≡ old.line → new.answers ≡ old.answers → new.end ≡ old.end
+    → LeavesEpochs g old.session.store new.session.store kept kept_now → LeavesEnd g old.session.store.strong old.session.waiting old.session.store new.session.store → new.line ≡ old.line → new.answers ≡ old.answers → new.end ≡ old.end
     → AppendsPart taken_now taken_new (answers_text (last_answers (late_answer old.session.waiting old.session.store.store) None))
     → TellsSafely g began given taken old given_now taken_now → StopsSafely g began given taken new.session.store taken_new
-stops-begun {S} {g} {began} {given} {taken} {given_now} {taken_now} {old} new taken_new kept kept_now none full ends sound named most no_more shows writes clean crash left line answers ended part so_far =
+stops-begun {S} {g} {began} {given} {taken} {given_now} {taken_now} {old} new taken_new kept kept_now none full ends sound named over_names counted most no_more shows writes clean crash left line answers ended part so_far =
     let has = so_far.tells in
     let late = late_answer old.session.waiting old.session.store.store in
     let empty = ap (λ v. v.items) answers ∙ has.waits in
-    let served = served-epoch new kept kept_now none has.waits full ends sound named most no_more shows writes clean crash line answers ended has.served in
+    let served = served-epoch new kept kept_now none has.waits full ends sound named over_names counted most no_more shows writes clean crash line answers ended has.served in
     record {
       stops = stops-answered new has.rest given_now taken_new served empty has.consumed
           (subst (AppendsPart taken taken_new) (sym (told-more has.told (answers_in late)))
           (part-then taken taken_now taken_new (answers_text has.told) (answers_text (answers_in late)) has.appended (subst (λ xs. AppendsPart taken_now taken_new (answers_text xs)) (late-alone late) part)));
-      safe = λ showed now. lines-survive g (began_at g began) new.session.store (begun-lines has.rest old.session.store old.session.waiting new served empty shows now left (so_far.safe showed (clean now)));
+      safe = λ showed now. lines-survive g (began_at g began) new.session.store (begun-lines old.session.store.strong has.rest old.session.store old.session.waiting new served empty shows now left (so_far.safe showed (clean now)));
     }
 
 -- while it does the lines of a group
@@ -237,6 +240,13 @@ stops-safely-greeting {S} {g} {most} given given_now began sound last part = rec
   safe = λ shows clean. lines-survive g (began_at g (session_of most began)) began (lines-none (session_of most began) sound refl clean shows last);
 }
 
+-- once it was greeted
+pub stops-safely-greeted : {S : Type 0} {g : Ghosts S} {most : ℕ} (given given_now taken taken_now : Option (List ℕ)) (began now : Durable S) → now ≡ began → IsDurable g began → LeavesLast g began
+    → Appends taken taken_now (greeting (life_of began)) → StopsServingSafely g most began given taken now given_now taken_now
+stops-safely-greeted {S} {g} {most} given given_now taken taken_now began now same sound last told =
+    subst (λ (d : Durable S). StopsServingSafely g most began given taken d given_now taken_now) (sym same)
+    (stops-safely-greeting given given_now began sound last (part-of-whole taken taken_now taken_now (greeting (life_of began)) told (Keeps-refl taken_now)))
+
 -- while a server answers
 pub stops-safely-served : {S : Type 0} {g : Ghosts S} {most : ℕ} {given taken greeted taken_now : Option (List ℕ)} {session : Session S} {began now d : Durable S} (given_now : Option (List ℕ)) → session ≡ session_of most began
     → now ≡ d → Appends taken greeted (greeting (life_of began)) → StopsSafely g session given greeted d taken_now → StopsServingSafely g most began given taken now given_now taken_now
@@ -248,33 +258,33 @@ stops-safely-served {S} {g} {most} {given} {taken} {greeted} {taken_now} {sessio
 -- after all answers
 stops-safely-ending : {S : Type 0} {g : Ghosts S} {most : ℕ} {given given_now taken greeted answered taken_now : Option (List ℕ)} {served : Server S} (began now : Durable S)
     → Appends taken greeted (greeting (life_of began)) → TellsSafely g (session_of most began) given greeted served given_now answered → (served.end ≡ None → IsAtEnd given_now)
-    → (Clean g now.journal → Clean g served.session.store.journal) → LeavesEnd g served.session.waiting served.session.store now
+    → (Clean g now.journal → Clean g served.session.store.journal) → LeavesEnd g false served.session.waiting served.session.store now
     → EndsPart g served.session.waiting served.session.store served.end now answered taken_now → StopsServingSafely g most began given taken now given_now taken_now
 stops-safely-ending {S} {g} {most} {served = served} began now greets so_far asked clean left part = record {
   stops = stops-ending began now greets so_far.tells clean part;
-  safe = λ shows at_end. lines-survive g (began_at g (session_of most began)) now (ended-lines now so_far.tells (inr (refl, asked)) left (so_far.safe shows (clean at_end)));
+  safe = λ shows at_end. lines-survive g (began_at g (session_of most began)) now (ended-lines false now so_far.tells (inr ((refl, asked), refl)) left (so_far.safe shows (clean at_end)));
 }
 
 -- to the end
 serves-safely : {S : Type 0} {g : Ghosts S} {most : ℕ} {given given_now taken greeted answered taken_now : Option (List ℕ)} {served : Server S} (began now : Durable S)
     → Appends taken greeted (greeting (life_of began)) → TellsSafely g (session_of most began) given greeted served given_now answered → (served.end ≡ None → IsAtEnd given_now)
-    → (Clean g now.journal → Clean g served.session.store.journal) → LeavesEnd g served.session.waiting served.session.store now → EndsEpoch g served.session.waiting served.session.store now
+    → (Clean g now.journal → Clean g served.session.store.journal) → LeavesEnd g false served.session.waiting served.session.store now → EndsServing g served.session.waiting served.end served.session.store now
     → Appends answered taken_now (answers_text (last_answers (late_answer served.session.waiting served.session.store.store) served.end)) → ServesSafely g most began given taken now given_now taken_now
 serves-safely {S} {g} {most} {greeted = greeted} {answered} {served = served} began now greets so_far asked clean left renews ends = record {
   serves = record { served = served; greeted = greeted; answered = answered; greets = greets; tells = so_far.tells; asked = asked; renews = renews; clean = clean; ends = ends };
-  safe = λ shows at_end. lines-survive g (began_at g (session_of most began)) now (ended-lines now so_far.tells (inr (refl, asked)) left (so_far.safe shows (clean at_end)));
+  safe = λ shows at_end. lines-survive g (began_at g (session_of most began)) now (ended-lines false now so_far.tells (inr ((refl, asked), refl)) left (so_far.safe shows (clean at_end)));
 }
 
 -- however it ended, as a server and its end say it
 pub whole-safely : {S E : Type 0} {g : Ghosts S} {most : ℕ} {given given_now greeted answered : Option (List ℕ)} {served : Server S} {session : Session S} {began d : Durable S} {w : Option Extension} {e : Option Asked}
     (taken taken_now : Option (List ℕ)) (now : Durable S) (r : Result (Unit {0}) E) → session ≡ session_of most began → Appends taken greeted (greeting (life_of began))
     → TellsSafely g session given greeted served given_now answered → (served.end ≡ None → IsAtEnd given_now) → w ≡ served.session.waiting → d ≡ served.session.store → e ≡ served.end → (Clean g now.journal → Clean g d.journal)
-    → LeavesEnd g w d now → OnOk r (EndsEpoch g w d now) → OnOk r (Appends answered taken_now (answers_text (last_answers (late_answer w d.store) e)))
+    → LeavesEnd g false w d now → OnOk r (EndsServing g w e d now) → OnOk r (Appends answered taken_now (answers_text (last_answers (late_answer w d.store) e)))
     → OnErr r (EndsPart g w d e now answered taken_now)
     → MatchResult r (λ u. ServesSafely g most began given taken now given_now taken_now) (λ x. StopsServingSafely g most began given taken now given_now taken_now)
 whole-safely {S} {E} {g} {most} {given} {given_now} {greeted} {answered} {served} {session} {began} {d} {w} {e} taken taken_now now (Ok u) same greets tells asked waits at_end is_end clean left renews ends part =
     serves-safely began now greets (subst (λ (s : Session S). TellsSafely g s given greeted served given_now answered) same tells) asked
-    (subst (λ (x : Durable S). Clean g now.journal → Clean g x.journal) at_end clean) (left-as g now waits at_end left) (ends-as g now waits at_end renews) (last-as answered taken_now waits at_end is_end ends)
+    (subst (λ (x : Durable S). Clean g now.journal → Clean g x.journal) at_end clean) (left-as g now waits at_end left) (serving-as g now waits at_end is_end renews) (last-as answered taken_now waits at_end is_end ends)
 whole-safely {S} {E} {g} {most} {given} {given_now} {greeted} {answered} {served} {session} {began} {d} {w} {e} taken taken_now now (Err x) same greets tells asked waits at_end is_end clean left renews ends part =
     stops-safely-ending began now greets (subst (λ (s : Session S). TellsSafely g s given greeted served given_now answered) same tells) asked
     (subst (λ (x : Durable S). Clean g now.journal → Clean g x.journal) at_end clean) (left-as g now waits at_end left) (part-as g now answered taken_now waits at_end is_end part)

@@ -13,7 +13,6 @@ use Rattle.attempts.specs.declared.outcome.Ending.{Ending}
 use Rattle.attempts.specs.declared.outcome.Ending.TheVariants as ending
 use Rattle.attempts.specs.Commands.{CallAt}
 use Rattle.attempts.specs.Answers.{AttemptAnswers, operation_events}
-use Rattle.journal.specs.declared.prepared_row.Prepared.{Prepared}
 use Rattle.journal.specs.Contents.{Contents}
 use Rattle.durable_store.specs.declared.durable.Durable.{Durable}
 use Rattle.durable_store.specs.Durable.{events_of_kinds, kinds}
@@ -28,6 +27,7 @@ use Rattle.serving.specs.AnswersFound.{AnswersAreFound, AnswersDone, IsIt, Trans
 use Rattle.serving.specs.Does.{is_epoch_full}
 use Rattle.serving.specs.Left.{Began, Survives}
 use Rattle.serving.specs.Lines.{AreLines}
+use Rattle.serving.specs.Names.{KnownNames}
 use Rattle.serving.specs.Requests.{DoesRequest}
 use Rattle.serving.specs.Served.{IsAnswered}
 use Rattle.serving.specs.Several.{Attempts, TellsAttempt, ended_answer}
@@ -47,18 +47,18 @@ answers-found g b last seen rest half lines answers now asked survives line a la
     let (waiting, it) = (survives db left).1 in
     let tells = tells-left seen rest half lines (IsIt line a) (it-lasts line a lasting) asked it told in
     let m = serves-moment tt it.file.serves (IsIt line a) (it-lasts line a lasting) tells in
-    let (since, happened) = file-goes m.born m.new it.file.file m.goes_on in
+    let (since, happened) = file-goes m.names.life m.new it.file.file m.goes_on in
     record {
       lines = it.lines;
       done = it.done;
       file = it.file;
       tells = tells;
       most = m.most;
-      born = m.born;
+      names = m.names;
       said = m.said;
       old = m.old;
       new = m.new;
-      answered = subst (λ x. IsAnswered (Unit {0}) m.most m.born m.said line m.old x m.new) m.claims.1 (subst (λ l. IsAnswered (Unit {0}) m.most m.born m.said l m.old m.a m.new) m.claims.0 m.answered);
+      answered = subst (λ x. IsAnswered (Unit {0}) m.most m.names m.said line m.old x m.new) m.claims.1 (subst (λ l. IsAnswered (Unit {0}) m.most m.names m.said l m.old m.a m.new) m.claims.0 m.answered);
       goes_on = m.goes_on;
       since = since;
       happened = happened;
@@ -71,37 +71,37 @@ completed-lasts (Completed replies) it = refl
 completed-lasts (CompletedOne reply) it = refl
 completed-lasts answer it = absurd cc
 
-ended-isnt : (life : ℕ) (ps : List Prepared) (at : ℕ) (how : Ending) → is_completed (ended_answer life ps at how) ≡ false
-ended-isnt life ps at (ending.Busy u) = refl
-ended-isnt life ps at ending.None = refl
-ended-isnt life ps at (ending.Refused refusal) = refl
+ended-isnt : (names : KnownNames) (at : ℕ) (how : Ending) → is_completed (ended_answer names at how) ≡ false
+ended-isnt names at (ending.Busy u) = refl
+ended-isnt names at ending.None = refl
+ended-isnt names at (ending.Refused refusal) = refl
 
 -- the commit is the last event
-attempt-commits : (old new : Stored) (life : ℕ) (ps : List Prepared) (calls : List CallAt) (came : Attempt) (answer : AnswerLine) → AttemptAnswers old 0 calls came new → TellsAttempt new life ps calls came answer → is_completed answer ≡ true
+attempt-commits : (old new : Stored) (names : KnownNames) (calls : List CallAt) (came : Attempt) (answer : AnswerLine) → AttemptAnswers old 0 calls came new → TellsAttempt new names calls came answer → is_completed answer ≡ true
     → Contains (kinds new.history) (Commit (begins old.history))
-attempt-commits old new life ps calls (attempt.Done ks) answer done tells completed =
+attempt-commits old new names calls (attempt.Done ks) answer done tells completed =
     let n = begins old.history in
     let happened : List EventKind = Begin n ∷ (operation_events n calls ks.items ++ Commit n ∷ []) in
     subst (λ (s : Stored). Contains (kinds s.history) (Commit n)) (sym done.events)
     (subst (λ xs. Contains xs (Commit n)) (sym (kinds-append old.history (events_of_kinds happened) ∙ ap (λ xs. kinds old.history ++ xs) (kinds-events happened)))
     (Contains-append_right (kinds old.history) happened (Commit n) (Contains-push (Begin n ∷ operation_events n calls ks.items) (Commit n))))
-attempt-commits old new life ps calls (attempt.Ended at how) answer ended tells completed = absurd (let it : true ≡ false = sym completed ∙ ap is_completed tells ∙ ended-isnt life ps at how in cc)
-attempt-commits old new life ps calls (attempt.NotBegun refusal) answer none tells completed = absurd (let it : true ≡ false = sym completed ∙ ap is_completed tells in cc)
+attempt-commits old new names calls (attempt.Ended at how) answer ended tells completed = absurd (let it : true ≡ false = sym completed ∙ ap is_completed tells ∙ ended-isnt names at how in cc)
+attempt-commits old new names calls (attempt.NotBegun refusal) answer none tells completed = absurd (let it : true ≡ false = sym completed ∙ ap is_completed tells in cc)
 
-done-does : (most life : ℕ) (c : Contents) (line : List ℕ) (old : Stored) (a : Answered) (new : Stored) → AnswersDone line a → (answered : IsAnswered (Unit {0}) most life c line old a new)
-    → Attempts (Unit {0}) life answered.prepared c.objects old (calls_asked line) a.answer new
-done-does most life c line old a new asks answered =
-    let does : DoesRequest (Unit {0}) most life c answered.prepared line old request.Do a.answer new =
-    subst (λ (q : Result Request RequestFault). MatchResult q (λ r. DoesRequest (Unit {0}) most life c answered.prepared line old r a.answer new) (λ fault. (a.answer ≡ Fault fault) × (new ≡ old))) asks.0 answered.request in
+done-does : (most : ℕ) (names : KnownNames) (c : Contents) (line : List ℕ) (old : Stored) (a : Answered) (new : Stored) → AnswersDone line a → (answered : IsAnswered (Unit {0}) most names c line old a new)
+    → Attempts (Unit {0}) names c.objects old (calls_asked line) a.answer new
+done-does most names c line old a new asks answered =
+    let does : DoesRequest (Unit {0}) most names c answered.prepared line old request.Do a.answer new =
+    subst (λ (q : Result Request RequestFault). MatchResult q (λ r. DoesRequest (Unit {0}) most names c answered.prepared line old r a.answer new) (λ fault. (a.answer ≡ Fault fault) × (new ≡ old))) asks.0 answered.request in
     either (is_epoch_full most old) does (λ p. absurd (let it : true ≡ false = sym asks.1 ∙ ap is_completed p.0 in cc)) (λ it. it)
 
 pub transactions-found : {S : Type 0} (g : Ghosts S) (b : Began) (last : List (List ℕ) → Type 0) (seen rest half : List ℕ) (lines : List (List ℕ)) (answers : List Answered) (now : Durable S) → AreLines seen lines half
     → Survives g b last (seen ++ rest) answers now → TransactionsAreFound g b last lines answers now
 transactions-found g b last seen rest half lines answers now asked survives line a asks told db left =
     let found = answers-found g b last seen rest half lines answers now asked survives line a (completed-lasts a.answer asks.1) told db left in
-    let did = done-does found.most found.born found.said line found.old a found.new asks found.answered in
+    let did = done-does found.most found.names found.said line found.old a found.new asks found.answered in
     record {
       found = found;
       did = did;
-      committed = attempt-commits found.old found.new found.born found.answered.prepared did.made did.came a.answer did.answers did.tells asks.1;
+      committed = attempt-commits found.old found.new found.names did.made did.came a.answer did.answers did.tells asks.1;
     }

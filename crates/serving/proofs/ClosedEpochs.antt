@@ -1,19 +1,18 @@
--- An epoch is closed: what is open is aborted, and its history is kept.
-use Rattle.std.proofs.Common.{◌≡◌, ◌∙◌, inl, inr, ℕ, ◌≤◌, Option, None, Some, List, [], ◌∷◌, length, take, drop, sym, ap, ap₂, subst, arith}
+-- An epoch is closed: what is open is aborted where it doesn't go over, and its history is kept.
+use Rattle.std.proofs.Common.{◌≡◌, ◌∙◌, inl, inr, ℕ, ◌≤◌, Bool, true, false, Option, None, Some, Result, Ok, Err, List, [], ◌∷◌, length, take, drop, sym, ap, ap₂, subst, arith}
 use Rattle.std.proofs.Math.Seq.{drop-append_seam}
-use Rattle.std.proofs.lemmas.List.{length-map, take_all}
+use Rattle.std.proofs.lemmas.List.{append-nil, drop_all, length-map, take_all}
+use Rattle.std.specs.Prelude.{OnOk}
 use Rattle.sqlite_trees.specs.declared.store.Store.{Ghosts}
 use Rattle.object_trait.specs.declared.event.Event.{Event}
 use Rattle.object_trait.specs.declared.event.EventKind.{EventKind}
 use Rattle.store_text.specs.declared.line.ObjectLine.{ObjectLine}
 use Rattle.history_text.specs.Canonical.{canonical_text}
 use Rattle.store_laws.specs.Stored.{Stored}
-use Rattle.store.specs.Ends.{closing_but}
 use Rattle.journal.specs.declared.prepared_row.Prepared.{Prepared}
-use Rattle.durable_store.specs.Held.{prepared_numbers}
 use Rattle.journal.specs.declared.header.Header.{Header}
 use Rattle.journal.specs.Contents.{Contents, contents_of}
-use Rattle.journal.specs.Journal.{Clean, IsJournal, ShowsCommit, written}
+use Rattle.journal.specs.Journal.{Clean, IsJournal, ShowsCommit, durable, written}
 use Rattle.durable_store.specs.declared.durable.Durable.{Durable}
 use Rattle.durable_store.specs.Durable.{IsDurable, OutcomesStay, WritesSince, events_of_kinds, with_all}
 use Rattle.durable_store.specs.Epochs.{LeavesEpoch}
@@ -23,13 +22,13 @@ use Rattle.serving.specs.Archives.{KeepsAtLeast, KeepsEpochs, KeepsText, KeptHis
 use Rattle.std.specs.declared.vec.Vec.{Vec}
 use Rattle.std.specs.declared.alloc.Global.{Global}
 use Rattle.serving.specs.declared.extension.Extension.{Extension}
-use Rattle.serving.specs.EpochEnd.{LeavesClosed, LeavesEnd, LeavesNext}
+use Rattle.serving.specs.EpochEnd.{EndsInEpoch, LeavesClosed, LeavesEnd, LeavesNext}
 use Rattle.serving.specs.NextEpoch.{IsNextFile}
 use Rattle.serving.specs.Server.{KeepsAll}
-use Rattle.serving.specs.Epochs.{LeavesEpochs, Reaches, aborted}
-use Rattle.serving.specs.Follows.{LeavesWritten}
+use Rattle.serving.specs.Epochs.{LeavesEpochs, Reaches, closed_by, closings}
+use Rattle.serving.specs.Follows.{HasMore, LeavesMore, LeavesWritten, WritesMore}
 use Rattle.serving.specs.Requests.{LetsGo}
-use Rattle.serving.proofs.MoreEvents.{outcomes-more, writes-more}
+use Rattle.serving.proofs.MoreEvents.{leaves-then, outcomes-more, writes-more, written-more}
 use Rattle.serving.proofs.NextEpochs.{next-file-as}
 use Rattle.serving.proofs.LaterEpochs.{is-store-of, left-more, left-then, writes-one}
 
@@ -84,32 +83,32 @@ left-closed g old mid new kept kept_now clean since stay crash =
 pub written-stays : {S : Type 0} (g : Ghosts S) (old mid new : Durable S) → LeavesWritten g old mid → OutcomesStay g mid new → LeavesWritten g old new
 written-stays g old mid new crash stay db left = crash db (stay db left)
 
--- what was open is aborted, and then all of it may become durable
-pub closed-left : {S : Type 0} (g : Ghosts S) (old mid new : Durable S) → mid.store ≡ aborted old.prepared.items old.store → mid.journal.header ≡ old.journal.header → IsDurable g mid → (Clean g mid.journal → Clean g old.journal)
-    → KeepsAll g old mid → OutcomesStay g old mid → LeavesWritten g mid new → LeavesClosed g old new
-closed-left g old mid new aborts header sound clean keeps stay crash db left = elim (crash db left) [
+-- what doesn't go over is aborted, and then all of it may become durable
+pub closed-left : {S : Type 0} (g : Ghosts S) (goes : Bool) (old mid new : Durable S) → mid.store ≡ closed_by goes old.prepared.items old.store → mid.journal.header ≡ old.journal.header → IsDurable g mid → (Clean g mid.journal → Clean g old.journal)
+    → KeepsAll g old mid → OutcomesStay g old mid → LeavesWritten g mid new → LeavesClosed g goes old new
+closed-left g goes old mid new aborts header sound clean keeps stay crash db left = elim (crash db left) [
   | inl it ↦
       let store : IsStoreOf (contents_of db) mid.store = subst (λ (c : Contents). IsStoreOf c mid.store) (sym it.2) (is-store-of g mid sound it.0) in
       inl (clean it.0, it.1, (subst (λ (s : Stored). IsStoreOf (contents_of db) s) aborts store, it.3 ∙ ap (λ (h : Header). h ∷ []) header, ap (λ (c : Contents). c.outcomes) it.2 ∙ (keeps it.0).0, ap (λ (c : Contents). c.prepared) it.2 ∙ (keeps it.0).1))
   | inr before ↦ inr (stay db before)
 ]
 
-pub closed-end : {S : Type 0} (g : Ghosts S) (waits : Option Extension) (old new : Durable S) → LeavesClosed g old new → LeavesEnd g waits old new
-closed-end g waits old new crash db left = elim (crash db left) [ inl it ↦ inl (it.0, it.1, inl it.2) | inr before ↦ inr before ]
+pub closed-end : {S : Type 0} (g : Ghosts S) (goes : Bool) (waits : Option Extension) (old new : Durable S) → LeavesClosed g goes old new → LeavesEnd g goes waits old new
+closed-end g goes waits old new crash db left = elim (crash db left) [ inl it ↦ inl (it.0, it.1, inl it.2) | inr before ↦ inr before ]
 
 -- the file of a store that has forgotten fewer events
-store-as : (s t : Stored) (c : Contents) → LetsGo s t → IsStoreOf c t → IsStoreOf c s
+pub store-as : (s t : Stored) (c : Contents) → LetsGo s t → IsStoreOf c t → IsStoreOf c s
 store-as s t c lets is =
     let it : IsStoreOf c (record s { forgotten = t.forgotten }) = subst (λ (u : Stored). IsStoreOf c u) lets is in
     record { types = it.types; history = it.history; limit = it.limit }
 
 -- and then the file may begin anew
-pub end-left : {S : Type 0} (g : Ghosts S) (waits : Option Extension) (old mid new : Durable S) → LetsGo (aborted old.prepared.items old.store) mid.store → mid.prepared ≡ old.prepared → mid.journal.header ≡ old.journal.header → IsDurable g mid → (Clean g mid.journal → Clean g old.journal)
-    → KeepsAll g old mid → LeavesClosed g old mid → LeavesNext g waits mid new → LeavesEnd g waits old new
-end-left {S} g waits old mid new lets same header sound clean keeps crash anew db left = elim (anew db left) [
+pub end-left : {S : Type 0} (g : Ghosts S) (goes : Bool) (waits : Option Extension) (old mid new : Durable S) → LetsGo (closed_by goes old.prepared.items old.store) mid.store → mid.prepared ≡ old.prepared → mid.journal.header ≡ old.journal.header → IsDurable g mid → (Clean g mid.journal → Clean g old.journal)
+    → KeepsAll g old mid → LeavesClosed g goes old mid → LeavesNext g waits mid new → LeavesEnd g goes waits old new
+end-left {S} g goes waits old mid new lets same header sound clean keeps crash anew db left = elim (anew db left) [
   | inl it ↦
       let (s, ps, next) = it.2 in
-      let closed = aborted old.prepared.items old.store in
+      let closed = closed_by goes old.prepared.items old.store in
       inl (
         clean it.0,
         it.1,
@@ -122,17 +121,49 @@ end-left {S} g waits old mid new lets same header sound clean keeps crash anew d
               (subst (λ (all : Vec Prepared Global). IsNextFile waits all.items mid.store s ps (written g mid.journal) (contents_of db)) same next);
         }),
       )
-  | inr before ↦ closed-end g waits old mid crash db before
+  | inr before ↦ closed-end g goes waits old mid crash db before
 ]
 
 -- ---- what was written
 
--- with an abort of each transaction that was open
-pub closed-written : {S : Type 0} (g : Ghosts S) (old mid : Durable S) → mid.store ≡ aborted old.prepared.items old.store → WritesSince g old mid → Clean g mid.journal
-    → written g mid.journal ≡ with_all (written g old.journal) (closing_but (prepared_numbers old.prepared.items) old.store.history)
-closed-written g old mid aborts since now =
+-- with what happens as an epoch ends
+pub closed-written : {S : Type 0} (g : Ghosts S) (goes : Bool) (old mid : Durable S) → mid.store ≡ closed_by goes old.prepared.items old.store → WritesSince g old mid → Clean g mid.journal
+    → written g mid.journal ≡ with_all (written g old.journal) (closings goes old.prepared.items old.store)
+closed-written g goes old mid aborts since now =
     since now ∙ ap (λ es. with_all (written g old.journal) es)
-    (ap (λ (s : Stored). drop (length old.store.history) s.history) aborts ∙ drop-append_seam old.store.history (closing_but (prepared_numbers old.prepared.items) old.store.history))
+    (ap (λ (s : Stored). drop (length old.store.history) s.history) aborts ∙ drop-append_seam old.store.history (closings goes old.prepared.items old.store))
+
+-- nothing happened
+pub stays-closed : (ps : List Prepared) (s : Stored) → s ≡ closed_by true ps s
+stays-closed ps s = ap (λ h. let t : Stored = record s { history = h } in t) (sym (append-nil s.history))
+
+pub writes-none : {S : Type 0} (g : Ghosts S) (d : Durable S) → WritesSince g d d
+writes-none g d now =
+    let c = written g d.journal in
+    sym (ap (with_all c) (drop_all (length d.store.history) d.store.history (omega arith)) ∙ ap (λ es. let x : Contents = record c { events = es } in x) (append-nil c.events))
+
+-- all of it became durable, and the epoch goes on
+pub goes-on : {S E T : Type 0} (g : Ghosts S) (old mid new : Durable S) (r : Result T E) → mid.store ≡ closed_by false old.prepared.items old.store → mid.prepared ≡ old.prepared → mid.journal.header ≡ old.journal.header → WritesSince g old mid
+    → OnOk r (new.store ≡ record mid.store { forgotten = length mid.store.history }) → new.prepared ≡ mid.prepared → new.journal.header ≡ mid.journal.header → (Clean g new.journal → Clean g mid.journal)
+    → OnOk r (Clean g new.journal → durable g new.journal ≡ written g mid.journal) → OnOk r (EndsInEpoch g old new)
+goes-on g old mid new (Ok u) aborts prepared life since settled same header clean kept = record {
+  store =
+      let closed = closed_by false old.prepared.items old.store in
+      let is : new.store ≡ record closed { forgotten = length mid.store.history } = settled ∙ ap (λ (s : Stored). let t : Stored = record s { forgotten = length mid.store.history } in t) aborts in
+      is ∙ ap (λ n. let t : Stored = record closed { forgotten = n } in t) (sym (ap (λ (s : Stored). s.forgotten) is));
+  prepared = same ∙ prepared;
+  life = header ∙ life;
+  durable = λ now. kept now ∙ closed-written g false old mid aborts since (clean now);
+}
+goes-on g old mid new (Err e) aborts prepared life since settled same header clean kept = tt
+
+pub writes-settled : {S E T : Type 0} (g : Ghosts S) (old mid new : Durable S) (r : Result T E) → WritesSince g old mid → (Clean g new.journal → Clean g mid.journal) → OnOk r (Clean g new.journal → written g new.journal ≡ written g mid.journal)
+    → OnOk r (WritesMore g old new)
+writes-settled g old mid new (Ok u) since clean same = λ now. subst (HasMore (written g old.journal)) (sym (same now)) (writes-more g old mid since (clean now))
+writes-settled g old mid new (Err e) since clean same = tt
+
+pub left-settled : {S : Type 0} (g : Ghosts S) (old mid new : Durable S) → (Clean g mid.journal → Clean g old.journal) → WritesSince g old mid → OutcomesStay g old mid → LeavesWritten g mid new → LeavesMore g old new
+left-settled g old mid new clean since stay crash = leaves-then g old mid new clean (writes-more g old mid since) (outcomes-more g old mid stay) (written-more g mid new crash)
 
 -- ---- a store that gets more objects
 

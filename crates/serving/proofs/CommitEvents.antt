@@ -3,10 +3,10 @@ use Rattle.serving.specs.AnswersFound.{GoesFurther}
 use Rattle.serving.specs.CommitsFound.{TellsCommit}
 use Rattle.serving.proofs.Places.{Lasts}
 use Rattle.serving.proofs.Moments.{file-goes, kinds-append, serves-moment, tells-left}
-use Rattle.std.proofs.Common.{◌≡◌, ◌∙◌, ℕ, Bool, true, false, Option, None, Some, Result, Ok, Err, List, [], ◌∷◌, ◌++◌, refl, sym, ap, subst}
-use Rattle.std.proofs.lemmas.Bool.{eqb-true}
+use Rattle.std.proofs.Common.{◌≡◌, ◌∙◌, ℕ, Bool, false, None, Some, Result, Ok, Err, List, [], ◌∷◌, ◌++◌, refl, sym, ap, subst}
 use Rattle.std.proofs.lemmas.List.Elements.{Contains-append_left, Contains-push}
-use Rattle.std.specs.Prelude.{◌==◌, Contains, MatchBool, MatchResult, if◌then◌else◌, is_some}
+use Rattle.std.specs.Prelude.{Contains, MatchOption, MatchResult, if◌then◌else◌, is_some}
+use Rattle.serial_order.specs.declared.refusal.Refusal.TheVariants.{NotOpen}
 use Rattle.sqlite_trees.specs.declared.store.Store.{Ghosts}
 use Rattle.object_trait.specs.declared.event.Event.{Event}
 use Rattle.object_trait.specs.declared.event.EventKind.TheVariants as kind
@@ -17,7 +17,7 @@ use Rattle.store_laws.specs.Stored.{Steps, Stored, refusal_of}
 use Rattle.journal.specs.Contents.{Contents}
 use Rattle.durable_store.specs.declared.durable.Durable.{Durable}
 use Rattle.durable_store.specs.Durable.{kinds}
-use Rattle.durable_store.specs.Held.{Unless, first_passing, prepared_numbers}
+use Rattle.durable_store.specs.Held.{Unless, prepared_numbers}
 use Rattle.durable_store.specs.declared.denial.Denial.{Denial}
 use Rattle.durable_store.specs.declared.denial.Denial.TheVariants as denied
 use Rattle.journal.specs.declared.prepared_row.Prepared.{Prepared}
@@ -29,7 +29,7 @@ use Rattle.serving.specs.declared.answer_line.AnswerLine.TheVariants.{Committed,
 use Rattle.serving.specs.declared.answer_line.Answered.{Answered}
 use Rattle.serving.specs.CommitsFound.{AnswersCommit, CommitsAreFound, KeepsCommit}
 use Rattle.serving.specs.Does.{DoesCommit, UnlessPrepared, done_or}
-use Rattle.serving.specs.Prepared.{foreign, foreign_answer, is_given}
+use Rattle.serving.specs.Names.{KnownNames, number_named}
 use Rattle.serving.specs.Left.{Began, Survives}
 use Rattle.serving.specs.Lines.{AreLines}
 use Rattle.serving.specs.Requests.{DoesRequest}
@@ -47,29 +47,25 @@ commit-step prepared old n (Ok u) answer new told did said =
 commit-step prepared old n (Err denied.Prepared) answer new told did said = absurd (let it : IsPrepared ≡ Committed = sym said ∙ told in cc)
 commit-step prepared old n (Err (denied.Refused e)) answer new told did said = absurd (let it : Refused e ≡ Committed = sym said ∙ told in cc)
 
--- one of another life isn't committed
-foreign-isnt : (found : Option Prepared) → foreign_answer found ≡ Committed → ⊥
-foreign-isnt None is = absurd (cc)
-foreign-isnt (Some p) is = absurd (cc)
-
-commit-done : (life : ℕ) (ps : List Prepared) (old : Stored) (t : TransactionName) (answer : AnswerLine) (new : Stored) → answer ≡ Committed → DoesCommit life ps old t answer new
-    → (t.life ≡ life) × (new.history ≡ old.history ++ commit_of t.number ∷ [])
-commit-done life ps old t answer new told does =
-    elim (t.life == life) as (λ v. (t.life == life) ≡ v → MatchBool v ((r : Result (Unit {0}) Denial) × UnlessPrepared ps t old (λ (x : Result (Unit {0}) Refusal). Steps old 0 (command.Commit t.number) x new) r new × (answer ≡ done_or Committed r)) ((answer ≡ foreign ps t) × (new ≡ old))
-    → (t.life ≡ life) × (new.history ≡ old.history ++ commit_of t.number ∷ [])) [
-      | true ↦ λ same it. (eqb-true t.life life same, commit-step (is_among (prepared_numbers ps) t.number) old t.number it.0 answer new told it.1 it.2)
-      | false ↦ λ other it. absurd (foreign-isnt (first_passing (is_given t) ps) (sym it.0 ∙ told))
+commit-done : (names : KnownNames) (ps : List Prepared) (old : Stored) (t : TransactionName) (answer : AnswerLine) (new : Stored) → answer ≡ Committed → DoesCommit names ps old t answer new
+    → (n : ℕ) × (number_named names t ≡ Some n) × (new.history ≡ old.history ++ commit_of n ∷ [])
+commit-done names ps old t answer new told does =
+    elim (number_named names t) as (λ found. number_named names t ≡ found
+    → MatchOption found ((answer ≡ Refused NotOpen) × (new ≡ old)) (λ n. (r : Result (Unit {0}) Denial) × UnlessPrepared ps n old (λ (x : Result (Unit {0}) Refusal). Steps old 0 (command.Commit n) x new) r new × (answer ≡ done_or Committed r))
+    → (n : ℕ) × (number_named names t ≡ Some n) × (new.history ≡ old.history ++ commit_of n ∷ [])) [
+      | None ↦ λ none it. absurd (let no : Refused NotOpen ≡ Committed = sym it.0 ∙ told in cc)
+      | Some n ↦ λ known it. (n, known, commit-step (is_among (prepared_numbers ps) n) old n it.0 answer new told it.1 it.2)
     ] refl does
 
-commit-answered : (clean : Type 0) (most life : ℕ) (c : Contents) (line : List ℕ) (old : Stored) (a : Answered) (new : Stored) (t : TransactionName) → AnswersCommit line a t → IsAnswered clean most life c line old a new
-    → (t.life ≡ life) × (new.history ≡ old.history ++ commit_of t.number ∷ [])
-commit-answered clean most life c line old a new t commits answered =
-    commit-done life answered.prepared old t a.answer new commits.1
-    (subst (λ (q : Result Request RequestFault). MatchResult q (λ r. DoesRequest clean most life c answered.prepared line old r a.answer new) (λ fault. (a.answer ≡ Fault fault) × (new ≡ old))) commits.0 answered.request)
+commit-answered : (clean : Type 0) (most : ℕ) (names : KnownNames) (c : Contents) (line : List ℕ) (old : Stored) (a : Answered) (new : Stored) (t : TransactionName) → AnswersCommit line a t → IsAnswered clean most names c line old a new
+    → (n : ℕ) × (number_named names t ≡ Some n) × (new.history ≡ old.history ++ commit_of n ∷ [])
+commit-answered clean most names c line old a new t commits answered =
+    commit-done names answered.prepared old t a.answer new commits.1
+    (subst (λ (q : Result Request RequestFault). MatchResult q (λ r. DoesRequest clean most names c answered.prepared line old r a.answer new) (λ fault. (a.answer ≡ Fault fault) × (new ≡ old))) commits.0 answered.request)
 
 -- so it stays
-goes-keep : {t : TransactionName} {moment : Stored} {life : ℕ} {now : Stored} → Contains (kinds moment.history) (kind.Commit t.number) → GoesFurther t.life moment life now → KeepsCommit t life now
-goes-keep {t} {moment} there (GoesFurther.same now more is) = KeepsCommit.event now (subst (λ ks. Contains ks (kind.Commit t.number)) (sym is) (Contains-append_left (kinds moment.history) more (kind.Commit t.number) there))
+goes-keep : {made n : ℕ} {moment : Stored} {life : ℕ} {now : Stored} → Contains (kinds moment.history) (kind.Commit n) → GoesFurther made moment life now → KeepsCommit made n life now
+goes-keep {n = n} {moment} there (GoesFurther.same now more is) = KeepsCommit.event now (subst (λ ks. Contains ks (kind.Commit n)) (sym is) (Contains-append_left (kinds moment.history) more (kind.Commit n) there))
 goes-keep there (GoesFurther.epoch life waits ps next old first now before renews begins) = KeepsCommit.epoch life waits ps next old first now (goes-keep there before) renews begins
 
 commit-lasts : (t : TransactionName) → Lasts (λ line a. AnswersCommit line a t)
@@ -81,20 +77,23 @@ commits-found g b last seen rest half lines answers now asked survives t told db
     let (waiting, it) = (survives db left).1 in
     let tells : TellsCommit it.lines it.done t = tells-left seen rest half lines (λ line a. AnswersCommit line a t) (commit-lasts t) asked it told in
     let m = serves-moment tt it.file.serves (λ line a. AnswersCommit line a t) (commit-lasts t) tells in
-    let (same, is) = commit-answered (Unit {0}) m.most m.born m.said m.line m.old m.a m.new t m.claims m.answered in
-    let goes : GoesFurther t.life m.new it.file.life it.file.reached = subst (λ n. GoesFurther n m.new it.file.life it.file.reached) (sym same) m.goes_on in
-    let there : Contains (kinds m.new.history) (kind.Commit t.number) =
-    subst (λ ks. Contains ks (kind.Commit t.number)) (sym (ap kinds is ∙ kinds-append m.old.history (commit_of t.number ∷ []))) (Contains-push (kinds m.old.history) (kind.Commit t.number)) in
-    let (since, happened) = file-goes t.life m.new it.file.file goes in
+    let (n, known, is) = commit-answered (Unit {0}) m.most m.names m.said m.line m.old m.a m.new t m.claims m.answered in
+    let there : Contains (kinds m.new.history) (kind.Commit n) =
+    subst (λ ks. Contains ks (kind.Commit n)) (sym (ap kinds is ∙ kinds-append m.old.history (commit_of n ∷ []))) (Contains-push (kinds m.old.history) (kind.Commit n)) in
+    let (since, happened) = file-goes m.names.life m.new it.file.file m.goes_on in
     record {
       lines = it.lines;
       done = it.done;
       file = it.file;
       tells = tells;
-      keeps = goes-keep there goes;
+      names = m.names;
+      knew = m.knew;
+      number = n;
+      known = known;
+      keeps = goes-keep there m.goes_on;
       since = since;
       happened =
           λ now_so.
           let (more, begins) = happened now_so in
-          subst (λ ks. Contains ks (kind.Commit t.number)) (sym begins) (Contains-append_left (kinds m.new.history) more (kind.Commit t.number) there);
+          subst (λ ks. Contains ks (kind.Commit n)) (sym begins) (Contains-append_left (kinds m.new.history) more (kind.Commit n) there);
     }

@@ -1,10 +1,11 @@
 -- How serving ends.
-use Rattle.std.proofs.Common.{◌≡◌, ◌∙◌, ◌⊎◌, ℕ, None, Some, Result, Ok, Err, inl, inr, List, [], ◌∷◌, ◌++◌, refl, sym, ap, ap₂, subst, Option}
+use Rattle.std.proofs.Common.{◌≡◌, ◌∙◌, ◌⊎◌, false, ℕ, None, Some, Result, Ok, Err, inl, inr, List, [], ◌∷◌, ◌++◌, refl, sym, ap, ap₂, subst, Option}
 use Rattle.std.proofs.KnownBytes.{Appends-trans, Consumes-nil, Keeps-refl}
 use Rattle.std.proofs.lemmas.List.{append-nil}
 use Rattle.std.specs.Io.KnownBytes.{Appends, IsAtEnd}
-use Rattle.std.specs.Prelude.{OnOk, OnErr}
+use Rattle.std.specs.Prelude.{OnOk, OnErr, is_some}
 use Rattle.sqlite_trees.specs.declared.store.Store.{Ghosts}
+use Rattle.store_laws.specs.Stored.{Stored}
 use Rattle.journal.specs.Journal.{Clean, written}
 use Rattle.durable_store.specs.declared.durable.Durable.{Durable}
 use Rattle.request_text.specs.declared.request.Asked.{Asked}
@@ -13,7 +14,7 @@ use Rattle.serving.specs.Epochs.{LeavesEpochs, WritesEpochs}
 use Rattle.serving.specs.declared.extension.Extension.{Extension}
 use Rattle.serving.specs.declared.session.Session.{Session}
 use Rattle.serving.specs.declared.server.Server.{Server}
-use Rattle.serving.specs.EpochEnd.{EndsEpoch, LeavesEnd, end_answers, last_answers}
+use Rattle.serving.specs.EpochEnd.{EndsEpoch, EndsServing, LeavesEnd, end_answers, ends_epoch, last_answers}
 use Rattle.serving.specs.declared.answer_line.AnswerLine.{AnswerLine}
 use Rattle.serving.specs.declared.answer_line.AnswerLine.TheVariants.{Done}
 use Rattle.serving.specs.declared.answer_line.Answered.{Answered}
@@ -21,7 +22,7 @@ use Rattle.serving.specs.Group.{HasTold, StopsTelling}
 use Rattle.serving.specs.NextEpoch.{late_answer}
 use Rattle.serving.specs.Served.{Serves}
 use Rattle.serving.specs.Told.{AppendsPart, answers_text, greeting}
-use Rattle.serving.specs.Server.{life_of}
+use Rattle.serving.specs.Server.{life_of, first_names}
 use Rattle.serving.specs.Whole.{ServesClient, StopsServing, session_of}
 use Rattle.serving.proofs.HeldSaid.{held-said}
 use Rattle.serving.proofs.LaterEpochs.{left-then, writes-on}
@@ -55,7 +56,7 @@ stops-greeting {S} {g} {most} given {taken} {taken_now} began part = record {
   lines = [];
   read = record { seen = []; half = []; rest = []; left = given; consumed = Consumes-nil given; asked = record { text = refl; whole = tt; within = refl } };
   answers = [];
-  life = life_of began;
+  names = first_names began;
   reached = began.store;
   said = written g began.journal;
   ended = None;
@@ -64,6 +65,12 @@ stops-greeting {S} {g} {most} given {taken} {taken_now} began part = record {
   told = inl (subst (AppendsPart taken taken_now) (sym (append-nil (greeting (life_of began)))) part);
 }
 
+-- the greeting, and nothing else
+pub stops-greeted : {S : Type 0} {g : Ghosts S} {most : ℕ} (given taken taken_now : Option (List ℕ)) (began now : Durable S) → now ≡ began → Appends taken taken_now (greeting (life_of began)) → StopsServing g most began given taken now taken_now
+stops-greeted {S} {g} {most} given taken taken_now began now same told =
+    subst (λ (d : Durable S). StopsServing g most began given taken d taken_now) (sym same)
+    (stops-greeting given began (part-of-whole taken taken_now taken_now (greeting (life_of began)) told (Keeps-refl taken_now)))
+
 -- the greeting, and a beginning of what some lines are answered
 abbrev pub stops-answering : {S : Type 0} {g : Ghosts S} {most : ℕ} {given taken greeted taken_now : Option (List ℕ)} (began now : Durable S) → Appends taken greeted (greeting (life_of began))
     → StopsTelling g (session_of most began) given greeted now taken_now → StopsServing g most began given taken now taken_now
@@ -71,7 +78,7 @@ stops-answering {S} {g} {most} {given} {taken} {greeted} {taken_now} began now g
   lines = stops.lines;
   read = stops.read;
   answers = stops.answers;
-  life = stops.life;
+  names = stops.names;
   reached = stops.reached;
   said = stops.said;
   ended = stops.ended;
@@ -87,17 +94,10 @@ stops-served {S} {g} {most} {given} {taken} {greeted} {taken_now} {session} {beg
     stops-answering began now greets (subst (λ (x : Durable S). StopsTelling g (session_of most began) given greeted x taken_now) (sym is_now)
     (subst (λ (s : Session S). StopsTelling g s given greeted d taken_now) same stops))
 
--- the same session
-pub same-session : {S : Type 0} (s : Session S) (d : Durable S) (most : ℕ) → s.store ≡ d → s.life ≡ life_of d → s.most_events ≡ most → s.waiting ≡ None → s ≡ session_of most d
-same-session {S} s d most store life events none_waits =
-    ap (λ (x : Durable S). let it : Session S = record { store = x; life = s.life; most_events = s.most_events; waiting = s.waiting } in it) store
-    ∙ ap₂ (λ (n m : ℕ). let it : Session S = record { store = d; life = n; most_events = m; waiting = s.waiting } in it) life events
-    ∙ ap (λ (w : Option Extension). let it : Session S = record { store = d; life = life_of d; most_events = most; waiting = w } in it) none_waits
-
 -- of what is answered at the end nothing, or where the epoch has ended a beginning
 abbrev pub EndsPart : {S : Type 0} (g : Ghosts S) → Option Extension → Durable S → Option Asked → Durable S → Option (List ℕ) → Option (List ℕ) → Type 0
 EndsPart g waits d ended now answered taken_now =
-    (taken_now ≡ answered) ⊎ (EndsEpoch g waits d now × AppendsPart answered taken_now (answers_text (last_answers (late_answer waits d.store) ended)))
+    (taken_now ≡ answered) ⊎ (EndsEpoch g false waits d now × AppendsPart answered taken_now (answers_text (last_answers (late_answer waits d.store) ended)))
 
 -- the same of equal parts
 pub part-as : {S : Type 0} (g : Ghosts S) {w v : Option Extension} {d b : Durable S} {e f : Option Asked} (now : Durable S) (answered taken_now : Option (List ℕ)) → w ≡ v → d ≡ b → e ≡ f
@@ -105,11 +105,12 @@ pub part-as : {S : Type 0} (g : Ghosts S) {w v : Option Extension} {d b : Durabl
 part-as {S} g {w} {v} {d} {b} {e} {f} now answered taken_now waits at_end is_end part =
     subst (λ x. EndsPart g v b x now answered taken_now) is_end (subst (λ (x : Durable S). EndsPart g v x e now answered taken_now) at_end (subst (λ x. EndsPart g x d e now answered taken_now) waits part))
 
-pub ends-as : {S : Type 0} (g : Ghosts S) {w v : Option Extension} {d b : Durable S} (now : Durable S) → w ≡ v → d ≡ b → EndsEpoch g w d now → EndsEpoch g v b now
-ends-as {S} g {w} {v} {d} {b} now waits at_end ends = subst (λ (x : Durable S). EndsEpoch g v x now) at_end (subst (λ x. EndsEpoch g x d now) waits ends)
+pub serving-as : {S : Type 0} (g : Ghosts S) {w v : Option Extension} {d b : Durable S} {e f : Option Asked} (now : Durable S) → w ≡ v → d ≡ b → e ≡ f → EndsServing g w e d now → EndsServing g v f b now
+serving-as {S} g {w} {v} {d} {b} {e} {f} now waits at_end is_end ends =
+    subst (λ x. EndsServing g v x b now) is_end (subst (λ (x : Durable S). EndsServing g v e x now) at_end (subst (λ x. EndsServing g x e d now) waits ends))
 
-pub left-as : {S : Type 0} (g : Ghosts S) {w v : Option Extension} {d b : Durable S} (now : Durable S) → w ≡ v → d ≡ b → LeavesEnd g w d now → LeavesEnd g v b now
-left-as {S} g {w} {v} {d} {b} now waits at_end left = subst (λ (x : Durable S). LeavesEnd g v x now) at_end (subst (λ x. LeavesEnd g x d now) waits left)
+pub left-as : {S : Type 0} (g : Ghosts S) {w v : Option Extension} {d b : Durable S} (now : Durable S) → w ≡ v → d ≡ b → LeavesEnd g false w d now → LeavesEnd g false v b now
+left-as {S} g {w} {v} {d} {b} now waits at_end left = subst (λ (x : Durable S). LeavesEnd g false v x now) at_end (subst (λ x. LeavesEnd g false x d now) waits left)
 
 pub last-as : {S : Type 0} {w v : Option Extension} {d b : Durable S} {e f : Option Asked} (answered taken_now : Option (List ℕ)) → w ≡ v → d ≡ b → e ≡ f
     → Appends answered taken_now (answers_text (last_answers (late_answer w d.store) e)) → Appends answered taken_now (answers_text (last_answers (late_answer v b.store) f))
@@ -118,10 +119,27 @@ last-as {S} {w} {v} {d} {b} {e} {f} answered taken_now waits at_end is_end all =
     (subst (λ (x : Durable S). Appends answered taken_now (answers_text (last_answers (late_answer v x.store) e))) at_end
     (subst (λ x. Appends answered taken_now (answers_text (last_answers (late_answer x d.store) e))) waits all))
 
+-- with no extension and no end
+pub none-ends : (waits : Option Extension) (ended : Option Asked) → is_some waits ≡ false → is_some ended ≡ false → ends_epoch waits ended ≡ false
+none-ends None None w e = refl
+none-ends None (Some asked) w e = absurd cc
+none-ends (Some x) ended w e = absurd cc
+
+-- nothing is answered at the end where the epoch goes on
+pub none-told : (waits : Option Extension) (ended : Option Asked) (s : Stored) → ends_epoch waits ended ≡ false → last_answers (late_answer waits s) ended ≡ []
+none-told None None s goes = refl
+none-told None (Some asked) s goes = absurd cc
+none-told (Some e) ended s goes = absurd cc
+
+-- no byte more
+pub appends-none : (taken : Option (List ℕ)) → Appends taken taken []
+appends-none None = tt
+appends-none (Some xs) = sym (append-nil xs)
+
 -- all of these, and the end
 pub serves-whole : {S E : Type 0} {g : Ghosts S} {most : ℕ} {given given_now greeted answered : Option (List ℕ)} {served : Server S} {session : Session S} {began d : Durable S} {w : Option Extension} {e : Option Asked}
     (taken taken_now : Option (List ℕ)) (now : Durable S) (r : Result (Unit {0}) E) → session ≡ session_of most began → Appends taken greeted (greeting (life_of began)) → HasTold g session given greeted served given_now answered
-    → (served.end ≡ None → IsAtEnd given_now) → w ≡ served.session.waiting → d ≡ served.session.store → e ≡ served.end → (Clean g now.journal → Clean g d.journal) → OnOk r (EndsEpoch g w d now)
+    → (served.end ≡ None → IsAtEnd given_now) → w ≡ served.session.waiting → d ≡ served.session.store → e ≡ served.end → (Clean g now.journal → Clean g d.journal) → OnOk r (EndsServing g w e d now)
     → OnOk r (Appends answered taken_now (answers_text (last_answers (late_answer w d.store) e))) → OnOk r (ServesClient g most began given taken now given_now taken_now)
 serves-whole {S} {E} {g} {most} {given} {given_now} {greeted} {answered} {served} {session} {began} {d} {w} {e} taken taken_now now (Ok u) same greets tells asked waits at_end is_end clean renews ends = record {
   served = served;
@@ -130,7 +148,7 @@ serves-whole {S} {E} {g} {most} {given} {given_now} {greeted} {answered} {served
   greets = greets;
   tells = subst (λ (s : Session S). HasTold g s given greeted served given_now answered) same tells;
   asked = asked;
-  renews = ends-as g now waits at_end renews;
+  renews = serving-as g now waits at_end is_end renews;
   clean = subst (λ (x : Durable S). Clean g now.journal → Clean g x.journal) at_end clean;
   ends = last-as answered taken_now waits at_end is_end ends;
 }
@@ -146,13 +164,13 @@ stops-ending {S} {g} {most} {given} {given_now} {taken} {greeted} {answered} {ta
       lines = has.served.lines;
       read = record { seen = has.seen; half = has.served.half; rest = has.rest; left = given_now; consumed = has.consumed; asked = has.served.asked };
       answers = has.told;
-      life = served.session.life;
+      names = served.session.names;
       reached = served.session.store.store;
       said = has.served.said;
       ended = served.end;
       waits = served.session.waiting;
       serves = serves-weaker clean
-          (subst (λ all. Serves (Clean g served.session.store.journal) most (written g began.journal) (life_of began) has.served.lines began.store all served.session.life has.served.said served.session.store.store served.end served.session.waiting)
+          (subst (λ all. Serves (Clean g served.session.store.journal) most (written g began.journal) (first_names began) has.served.lines began.store all served.session.names has.served.said served.session.store.store served.end served.session.waiting)
           (ap (λ more. has.told ++ more) has.waits ∙ append-nil has.told) has.served.serves);
       told = elim part [
         | inl same ↦ inl (subst (λ now. AppendsPart taken now (greeting (life_of began) ++ answers_text has.told)) (sym same)

@@ -9,6 +9,7 @@ use Rattle.durable_store.specs.declared.durable.Durable.{Durable}
 use Rattle.serving.specs.declared.answer_line.Answered.{Answered}
 use Rattle.serving.specs.declared.session.Session.{Session}
 use Rattle.serving.specs.declared.server.Server.{Server}
+use Rattle.serving.specs.Names.{KnownNames}
 use Rattle.serving.specs.Requests.{LetsGo}
 use Rattle.serving.specs.Served.{Serves}
 use Rattle.serving.specs.Server.{KeepsAll, StaysInEpoch, HasServed, ServesBytes}
@@ -40,13 +41,13 @@ stops-before {S} {g} {began} {given} {taken} {given_now} {taken_now} {old} new r
   lines = has.served.lines;
   read = record { seen = has.seen; half = has.served.half; rest = rest; left = given_new; consumed = consumed; asked = has.served.asked };
   answers = has.told;
-  life = old.session.life;
+  names = old.session.names;
   reached = old.session.store.store;
   ended = old.end;
   said = has.served.said;
   waits = old.session.waiting;
   serves = serves-weaker clean
-      (subst (λ all. Serves (Clean g old.session.store.journal) began.most_events (written g began.store.journal) began.life has.served.lines began.store.store all old.session.life has.served.said old.session.store.store old.end old.session.waiting)
+      (subst (λ all. Serves (Clean g old.session.store.journal) began.most_events (written g began.store.journal) began.names has.served.lines began.store.store all old.session.names has.served.said old.session.store.store old.end old.session.waiting)
       (ap (λ more. has.told ++ more) has.waits ∙ append-nil has.told) has.served.serves);
   part = part-of-whole taken taken_now taken_now (answers_text has.told) has.appended (Keeps-refl taken_now);
 }
@@ -66,7 +67,7 @@ stops-telling {S} {g} {began} {given} {taken} {given_now} {taken_now} {old} mid 
     asked = more.served.asked;
   };
   answers = has.told ++ mid.answers.items;
-  life = mid.session.life;
+  names = mid.session.names;
   reached = mid.session.store.store;
   said = more.served.said;
   ended = mid.end;
@@ -82,13 +83,13 @@ stops-answered {S} {g} {began} {given} {taken} {told} {seen} now rest given_now 
   lines = served.lines;
   read = record { seen = seen; half = served.half; rest = rest; left = given_now; consumed = consumed; asked = served.asked };
   answers = told;
-  life = now.session.life;
+  names = now.session.names;
   reached = now.session.store.store;
   said = served.said;
   ended = now.end;
   waits = now.session.waiting;
   serves =
-      subst (λ all. Serves (Clean g now.session.store.journal) began.most_events (written g began.store.journal) began.life served.lines began.store.store all now.session.life served.said now.session.store.store now.end now.session.waiting)
+      subst (λ all. Serves (Clean g now.session.store.journal) began.most_events (written g began.store.journal) began.names served.lines began.store.store all now.session.names served.said now.session.store.store now.end now.session.waiting)
       (ap (λ more. told ++ more) empty ∙ append-nil told) served.serves;
   part = part;
 }
@@ -122,8 +123,8 @@ group-told {S} {g} {began} {given} {taken} {given_now} {taken_now} {old} mid new
         says = λ now. says-then served.said (written g mid.session.store.journal) (written g new.session.store.journal) (served.says (stays.clean now)) (more-same (stays.follows now) (keyless now).0 (keyless now).1);
         serves =
             let so_far = serves-weaker stays.clean served.serves in
-            rw (lets, ended, stays.life, waits, ap (λ xs. (has.told ++ mid.answers.items) ++ xs) clear ∙ append-nil (has.told ++ mid.answers.items))
-            (Serves.forget served.lines began.store.store mid.session.store.store (has.told ++ mid.answers.items) mid.session.life new.session.store.store.forgotten served.said mid.end mid.session.waiting so_far);
+            rw (lets, ended, stays.names, waits, ap (λ xs. (has.told ++ mid.answers.items) ++ xs) clear ∙ append-nil (has.told ++ mid.answers.items))
+            (Serves.forget served.lines began.store.store mid.session.store.store (has.told ++ mid.answers.items) mid.session.names new.session.store.store.forgotten served.said mid.end mid.session.waiting so_far);
       };
       appended = subst (Appends taken taken_new) (sym (told-more has.told mid.answers.items)) (Appends-trans taken taken_now taken_new (answers_text has.told) (answers_text mid.answers.items) has.appended appended);
     }
@@ -143,7 +144,7 @@ told-none {S} {g} given taken s sound fresh = record {
     half = [];
     asked = record { text = refl; whole = tt; within = refl };
     kept = fresh.line;
-    lasts = lasts-nowhere s.session sound fresh.named;
+    lasts = lasts-nowhere s.session sound (ap (λ (n : KnownNames). n.life) fresh.named);
     said = written g s.session.store.journal;
     says = λ now. (refl, refl, refl, refl);
     serves = rw (fresh.answers, fresh.end, fresh.none_waits) (Serves.none s.session.store.store);

@@ -1,8 +1,8 @@
 -- A history grows by each line.
-use Rattle.serving.proofs.InTurns.{either}
+use Rattle.serving.proofs.InTurns.{either, if-known}
 use Rattle.std.proofs.Common.{◌≡◌, ◌∙◌, inl, inr, ℕ, Bool, true, false, Option, None, Some, Result, Ok, Err, List, [], ◌∷◌, ◌++◌, refl, sym, ap, subst}
 use Rattle.std.proofs.lemmas.List.{append-nil}
-use Rattle.std.specs.Prelude.{◌==◌, MatchResult, if◌then◌else◌, is_some}
+use Rattle.std.specs.Prelude.{MatchResult, if◌then◌else◌, is_some}
 use Rattle.object_trait.specs.declared.event.Event.{Event}
 use Rattle.object_trait.specs.declared.event.EventKind.{EventKind}
 use Rattle.serial_order.specs.History.{summary}
@@ -38,6 +38,7 @@ use Rattle.durable_store.specs.declared.denial.Denial.TheVariants as denied
 use Rattle.durable_store.specs.declared.votes.Decision.{Decision}
 use Rattle.durable_store.specs.declared.votes.Verdict.{Verdict}
 use Rattle.durable_store.specs.declared.votes.Verdict.TheVariants as verdict
+use Rattle.serving.specs.Names.{KnownNames, number_named}
 use Rattle.serving.specs.Prepared.{decision_of, now_says}
 use Rattle.durable_store.specs.declared.keyed.Keyed.{Keyed}
 use Rattle.durable_store.specs.declared.keyed.Keyed.TheVariants as keyed
@@ -74,13 +75,13 @@ steps-grow old w c r new steps = subst (λ (s : Stored). Grows old s) (sym steps
 may-grow : {T : Type 0} (old : Stored) (w : ℕ) (c : Command) (r : Result T Refusal) (new : Stored) → MayStep old w c r new → Grows old new
 may-grow old w c r new may = elim may [ inl steps ↦ steps-grow old w c r new steps | inr none ↦ same-grows old new none.2 ]
 
-peek-same : (clean : Type 0) (answer : AnswerLine) (life : ℕ) (lines : List ObjectLine) (old : Stored) (calls : List AskedCall) (new : Stored) → DoesPeek clean life lines old calls answer new → new ≡ old
+pub peek-same : (clean : Type 0) (answer : AnswerLine) (life : ℕ) (lines : List ObjectLine) (old : Stored) (calls : List AskedCall) (new : Stored) → DoesPeek clean life lines old calls answer new → new ≡ old
 peek-same clean (Seen moment replies) life lines old calls new does = does.0
 peek-same clean (NothingSeen at) life lines old calls new does = does.0
 peek-same clean (Unseen refusal) life lines old calls new does = does.0
 peek-same clean answer life lines old calls new does = absurd does
 
-states-same : (clean : Type 0) (answer : AnswerLine) (life : ℕ) (lines : List ObjectLine) (old : Stored) (xs : List ObjectWord) (new : Stored) → DoesCommitted clean life lines old xs answer new → new ≡ old
+pub states-same : (clean : Type 0) (answer : AnswerLine) (life : ℕ) (lines : List ObjectLine) (old : Stored) (xs : List ObjectWord) (new : Stored) → DoesCommitted clean life lines old xs answer new → new ≡ old
 states-same clean (SeenStates moment states) life lines old xs new does = does.0
 states-same clean (Refused NoObject) life lines old xs new does = does.0
 states-same clean answer life lines old xs new does = absurd does
@@ -123,42 +124,42 @@ decides-grow old new c now key d (verdict.Otherwise known) did = same-grows old 
 decides-grow old new c now key d verdict.Unknown did = same-grows old new did.2
 decides-grow old new c now key d verdict.Taken did = same-grows old new did.1
 
-does-grow : (clean : Type 0) → clean → (most life : ℕ) (c : Contents) (ps : List Prepared) (line : List ℕ) (old : Stored) (r : Request) (answer : AnswerLine) (new : Stored) → DoesRequest clean most life c ps line old r answer new → Grows old new
-does-grow clean sure most life c ps line old request.Begin answer new does = either (is_epoch_full most old) does (λ p. same-grows old new p.1) (λ p. may-grow old 0 command.Begin p.0 new p.1)
-does-grow clean sure most life c ps line old (request.Call t x name) answer new does =
-    either (t.life == life) does.2 (λ p. unless-may (is_among (prepared_numbers ps) t.number) old (command.Call t.number does.0 name) p.0 new p.1) (λ p. same-grows old new p.1)
-does-grow clean sure most life c ps line old (request.Would t x name) answer new does = either (t.life == life) does.2 (λ p. same-grows old new p.0) (λ p. same-grows old new p.1)
-does-grow clean sure most life c ps line old (request.Commit t) answer new does =
-    either (t.life == life) does (λ p. unless-step (is_among (prepared_numbers ps) t.number) old (command.Commit t.number) p.0 new p.1) (λ p. same-grows old new p.1)
-does-grow clean sure most life c ps line old (request.CommitUnder t key) answer new does =
-    either (t.life == life) does (λ p. commits-under-grow (is_among (prepared_numbers ps) t.number) old t.number p.0 new p.2) (λ p. same-grows old new p.3)
-does-grow clean sure most life c ps line old (request.Abort t) answer new does =
-    either (t.life == life) does (λ p. unless-step (is_among (prepared_numbers ps) t.number) old (command.Abort t.number) p.0 new p.1) (λ p. same-grows old new p.1)
-does-grow clean sure most life c ps line old (request.Rollback t count) answer new does =
-    either (t.life == life) does (λ p. unless-may (is_among (prepared_numbers ps) t.number) old (command.Rollback t.number count) p.0 new p.1) (λ p. same-grows old new p.1)
-does-grow clean sure most life c ps line old (request.Kept x) answer new does = same-grows old new does.2.0
-does-grow clean sure most life c ps line old request.Peek answer new does = same-grows old new (peek-same clean answer life c.objects old (calls_asked line) new does)
-does-grow clean sure most life c ps line old request.Committed answer new does = same-grows old new (states-same clean answer life c.objects old (objects_asked line) new does)
-does-grow clean sure most life c ps line old request.Do answer new does = either (is_epoch_full most old) does (λ p. same-grows old new p.1) (λ it. attempt-grows old it.made it.came new it.answers)
-does-grow clean sure most life c ps line old (request.DoUnder key) answer new does = either (is_epoch_full most old) does (λ p. same-grows old new p.3) (λ p. attempts-under-grow old p.0 p.2 new p.4)
-does-grow clean sure most life c ps line old (request.Outcome key) answer new does = same-grows old new does.3
-does-grow clean sure most life c ps line old (request.Prepare t key until) answer new does = same-grows old new does.0
-does-grow clean sure most life c ps line old (request.Decide key d) answer new does =
+does-grow : (clean : Type 0) → clean → (most : ℕ) (names : KnownNames) (c : Contents) (ps : List Prepared) (line : List ℕ) (old : Stored) (r : Request) (answer : AnswerLine) (new : Stored) → DoesRequest clean most names c ps line old r answer new → Grows old new
+does-grow clean sure most names c ps line old request.Begin answer new does = either (is_epoch_full most old) does (λ p. same-grows old new p.1) (λ p. may-grow old 0 command.Begin p.0 new p.1)
+does-grow clean sure most names c ps line old (request.Call t x name) answer new does =
+    if-known (number_named names t) does.2 (λ p. same-grows old new p.1) (λ n p. unless-may (is_among (prepared_numbers ps) n) old (command.Call n does.0 name) p.0 new p.1)
+does-grow clean sure most names c ps line old (request.Would t x name) answer new does = if-known (number_named names t) does.2 (λ p. same-grows old new p.1) (λ n p. same-grows old new p.0)
+does-grow clean sure most names c ps line old (request.Commit t) answer new does =
+    if-known (number_named names t) does (λ p. same-grows old new p.1) (λ n p. unless-step (is_among (prepared_numbers ps) n) old (command.Commit n) p.0 new p.1)
+does-grow clean sure most names c ps line old (request.CommitUnder t key) answer new does =
+    if-known (number_named names t) does (λ p. same-grows old new p.3) (λ n p. commits-under-grow (is_among (prepared_numbers ps) n) old n p.0 new p.2)
+does-grow clean sure most names c ps line old (request.Abort t) answer new does =
+    if-known (number_named names t) does (λ p. same-grows old new p.1) (λ n p. unless-step (is_among (prepared_numbers ps) n) old (command.Abort n) p.0 new p.1)
+does-grow clean sure most names c ps line old (request.Rollback t count) answer new does =
+    if-known (number_named names t) does (λ p. same-grows old new p.1) (λ n p. unless-may (is_among (prepared_numbers ps) n) old (command.Rollback n count) p.0 new p.1)
+does-grow clean sure most names c ps line old (request.Kept x) answer new does = same-grows old new does.2.0
+does-grow clean sure most names c ps line old request.Peek answer new does = same-grows old new (peek-same clean answer names.life c.objects old (calls_asked line) new does)
+does-grow clean sure most names c ps line old request.Committed answer new does = same-grows old new (states-same clean answer names.life c.objects old (objects_asked line) new does)
+does-grow clean sure most names c ps line old request.Do answer new does = either (is_epoch_full most old) does (λ p. same-grows old new p.1) (λ it. attempt-grows old it.made it.came new it.answers)
+does-grow clean sure most names c ps line old (request.DoUnder key) answer new does = either (is_epoch_full most old) does (λ p. same-grows old new p.3) (λ p. attempts-under-grow old p.0 p.2 new p.4)
+does-grow clean sure most names c ps line old (request.Outcome key) answer new does = same-grows old new does.3
+does-grow clean sure most names c ps line old (request.Prepare t key until) answer new does = same-grows old new does.0
+does-grow clean sure most names c ps line old (request.Decide key d) answer new does =
     let decides = does.1 sure in
     decides-grow old new (now_says c old) decides.0 key (decision_of d) does.0 decides.1
-does-grow clean sure most life c ps line old request.Prepared answer new does = same-grows old new does.1
-does-grow clean sure most life c ps line old (request.Find name) answer new does = same-grows old new does.0
-does-grow clean sure most life c ps line old request.Objects answer new does = lets-grow old new does.1
-does-grow clean sure most life c ps line old request.Types answer new does = lets-grow old new does.1
-does-grow clean sure most life c ps line old (request.Events from count) answer new does = lets-grow old new does.1
-does-grow clean sure most life c ps line old request.Stats answer new does = same-grows old new does.1
-does-grow clean sure most life c ps line old request.Extend answer new does = same-grows old new does.1
-does-grow clean sure most life c ps line old request.End answer new does = same-grows old new does.1
+does-grow clean sure most names c ps line old request.Prepared answer new does = same-grows old new does.1
+does-grow clean sure most names c ps line old (request.Find name) answer new does = same-grows old new does.0
+does-grow clean sure most names c ps line old request.Objects answer new does = lets-grow old new does.1
+does-grow clean sure most names c ps line old request.Types answer new does = lets-grow old new does.1
+does-grow clean sure most names c ps line old (request.Events from count) answer new does = lets-grow old new does.1
+does-grow clean sure most names c ps line old request.Stats answer new does = same-grows old new does.1
+does-grow clean sure most names c ps line old request.Extend answer new does = same-grows old new does.1
+does-grow clean sure most names c ps line old request.End answer new does = same-grows old new does.1
 
 -- what a decision did is known where no wrong answer of the disk was taken as true
-pub answered-grows : (clean : Type 0) → clean → (most life : ℕ) (c : Contents) (line : List ℕ) (old : Stored) (a : Answered) (new : Stored) → IsAnswered clean most life c line old a new → Grows old new
-answered-grows clean sure most life c line old a new answered =
-    elim (asked_by line).request as (λ (q : Result Request RequestFault). MatchResult q (λ r. DoesRequest clean most life c answered.prepared line old r a.answer new) (λ fault. (a.answer ≡ Fault fault) × (new ≡ old)) → Grows old new) [
-      | Ok r ↦ λ does. does-grow clean sure most life c answered.prepared line old r a.answer new does
+pub answered-grows : (clean : Type 0) → clean → (most : ℕ) (names : KnownNames) (c : Contents) (line : List ℕ) (old : Stored) (a : Answered) (new : Stored) → IsAnswered clean most names c line old a new → Grows old new
+answered-grows clean sure most names c line old a new answered =
+    elim (asked_by line).request as (λ (q : Result Request RequestFault). MatchResult q (λ r. DoesRequest clean most names c answered.prepared line old r a.answer new) (λ fault. (a.answer ≡ Fault fault) × (new ≡ old)) → Grows old new) [
+      | Ok r ↦ λ does. does-grow clean sure most names c answered.prepared line old r a.answer new does
       | Err fault ↦ λ told. same-grows old new told.1
     ] answered.request

@@ -1,8 +1,8 @@
 -- What was answered under keys stays so.
-use Rattle.std.proofs.Common.{◌≡◌, ◌∙◌, inl, inr, ℕ, true, false, List, [], ◌∷◌, ◌++◌, Option, Some, None, Result, Ok, Err, refl, sym, ap, subst, append-nil}
+use Rattle.std.proofs.Common.{◌≡◌, ◌∙◌, inl, Bool, inr, ℕ, true, false, List, [], ◌∷◌, ◌++◌, Option, Some, None, Result, Ok, Err, refl, sym, ap, subst, append-nil}
 use Rattle.std.proofs.lemmas.Bool.{cases_eq, eq-eqb, ne_eqb}
 use Rattle.std.proofs.lemmas.Slice.Eq.{bytes_eq-Decides}
-use Rattle.std.specs.Prelude.{◌==◌, MatchResult}
+use Rattle.std.specs.Prelude.{MatchResult}
 use Rattle.sqlite_trees.specs.declared.store.Store.{Ghosts}
 use Rattle.transaction_key.specs.TransactionKey.{key_place}
 use Rattle.store_laws.specs.Stored.{Stored}
@@ -14,7 +14,6 @@ use Rattle.journal.specs.declared.outcome_row.Outcome.TheVariants.{Aborted, Comm
 use Rattle.journal.specs.Contents.{Contents, contents_of}
 use Rattle.durable_store.specs.declared.durable.Durable.{Durable}
 use Rattle.durable_store.specs.Durable.{prepared_in}
-use Rattle.durable_store.specs.Held.{first_passing}
 use Rattle.durable_store.specs.Keys.{IsInState, KnowsKey, outcome_for, outcome_under}
 use Rattle.durable_store.specs.declared.denial.Denial.{Denial}
 use Rattle.durable_store.specs.declared.denial.Denial.TheVariants as denied
@@ -37,19 +36,20 @@ use Rattle.serving.specs.declared.answer_line.Answered.{Answered}
 use Rattle.serving.specs.declared.extension.Extension.{Extension}
 use Rattle.serving.specs.AnswersFound.{IsIt}
 use Rattle.serving.specs.Does.{is_epoch_full}
-use Rattle.serving.specs.Keys.{commit_under_answer, do_under_answer, draining_under, kept_answered, foreign_under, kept_by, outcomes_after, outcomes_where_free, said_after}
+use Rattle.serving.specs.Keys.{commit_under_answer, do_under_answer, draining_under, kept_answered, kept_by, outcomes_after, outcomes_where_free, said_after, unknown_under}
 use Rattle.serving.specs.KeysFound.{KeysAreFound, LinePromises, Promises}
 use Rattle.serving.specs.Left.{Began, IsStoreFile, Survives, closed_store}
 use Rattle.serving.specs.Lines.{AreLines}
-use Rattle.serving.specs.NextEpoch.{SaysNext, limit_while}
+use Rattle.serving.specs.NextEpoch.{SaysNext, begin_limit, full_with}
 use Rattle.serving.specs.Places.{TellsSuch}
-use Rattle.serving.specs.Prepared.{foreign, foreign_answer, is_given, now_says, prepared_after, prepared_answered}
+use Rattle.serving.specs.Names.{KnownNames, number_named}
+use Rattle.serving.specs.Prepared.{now_says, prepared_after, prepared_answered}
 use Rattle.serving.specs.Requests.{DoesRequest}
 use Rattle.serving.specs.Served.{IsAnswered, Serves}
 use Rattle.serving.specs.Several.{ended_answer}
 use Rattle.serving.specs.Told.{is_lasting}
 use Rattle.serving.proofs.AnswersFound.{it-lasts}
-use Rattle.serving.proofs.InTurns.{answered-turn, either, more-turn, serves-count}
+use Rattle.serving.proofs.InTurns.{answered-turn, either, if-known, more-turn, serves-count}
 use Rattle.serving.proofs.Moments.{more-lasts, tells-left}
 use Rattle.serving.proofs.NextEpochs.{next-says}
 use Rattle.serving.proofs.Places.{told-epoch, told-first, told-last}
@@ -70,7 +70,7 @@ where-free-stays outcomes o None is n kept has = elim (cases_eq n (key_place o.k
 ]
 where-free-stays outcomes o (Some before) is n kept has = has
 
-after-stays : (o : Option KeyedOutcome) (outcomes : ℕ → Option KeyedOutcome) (n : ℕ) (kept : KeyedOutcome) → outcomes n ≡ Some kept → outcomes_after o outcomes n ≡ Some kept
+pub after-stays : (o : Option KeyedOutcome) (outcomes : ℕ → Option KeyedOutcome) (n : ℕ) (kept : KeyedOutcome) → outcomes n ≡ Some kept → outcomes_after o outcomes n ≡ Some kept
 after-stays None outcomes n kept has = has
 after-stays (Some o) outcomes n kept has = where-free-stays outcomes o (outcomes (key_place o.key)) refl n kept has
 
@@ -95,118 +95,114 @@ promises-stay (Ok (request.DoUnder key)) (answer.Replied replies) c d stays it =
 promises-stay q a c d stays it = it
 
 -- a file after a request that was so answered
-abbrev after : Contents → Request → AnswerLine → Contents
-after c r a = record c { outcomes = outcomes_after (kept_by r a) c.outcomes; prepared = prepared_after r a c.prepared }
+abbrev after : KnownNames → Contents → Request → AnswerLine → Contents
+after names c r a = record c { outcomes = outcomes_after (kept_by r a) c.outcomes; prepared = prepared_after names r a c.prepared }
 
 -- is true of a commit
-commit-promises : (c : Contents) (s : Stored) (t : TransactionName) (key : List ℕ) (came : Keyed Denial) → KnowsKey (now_says c s) key came
-    → Promises (request.CommitUnder t key) (commit_under_answer came) (after c (request.CommitUnder t key) (commit_under_answer came))
-commit-promises c s t key (keyed.Done kept) knows = ([], known-now c key (Committed []) knows.0)
-commit-promises c s t key (keyed.Undone denied.Prepared) knows = tt
-commit-promises c s t key (keyed.Undone (denied.Refused refusal)) knows = tt
-commit-promises c s t key (keyed.Known (Committed replies)) knows = (replies, known-stays c (after c (request.CommitUnder t key) answer.Committed) key (Committed replies) (after-stays (kept_by (request.CommitUnder t key) answer.Committed) c.outcomes) knows)
-commit-promises c s t key (keyed.Known Aborted) knows = tt
-commit-promises c s t key keyed.Prepared knows = tt
-commit-promises c s t key keyed.Taken knows = tt
+commit-promises : (names : KnownNames) (c : Contents) (s : Stored) (t : TransactionName) (key : List ℕ) (came : Keyed Denial) → KnowsKey (now_says c s) key came
+    → Promises (request.CommitUnder t key) (commit_under_answer came) (after names c (request.CommitUnder t key) (commit_under_answer came))
+commit-promises names c s t key (keyed.Done kept) knows = ([], known-now c key (Committed []) knows.0)
+commit-promises names c s t key (keyed.Undone denied.Prepared) knows = tt
+commit-promises names c s t key (keyed.Undone (denied.Refused refusal)) knows = tt
+commit-promises names c s t key (keyed.Known (Committed replies)) knows = (replies, known-stays c (after names c (request.CommitUnder t key) answer.Committed) key (Committed replies) (after-stays (kept_by (request.CommitUnder t key) answer.Committed) c.outcomes) knows)
+commit-promises names c s t key (keyed.Known Aborted) knows = tt
+commit-promises names c s t key keyed.Prepared knows = tt
+commit-promises names c s t key keyed.Taken knows = tt
 
-another-promises : (c : Contents) (t : TransactionName) (key : List ℕ) (found : Option Prepared) → Promises (request.CommitUnder t key) (foreign_answer found) c
-another-promises c t key None = tt
-another-promises c t key (Some p) = tt
-
-foreign-promises : (c : Contents) (s : Stored) (ps : List Prepared) (t : TransactionName) (key : List ℕ) (known : KeyState) → IsInState (now_says c s) key known
-    → Promises (request.CommitUnder t key) (foreign_under (foreign ps t) known) (after c (request.CommitUnder t key) (foreign_under (foreign ps t) known))
-foreign-promises c s ps t key state.Free knows = another-promises (after c (request.CommitUnder t key) (foreign ps t)) t key (first_passing (is_given t) ps)
-foreign-promises c s ps t key (state.Known (Committed replies)) knows = (replies, known-stays c (after c (request.CommitUnder t key) answer.Committed) key (Committed replies) (after-stays (kept_by (request.CommitUnder t key) answer.Committed) c.outcomes) knows)
-foreign-promises c s ps t key (state.Known Aborted) knows = tt
-foreign-promises c s ps t key state.Prepared knows = tt
-foreign-promises c s ps t key state.Taken knows = tt
+unknown-promises : (names : KnownNames) (c : Contents) (s : Stored) (t : TransactionName) (key : List ℕ) (known : KeyState) → IsInState (now_says c s) key known
+    → Promises (request.CommitUnder t key) (unknown_under known) (after names c (request.CommitUnder t key) (unknown_under known))
+unknown-promises names c s t key state.Free knows = tt
+unknown-promises names c s t key (state.Known (Committed replies)) knows = (replies, known-stays c (after names c (request.CommitUnder t key) answer.Committed) key (Committed replies) (after-stays (kept_by (request.CommitUnder t key) answer.Committed) c.outcomes) knows)
+unknown-promises names c s t key (state.Known Aborted) knows = tt
+unknown-promises names c s t key state.Prepared knows = tt
+unknown-promises names c s t key state.Taken knows = tt
 
 -- and of a whole transaction
-replied-promises : (c : Contents) (key replies : List ℕ) → outcome_under c key ≡ Some (Committed replies) → Promises (request.DoUnder key) (answer.Replied replies) (after c (request.DoUnder key) (answer.Replied replies))
-replied-promises c key replies knows = known-stays c (after c (request.DoUnder key) (answer.Replied replies)) key (Committed replies) (after-stays (kept_by (request.DoUnder key) (answer.Replied replies)) c.outcomes) knows
+replied-promises : (names : KnownNames) (c : Contents) (key replies : List ℕ) → outcome_under c key ≡ Some (Committed replies) → Promises (request.DoUnder key) (answer.Replied replies) (after names c (request.DoUnder key) (answer.Replied replies))
+replied-promises names c key replies knows = known-stays c (after names c (request.DoUnder key) (answer.Replied replies)) key (Committed replies) (after-stays (kept_by (request.DoUnder key) (answer.Replied replies)) c.outcomes) knows
 
-ended-promises : (d : Contents) (key : List ℕ) (life : ℕ) (ps : List Prepared) (at : ℕ) (how : Ending) → Promises (request.DoUnder key) (ended_answer life ps at how) d
-ended-promises d key life ps at (ending.Busy u) = tt
-ended-promises d key life ps at ending.None = tt
-ended-promises d key life ps at (ending.Refused refusal) = tt
+ended-promises : (d : Contents) (key : List ℕ) (names : KnownNames) (at : ℕ) (how : Ending) → Promises (request.DoUnder key) (ended_answer names at how) d
+ended-promises d key names at (ending.Busy u) = tt
+ended-promises d key names at ending.None = tt
+ended-promises d key names at (ending.Refused refusal) = tt
 
-do-promises : (c : Contents) (s : Stored) (key : List ℕ) (life : ℕ) (ps : List Prepared) (came : Keyed Unfinished) → KnowsKey (now_says c s) key came
-    → Promises (request.DoUnder key) (do_under_answer life ps came) (after c (request.DoUnder key) (do_under_answer life ps came))
-do-promises c s key life ps (keyed.Done (Committed replies)) knows = known-now c key (Committed replies) knows.0
-do-promises c s key life ps (keyed.Done Aborted) knows = tt
-do-promises c s key life ps (keyed.Undone (unfinished.Ended at how)) knows = ended-promises (after c (request.DoUnder key) (ended_answer life ps at how)) key life ps at how
-do-promises c s key life ps (keyed.Undone (unfinished.NotBegun refusal)) knows = tt
-do-promises c s key life ps (keyed.Known (Committed replies)) knows = replied-promises c key replies knows
-do-promises c s key life ps (keyed.Known Aborted) knows = tt
-do-promises c s key life ps keyed.Prepared knows = tt
-do-promises c s key life ps keyed.Taken knows = tt
+do-promises : (c : Contents) (s : Stored) (key : List ℕ) (names : KnownNames) (came : Keyed Unfinished) → KnowsKey (now_says c s) key came
+    → Promises (request.DoUnder key) (do_under_answer names came) (after names c (request.DoUnder key) (do_under_answer names came))
+do-promises c s key names (keyed.Done (Committed replies)) knows = known-now c key (Committed replies) knows.0
+do-promises c s key names (keyed.Done Aborted) knows = tt
+do-promises c s key names (keyed.Undone (unfinished.Ended at how)) knows = ended-promises (after names c (request.DoUnder key) (ended_answer names at how)) key names at how
+do-promises c s key names (keyed.Undone (unfinished.NotBegun refusal)) knows = tt
+do-promises c s key names (keyed.Known (Committed replies)) knows = replied-promises names c key replies knows
+do-promises c s key names (keyed.Known Aborted) knows = tt
+do-promises c s key names keyed.Prepared knows = tt
+do-promises c s key names keyed.Taken knows = tt
 
-draining-promises : (c : Contents) (s : Stored) (key : List ℕ) (known : KeyState) → IsInState (now_says c s) key known → Promises (request.DoUnder key) (draining_under known) (after c (request.DoUnder key) (draining_under known))
-draining-promises c s key state.Free knows = tt
-draining-promises c s key (state.Known (Committed replies)) knows = replied-promises c key replies knows
-draining-promises c s key (state.Known Aborted) knows = tt
-draining-promises c s key state.Prepared knows = tt
-draining-promises c s key state.Taken knows = tt
+draining-promises : (names : KnownNames) (c : Contents) (s : Stored) (key : List ℕ) (known : KeyState) → IsInState (now_says c s) key known → Promises (request.DoUnder key) (draining_under known) (after names c (request.DoUnder key) (draining_under known))
+draining-promises names c s key state.Free knows = tt
+draining-promises names c s key (state.Known (Committed replies)) knows = replied-promises names c key replies knows
+draining-promises names c s key (state.Known Aborted) knows = tt
+draining-promises names c s key state.Prepared knows = tt
+draining-promises names c s key state.Taken knows = tt
 
 -- it is true once it is given
-request-promises : (most life : ℕ) (c : Contents) (ps : List Prepared) (line : List ℕ) (old : Stored) (r : Request) (a : AnswerLine) (new : Stored) → DoesRequest (Unit {0}) most life c ps line old r a new → Promises r a (after c r a)
-request-promises most life c ps line old (request.CommitUnder t key) a new does =
-    either (t.life == life) does
-    (λ p. subst (λ x. Promises (request.CommitUnder t key) x (after c (request.CommitUnder t key) x)) (sym p.3) (commit-promises c old t key p.0 (p.1 tt)))
-    (λ p. subst (λ x. Promises (request.CommitUnder t key) x (after c (request.CommitUnder t key) x)) (sym p.2) (foreign-promises c old ps t key p.0 (p.1 tt)))
-request-promises most life c ps line old (request.DoUnder key) a new does =
+request-promises : (most : ℕ) (names : KnownNames) (c : Contents) (ps : List Prepared) (line : List ℕ) (old : Stored) (r : Request) (a : AnswerLine) (new : Stored) → DoesRequest (Unit {0}) most names c ps line old r a new → Promises r a (after names c r a)
+request-promises most names c ps line old (request.CommitUnder t key) a new does =
+    if-known (number_named names t) does
+    (λ p. subst (λ x. Promises (request.CommitUnder t key) x (after names c (request.CommitUnder t key) x)) (sym p.2) (unknown-promises names c old t key p.0 (p.1 tt)))
+    (λ n p. subst (λ x. Promises (request.CommitUnder t key) x (after names c (request.CommitUnder t key) x)) (sym p.3) (commit-promises names c old t key p.0 (p.1 tt)))
+request-promises most names c ps line old (request.DoUnder key) a new does =
     either (is_epoch_full most old) does
-    (λ p. subst (λ x. Promises (request.DoUnder key) x (after c (request.DoUnder key) x)) (sym p.2) (draining-promises c old key p.0 (p.1 tt)))
-    (λ p. subst (λ x. Promises (request.DoUnder key) x (after c (request.DoUnder key) x)) (sym p.5) (do-promises c old key life ps p.2 (p.3 tt)))
-request-promises most life c ps line old r a new does = tt
+    (λ p. subst (λ x. Promises (request.DoUnder key) x (after names c (request.DoUnder key) x)) (sym p.2) (draining-promises names c old key p.0 (p.1 tt)))
+    (λ p. subst (λ x. Promises (request.DoUnder key) x (after names c (request.DoUnder key) x)) (sym p.5) (do-promises c old key names p.2 (p.3 tt)))
+request-promises most names c ps line old r a new does = tt
 
-answer-promises : (most life : ℕ) (c : Contents) (line : List ℕ) (old : Stored) (a : Answered) (new : Stored) → IsAnswered (Unit {0}) most life c line old a new → LinePromises (asked_by line).request a.answer (said_after c line a.answer)
-answer-promises most life c line old a new answered =
-    elim (asked_by line).request as (λ (q : Result Request RequestFault). MatchResult q (λ r. DoesRequest (Unit {0}) most life c answered.prepared line old r a.answer new) (λ fault. (a.answer ≡ answer.Fault fault) × (new ≡ old))
-    → LinePromises q a.answer (record c { outcomes = outcomes_after (kept_answered q a.answer) c.outcomes; prepared = prepared_answered q a.answer c.prepared })) [
-      | Ok r ↦ λ does. request-promises most life c answered.prepared line old r a.answer new does
+answer-promises : (most : ℕ) (names : KnownNames) (c : Contents) (line : List ℕ) (old : Stored) (a : Answered) (new : Stored) → IsAnswered (Unit {0}) most names c line old a new → LinePromises (asked_by line).request a.answer (said_after names c line a.answer)
+answer-promises most names c line old a new answered =
+    elim (asked_by line).request as (λ (q : Result Request RequestFault). MatchResult q (λ r. DoesRequest (Unit {0}) most names c answered.prepared line old r a.answer new) (λ fault. (a.answer ≡ answer.Fault fault) × (new ≡ old))
+    → LinePromises q a.answer (record c { outcomes = outcomes_after (kept_answered q a.answer) c.outcomes; prepared = prepared_answered names q a.answer c.prepared })) [
+      | Ok r ↦ λ does. request-promises most names c answered.prepared line old r a.answer new does
       | Err fault ↦ λ told. tt
     ] answered.request
 
 -- ---- lines
 
-next-outcomes : (waits : Option Extension) (ps : List Prepared) (c now : Contents) → SaysNext waits ps c now → now.outcomes ≡ c.outcomes
+pub next-outcomes : (waits : Option Extension) (ps : List Prepared) (c now : Contents) → SaysNext waits ps c now → now.outcomes ≡ c.outcomes
 next-outcomes None ps c now says = says.2
 next-outcomes (Some e) ps c now says = says.0.outcomes
 
-pub serves-promises : {most : ℕ} {c : Contents} {begins : ℕ} {lines : List (List ℕ)} {old : Stored} {answers : List Answered} {life : ℕ} {said : Contents} {new : Stored} {ended : Option Asked} {waits : Option Extension}
-    → Serves (Unit {0}) most c begins lines old answers life said new ended waits → (line : List ℕ) (a : Answered) → is_lasting a.answer ≡ true → TellsSuch lines answers (IsIt line a)
+pub serves-promises : {most : ℕ} {c : Contents} {begins : KnownNames} {lines : List (List ℕ)} {old : Stored} {answers : List Answered} {names : KnownNames} {said : Contents} {new : Stored} {ended : Option Asked} {waits : Option Extension}
+    → Serves (Unit {0}) most c begins lines old answers names said new ended waits → (line : List ℕ) (a : Answered) → is_lasting a.answer ≡ true → TellsSuch lines answers (IsIt line a)
     → LinePromises (asked_by line).request a.answer said
 serves-promises (Serves.none s) line a lasting told = absurd told
-serves-promises {most} (Serves.line lines asked old mid new answers it life said waits before other may answered) line a lasting told =
-    let limit = limit_while waits most in
-    elim (told-last lines answers asked it (IsIt line a) ((serves-count before).1 refl) (answered-turn (Unit {0}) limit life said asked mid it new answered) told) [
+serves-promises {most} (Serves.line lines asked old mid new answers it names said waits goes before other may strong answered) line a lasting told =
+    let limit = begin_limit goes waits (full_with most names) in
+    elim (told-last lines answers asked it (IsIt line a) ((serves-count before).1 refl) (answered-turn (Unit {0}) limit names said asked mid it new answered) told) [
       | inl earlier ↦
-          promises-stay (asked_by line).request a.answer said (said_after said asked it.answer) (after-stays (kept_answered (asked_by asked).request it.answer) said.outcomes) (serves-promises before line a lasting earlier)
+          promises-stay (asked_by line).request a.answer said (said_after names said asked it.answer) (after-stays (kept_answered (asked_by asked).request it.answer) said.outcomes) (serves-promises before line a lasting earlier)
       | inr here ↦
-          subst (λ l. LinePromises (asked_by l).request a.answer (said_after said asked it.answer)) here.0
-          (subst (λ (x : Answered). LinePromises (asked_by asked).request x.answer (said_after said asked it.answer)) here.1 (answer-promises limit life said asked mid it new answered))
+          subst (λ l. LinePromises (asked_by l).request a.answer (said_after names said asked it.answer)) here.0
+          (subst (λ (x : Answered). LinePromises (asked_by asked).request x.answer (said_after names said asked it.answer)) here.1 (answer-promises limit names said asked mid it new answered))
     ]
-serves-promises (Serves.more lines asked old new answers it life said waits before may more) line a lasting told =
+serves-promises (Serves.more lines asked old new answers it names said waits before may more) line a lasting told =
     elim (told-last lines answers asked it (IsIt line a) ((serves-count before).1 refl) (more-turn it waits more.told) told) [
       | inl earlier ↦ serves-promises before line a lasting earlier
       | inr here ↦ absurd (let no : true ≡ false = sym (it-lasts line a lasting asked it here) ∙ more-lasts it waits more.told in cc)
     ]
-serves-promises (Serves.end lines asked old new answers life said waits before ends) line a lasting told =
+serves-promises (Serves.end lines asked old new answers names said waits before ends) line a lasting told =
     serves-promises before line a lasting
     (told-first lines (asked ∷ []) answers [] (IsIt line a) (it-lasts line a lasting) (serves-count before).0 refl (subst (λ xs. TellsSuch (lines ++ asked ∷ []) xs (IsIt line a)) (sym (append-nil answers)) told))
-serves-promises (Serves.forget lines old mid answers life n said ended waits before) line a lasting told = serves-promises before line a lasting told
-serves-promises (Serves.epoch lines old mid new answers life next said file waits ps new_ps before full renews are follows says) line a lasting told =
+serves-promises (Serves.forget lines old mid answers names n said ended waits before) line a lasting told = serves-promises before line a lasting told
+serves-promises (Serves.epoch lines old mid new answers names next said file waits goes ps new_ps before full strong renews over counted are follows says) line a lasting told =
     promises-stay (asked_by line).request a.answer said file (λ n kept has. ap (λ outcomes. outcomes n) (next-outcomes waits new_ps said file (says tt)) ∙ has)
     (serves-promises before line a lasting (told-epoch waits mid lines answers (IsIt line a) told))
 
 -- ---- a file
 
-file-knows : {over : Type 0} {waits : Option Extension} {life : ℕ} {said : Contents} {s : Stored} {c : Contents} → IsStoreFile over waits life said s c → (n : ℕ) (kept : KeyedOutcome) → said.outcomes n ≡ Some kept → c.outcomes n ≡ Some kept
+file-knows : {over : Bool → Type 0} {waits : Option Extension} {life : ℕ} {said : Contents} {s : Stored} {c : Contents} → IsStoreFile over waits life said s c → (n : ℕ) (kept : KeyedOutcome) → said.outcomes n ≡ Some kept → c.outcomes n ≡ Some kept
 file-knows (IsStoreFile.present c is lives knows) n kept has = ap (λ outcomes. outcomes n) knows.0 ∙ has
-file-knows (IsStoreFile.closed c so is lives knows) n kept has = ap (λ outcomes. outcomes n) knows.0 ∙ has
-file-knows {waits = waits} {said = said} {s = s} (IsStoreFile.anew c now next ps so is lives knows begins) n kept has =
-    ap (λ outcomes. outcomes n) (next-outcomes waits ps c now (next-says waits (prepared_in (now_says said s)) (closed_store said s) next ps c now begins)) ∙ ap (λ outcomes. outcomes n) knows.0 ∙ has
+file-knows (IsStoreFile.closed goes c so is lives knows) n kept has = ap (λ outcomes. outcomes n) knows.0 ∙ has
+file-knows {waits = waits} {said = said} {s = s} (IsStoreFile.anew goes c now next ps so is lives knows begins) n kept has =
+    ap (λ outcomes. outcomes n) (next-outcomes waits ps c now (next-says waits (prepared_in (now_says said s)) (closed_store goes said s) next ps c now begins)) ∙ ap (λ outcomes. outcomes n) knows.0 ∙ has
 
 pub keys-found : {S : Type 0} (g : Ghosts S) (b : Began) (last : List (List ℕ) → Type 0) (seen rest half : List ℕ) (lines : List (List ℕ)) (answers : List Answered) (now : Durable S) → AreLines seen lines half
     → Survives g b last (seen ++ rest) answers now → KeysAreFound g lines answers now

@@ -1,5 +1,5 @@
 -- A session goes on, epoch after epoch.
-use Rattle.std.proofs.Common.{◌≡◌, ◌∙◌, inl, inr, ℕ, suc, true, Option, None, Result, Ok, Err, List, [], ◌∷◌, ◌++◌, refl, sym, ap, subst}
+use Rattle.std.proofs.Common.{◌≡◌, ◌∙◌, inl, inr, ℕ, suc, Bool, true, Option, None, Result, Ok, Err, List, [], ◌∷◌, ◌++◌, length, refl, sym, ap, subst}
 use Rattle.std.proofs.lemmas.List.{append_assoc, append-nil}
 use Rattle.std.specs.Prelude.{OnOk}
 use Rattle.std.specs.declared.vec.Vec.{Vec}
@@ -15,9 +15,7 @@ use Rattle.store_laws.specs.Stored.{Stored}
 use Rattle.durable_store.specs.declared.durable.Durable.{Durable}
 use Rattle.durable_store.specs.Durable.{IsDurable, prepared_in, with_all}
 use Rattle.durable_store.specs.Recovered.{IsStoreOf}
-use Rattle.store.specs.Ends.{closing_but}
 use Rattle.journal.specs.declared.prepared_row.Prepared.{Prepared}
-use Rattle.durable_store.specs.Held.{prepared_numbers}
 use Rattle.serving.specs.declared.answer_line.Answered.{Answered}
 use Rattle.serving.specs.declared.extension.Extension.{Extension}
 use Rattle.serving.specs.declared.session.Session.{Session}
@@ -25,14 +23,15 @@ use Rattle.serving.specs.declared.server.Server.{Server}
 use Rattle.serving.specs.Archives.{KeepsEpochs, KeptHistory, life_in}
 use Rattle.serving.specs.Does.{is_epoch_full}
 use Rattle.serving.specs.EpochEnd.{EndsEpoch, LeavesNext, last_answers}
-use Rattle.serving.specs.Epochs.{LeavesEpochs, Reaches, WritesEpochs, aborted}
+use Rattle.serving.specs.Epochs.{LeavesEpochs, Reaches, WritesEpochs, closed_by, closings}
 use Rattle.serving.specs.Follows.{HasMore, LeavesMore}
 use Rattle.serving.specs.Group.{HasTold}
-use Rattle.serving.specs.NextEpoch.{IsNextFile, IsNextStore, SaysNext, SaysSame, answers_in, late_answer, limit_while}
+use Rattle.serving.specs.NextEpoch.{IsNextFile, IsNextStore, SaysNext, SaysSame, answers_in, full_with, late_answer, limit_while}
+use Rattle.serving.specs.Names.{AreCarriedOver, KnownNames}
 use Rattle.serving.specs.Prepared.{now_says}
 use Rattle.serving.specs.Requests.{LetsGo}
 use Rattle.serving.specs.Served.{Serves}
-use Rattle.serving.specs.Server.{StaysInEpoch, HasServed, Lasts, life_of}
+use Rattle.serving.specs.Server.{StaysInEpoch, HasServed, Lasts, full_at, life_of}
 use Rattle.serving.specs.Told.{answers_text}
 use Rattle.serving.proofs.HeldSaid.{held-said, held-written}
 use Rattle.serving.proofs.MoreEvents.{follows-with_all}
@@ -105,23 +104,23 @@ left-untold g old new kept kept_now leaves db left = elim (leaves db left) [
 pub is-store-of : {S : Type 0} (g : Ghosts S) (d : Durable S) → IsDurable g d → Clean g d.journal → IsStoreOf (written g d.journal) d.store
 is-store-of g d sound clean = record { types = sound.types clean; history = sound.history clean; limit = sound.limit }
 
--- the new epoch of what was written with an abort of each transaction that was open
-next-reached : {S : Type 0} (g : Ghosts S) (waits : Option Extension) (old mid : Durable S) (new : Stored) (ps : List Prepared) (now : Contents) → IsDurable g mid → Clean g mid.journal
-    → written g mid.journal ≡ with_all (written g old.journal) (closing_but (prepared_numbers old.prepared.items) old.store.history) → IsNextFile waits mid.prepared.items mid.store new ps (written g mid.journal) now → Reaches (written g old.journal) (written g mid.journal ∷ []) now
-next-reached g waits old mid new ps now sound clean wrote next =
+-- the new epoch of what was written with what happened as the old one ended
+next-reached : {S : Type 0} (g : Ghosts S) (goes : Bool) (waits : Option Extension) (old mid : Durable S) (new : Stored) (ps : List Prepared) (now : Contents) → IsDurable g mid → Clean g mid.journal
+    → written g mid.journal ≡ with_all (written g old.journal) (closings goes old.prepared.items old.store) → IsNextFile waits mid.prepared.items mid.store new ps (written g mid.journal) now → Reaches (written g old.journal) (written g mid.journal ∷ []) now
+next-reached g goes waits old mid new ps now sound clean wrote next =
     Reaches.epoch [] (written g mid.journal) now waits mid.store new ps
-    (subst (λ c. Reaches (written g old.journal) [] c) (sym wrote) (reaches-more (follows-with_all (written g old.journal) (closing_but (prepared_numbers old.prepared.items) old.store.history)))) (is-store-of g mid sound clean)
+    (subst (λ c. Reaches (written g old.journal) [] c) (sym wrote) (reaches-more (follows-with_all (written g old.journal) (closings goes old.prepared.items old.store)))) (is-store-of g mid sound clean)
     (subst (λ all. IsNextFile waits all mid.store new ps (written g mid.journal) now) (held-written g mid sound clean) next)
 
 -- the epoch was closed and its history kept, and then the file began anew
-pub left-renewed : {S : Type 0} (g : Ghosts S) (waits : Option Extension) (old mid new : Durable S) (kept kept_now : Option (List KeptHistory)) → IsDurable g mid → (Clean g mid.journal → Clean g old.journal)
-    → (Clean g mid.journal → written g mid.journal ≡ with_all (written g old.journal) (closing_but (prepared_numbers old.prepared.items) old.store.history)) → (Clean g mid.journal → KeepsEpochs kept kept_now (written g mid.journal ∷ []))
+pub left-renewed : {S : Type 0} (g : Ghosts S) (goes : Bool) (waits : Option Extension) (old mid new : Durable S) (kept kept_now : Option (List KeptHistory)) → IsDurable g mid → (Clean g mid.journal → Clean g old.journal)
+    → (Clean g mid.journal → written g mid.journal ≡ with_all (written g old.journal) (closings goes old.prepared.items old.store)) → (Clean g mid.journal → KeepsEpochs kept kept_now (written g mid.journal ∷ []))
     → LeavesEpochs g old mid kept kept_now → LeavesNext g waits mid new → LeavesEpochs g old new kept kept_now
-left-renewed g waits old mid new kept kept_now sound clean wrote keeps first crash db left = elim (crash db left) [
+left-renewed g goes waits old mid new kept kept_now sound clean wrote keeps first crash db left = elim (crash db left) [
   | inl now ↦ (
       let (s, ps, next) = now.2 in
       let ended = written g mid.journal ∷ [] in
-      inl (clean now.0, now.1, (ended, next-reached g waits old mid s ps (contents_of db) sound now.0 (wrote now.0) next, least-these kept kept_now ended (keeps now.0))))
+      inl (clean now.0, now.1, (ended, next-reached g goes waits old mid s ps (contents_of db) sound now.0 (wrote now.0) next, least-these kept kept_now ended (keeps now.0))))
   | inr before ↦ first db before
 ]
 
@@ -132,14 +131,14 @@ shown-durable g d shows now =
     sym (ap (with_pending (contents_of trees)) (shows now).1 ∙ none-pending (contents_of trees) ∙ ap contents_of (shows now).0.clean)
 
 -- the file of a new epoch, and its life
-module _ {S : Type 0} {g : Ghosts S} (waits : Option Extension) (old mid new : Durable S) (sound : IsDurable g mid) (clean : Clean g new.journal → Clean g mid.journal)
-    (wrote : Clean g mid.journal → written g mid.journal ≡ with_all (written g old.journal) (closing_but (prepared_numbers old.prepared.items) old.store.history)) (now : Clean g new.journal) (shows : ShowsCommit g new.journal)
+module _ {S : Type 0} {g : Ghosts S} (goes : Bool) (waits : Option Extension) (old mid new : Durable S) (sound : IsDurable g mid) (clean : Clean g new.journal → Clean g mid.journal)
+    (wrote : Clean g mid.journal → written g mid.journal ≡ with_all (written g old.journal) (closings goes old.prepared.items old.store)) (now : Clean g new.journal) (shows : ShowsCommit g new.journal)
     (is : Clean g new.journal → IsNextFile waits mid.prepared.items mid.store new.store new.prepared.items (written g mid.journal) (durable g new.journal)) where
   written-now : IsNextFile waits mid.prepared.items mid.store new.store new.prepared.items (written g mid.journal) (written g new.journal)
   written-now = subst (λ c. IsNextFile waits mid.prepared.items mid.store new.store new.prepared.items (written g mid.journal) c) (shown-durable g new shows now) (is now)
 
   reached : Reaches (written g old.journal) (written g mid.journal ∷ []) (written g new.journal)
-  reached = next-reached g waits old mid new.store new.prepared.items (written g new.journal) sound (clean now) (wrote (clean now)) written-now
+  reached = next-reached g goes waits old mid new.store new.prepared.items (written g new.journal) sound (clean now) (wrote (clean now)) written-now
 
   next-life : IsJournal g new.journal → (written g mid.journal).headers ≡ mid.journal.header ∷ [] → life_of new ≡ suc (life_of mid)
   next-life journal last =
@@ -150,28 +149,28 @@ module _ {S : Type 0} {g : Ghosts S} (waits : Option Extension) (old mid new : D
 -- ---- the end of an epoch
 
 -- what ends an epoch, of how it ended
-pub ends-epoch : {S E T : Type 0} {g : Ghosts S} (waits : Option Extension) (old mid new : Durable S) (r : Result T E) → IsDurable g mid → LetsGo (aborted old.prepared.items old.store) mid.store → mid.prepared ≡ old.prepared → mid.journal.header ≡ old.journal.header
-    → (Clean g new.journal → Clean g mid.journal) → (Clean g mid.journal → written g mid.journal ≡ with_all (written g old.journal) (closing_but (prepared_numbers old.prepared.items) old.store.history))
+pub ends-epoch : {S E T : Type 0} {g : Ghosts S} (goes : Bool) (waits : Option Extension) (old mid new : Durable S) (r : Result T E) → IsDurable g mid → LetsGo (closed_by goes old.prepared.items old.store) mid.store → mid.prepared ≡ old.prepared → mid.journal.header ≡ old.journal.header
+    → (Clean g new.journal → Clean g mid.journal) → (Clean g mid.journal → written g mid.journal ≡ with_all (written g old.journal) (closings goes old.prepared.items old.store))
     → OnOk r (IsNextStore waits mid.prepared.items mid.store new.store new.prepared.items) → OnOk r (IsDurable g new) → OnOk r (ShowsCommit g new.journal) → OnOk r (Clean g new.journal → (written g mid.journal).headers ≡ mid.journal.header ∷ [])
-    → OnOk r (Clean g new.journal → IsNextFile waits mid.prepared.items mid.store new.store new.prepared.items (written g mid.journal) (durable g new.journal)) → OnOk r (EndsEpoch g waits old new)
-ends-epoch {S} {E} {T} {g} waits old mid new (Ok u) sound aborts same header clean wrote begins is_durable shows last is = record {
-  store = next-store-as waits old.prepared.items (aborted old.prepared.items old.store) mid.store new.store new.prepared.items aborts
+    → OnOk r (Clean g new.journal → IsNextFile waits mid.prepared.items mid.store new.store new.prepared.items (written g mid.journal) (durable g new.journal)) → OnOk r (EndsEpoch g goes waits old new)
+ends-epoch {S} {E} {T} {g} goes waits old mid new (Ok u) sound aborts same header clean wrote begins is_durable shows last is = record {
+  store = next-store-as waits old.prepared.items (closed_by goes old.prepared.items old.store) mid.store new.store new.prepared.items aborts
       (subst (λ (all : Vec Prepared Global). IsNextStore waits all.items mid.store new.store new.prepared.items) same begins);
-  durable = λ now. next-file-as waits old.prepared.items (aborted old.prepared.items old.store) mid.store new.store new.prepared.items
-      (with_all (written g old.journal) (closing_but (prepared_numbers old.prepared.items) old.store.history)) (durable g new.journal) aborts
-      (subst (λ (all : Vec Prepared Global). IsNextFile waits all.items mid.store new.store new.prepared.items (with_all (written g old.journal) (closing_but (prepared_numbers old.prepared.items) old.store.history)) (durable g new.journal)) same
+  durable = λ now. next-file-as waits old.prepared.items (closed_by goes old.prepared.items old.store) mid.store new.store new.prepared.items
+      (with_all (written g old.journal) (closings goes old.prepared.items old.store)) (durable g new.journal) aborts
+      (subst (λ (all : Vec Prepared Global). IsNextFile waits all.items mid.store new.store new.prepared.items (with_all (written g old.journal) (closings goes old.prepared.items old.store)) (durable g new.journal)) same
       (subst (λ c. IsNextFile waits mid.prepared.items mid.store new.store new.prepared.items c (durable g new.journal)) (wrote (clean now)) (is now)));
-  life = λ now. next-life waits old mid new sound clean wrote now shows is is_durable.journal (last now) ∙ ap (λ (h : Header). suc h.life) header;
+  life = λ now. next-life goes waits old mid new sound clean wrote now shows is is_durable.journal (last now) ∙ ap (λ (h : Header). suc h.life) header;
 }
-ends-epoch waits old mid new (Err e) sound aborts same header clean wrote next is_durable shows last is = tt
+ends-epoch goes waits old mid new (Err e) sound aborts same header clean wrote next is_durable shows last is = tt
 
-pub writes-epoch : {S E T : Type 0} {g : Ghosts S} (waits : Option Extension) (old mid new : Durable S) (kept kept_now : Option (List KeptHistory)) (r : Result T E) → IsDurable g mid → (Clean g new.journal → Clean g mid.journal)
-    → (Clean g mid.journal → written g mid.journal ≡ with_all (written g old.journal) (closing_but (prepared_numbers old.prepared.items) old.store.history)) → (Clean g mid.journal → KeepsEpochs kept kept_now (written g mid.journal ∷ []))
+pub writes-epoch : {S E T : Type 0} {g : Ghosts S} (goes : Bool) (waits : Option Extension) (old mid new : Durable S) (kept kept_now : Option (List KeptHistory)) (r : Result T E) → IsDurable g mid → (Clean g new.journal → Clean g mid.journal)
+    → (Clean g mid.journal → written g mid.journal ≡ with_all (written g old.journal) (closings goes old.prepared.items old.store)) → (Clean g mid.journal → KeepsEpochs kept kept_now (written g mid.journal ∷ []))
     → OnOk r (ShowsCommit g new.journal) → OnOk r (Clean g new.journal → IsNextFile waits mid.prepared.items mid.store new.store new.prepared.items (written g mid.journal) (durable g new.journal))
     → OnOk r (WritesEpochs g old new kept kept_now)
-writes-epoch {S} {E} {T} {g} waits old mid new kept kept_now (Ok u) sound clean wrote keeps shows is =
-    λ now. (written g mid.journal ∷ [], reached waits old mid new sound clean wrote now shows is, keeps (clean now))
-writes-epoch waits old mid new kept kept_now (Err e) sound clean wrote keeps shows is = tt
+writes-epoch {S} {E} {T} {g} goes waits old mid new kept kept_now (Ok u) sound clean wrote keeps shows is =
+    λ now. (written g mid.journal ∷ [], reached goes waits old mid new sound clean wrote now shows is, keeps (clean now))
+writes-epoch goes waits old mid new kept kept_now (Err e) sound clean wrote keeps shows is = tt
 
 -- ---- sessions
 
@@ -179,7 +178,7 @@ writes-epoch waits old mid new kept kept_now (Err e) sound clean wrote keeps sho
 pub lasts-stays : {S : Type 0} {g : Ghosts S} {began mid new : Session S} → Lasts g began mid → StaysInEpoch g mid new → Lasts g began new
 lasts-stays {S} {g} {began} {mid} {new} first second = record {
   sound = second.sound;
-  named = second.life ∙ first.named ∙ sym second.same;
+  named = ap (λ (n : KnownNames). n.life) second.names ∙ first.named ∙ sym second.same;
   most = second.most ∙ first.most;
   reaches = writes-on g began.store mid.store new.store None None None second.clean first.reaches (writes-one g mid.store new.store None second.follows);
   clean = λ clean. first.clean (second.clean clean);
@@ -187,7 +186,7 @@ lasts-stays {S} {g} {began} {mid} {new} first second = record {
 }
 
 -- a session that is as it was
-pub lasts-nowhere : {S : Type 0} {g : Ghosts S} (s : Session S) → IsDurable g s.store → s.life ≡ life_of s.store → Lasts g s s
+pub lasts-nowhere : {S : Type 0} {g : Ghosts S} (s : Session S) → IsDurable g s.store → s.names.life ≡ life_of s.store → Lasts g s s
 lasts-nowhere {S} {g} s sound named = record {
   sound = sound;
   named = named;
@@ -209,7 +208,7 @@ left-stays {S} {g} old mid new kept kept_now stays crash =
     left-then g old.store mid.store new kept kept kept_now stays.clean (writes-one g old.store mid.store kept stays.follows) (left-more g old.store mid.store kept stays.crash) crash
 
 -- another epoch
-pub lasts-epoch : {S : Type 0} {g : Ghosts S} {began mid : Session S} (new : Session S) (kept kept_now : Option (List KeptHistory)) → Lasts g began mid → IsDurable g new.store → new.life ≡ life_of new.store
+pub lasts-epoch : {S : Type 0} {g : Ghosts S} {began mid : Session S} (new : Session S) (kept kept_now : Option (List KeptHistory)) → Lasts g began mid → IsDurable g new.store → new.names.life ≡ life_of new.store
     → new.most_events ≡ mid.most_events → WritesEpochs g mid.store new.store kept kept_now → (Clean g new.store.journal → Clean g mid.store.journal) → LeavesEpochs g mid.store new.store kept kept_now → Lasts g began new
 lasts-epoch {S} {g} {began} {mid} new kept kept_now first sound named most writes clean crash = record {
   sound = sound;
@@ -229,12 +228,13 @@ epoch-told told waiting now late none same =
 
 -- what it has served
 abbrev pub served-epoch : {S : Type 0} {g : Ghosts S} {began : Session S} {told : List Answered} {bytes : List ℕ} {old : Server S} (new : Server S) (kept kept_now : Option (List KeptHistory)) → old.end ≡ None → old.answers.items ≡ []
-    → is_epoch_full (limit_while old.session.waiting old.session.most_events) old.session.store.store ≡ true → EndsEpoch g old.session.waiting old.session.store new.session.store → IsDurable g new.session.store → new.session.life ≡ life_of new.session.store
+    → is_epoch_full (full_at old.session) old.session.store.store ≡ true → EndsEpoch g old.session.store.strong old.session.waiting old.session.store new.session.store → IsDurable g new.session.store → new.session.names.life ≡ life_of new.session.store → AreCarriedOver old.session.names old.session.store.strong old.session.store.store.history old.session.store.prepared.items new.session.names.carried
+    → new.session.names.begun_with ≡ length new.session.store.store.history
     → new.session.most_events ≡ old.session.most_events → new.session.waiting ≡ None → ShowsCommit g new.session.store.journal
     → WritesEpochs g old.session.store new.session.store kept kept_now → (Clean g new.session.store.journal → Clean g old.session.store.journal)
     → LeavesEpochs g old.session.store new.session.store kept kept_now → new.line ≡ old.line → new.answers ≡ old.answers → new.end ≡ old.end
     → HasServed g began told bytes old → HasServed g began (told ++ answers_in (late_answer old.session.waiting old.session.store.store)) bytes new
-served-epoch {S} {g} {began} {told} {bytes} {old} new kept kept_now none empty full ends sound named most no_more shows writes clean crash line answers ended served = record {
+served-epoch {S} {g} {began} {told} {bytes} {old} new kept kept_now none empty full ends sound named over_names counted most no_more shows writes clean crash line answers ended served = record {
   lines = served.lines;
   half = served.half;
   asked = served.asked;
@@ -248,33 +248,35 @@ served-epoch {S} {g} {began} {told} {bytes} {old} new kept kept_now none empty f
       let late = answers_in (late_answer waits old.session.store.store) in
       let ps = old.session.store.prepared.items in
       let new_ps = new.session.store.prepared.items in
-      let over = aborted ps old.session.store.store in
-      let closed = with_all (written g old.session.store.journal) (closing_but (prepared_numbers ps) old.session.store.store.history) in
+      let goes = old.session.store.strong in
+      let over = closed_by goes ps old.session.store.store in
+      let closed = with_all (written g old.session.store.journal) (closings goes ps old.session.store.store) in
       let are : Clean g new.session.store.journal → ps ≡ prepared_in (now_says served.said old.session.store.store) =
       λ now. held-said g served.said old.session.store served.lasts.sound (clean now) (served.says (clean now)) in
-      let so_far : Serves (Clean g new.session.store.journal) began.most_events file began.life served.lines began.store.store (told ++ old.answers.items) old.session.life served.said old.session.store.store None waits =
+      let so_far : Serves (Clean g new.session.store.journal) began.most_events file began.names served.lines began.store.store (told ++ old.answers.items) old.session.names served.said old.session.store.store None waits =
       serves-weaker clean
-      (subst (λ e. Serves (Clean g old.session.store.journal) began.most_events file began.life served.lines began.store.store (told ++ old.answers.items) old.session.life served.said old.session.store.store e waits) none served.serves) in
-      let life : Clean g new.session.store.journal → new.session.life ≡ suc old.session.life = λ now. named ∙ ends.life now ∙ ap suc (sym served.lasts.named) in
+      (subst (λ e. Serves (Clean g old.session.store.journal) began.most_events file began.names served.lines began.store.store (told ++ old.answers.items) old.session.names served.said old.session.store.store e waits) none served.serves) in
+      let life : Clean g new.session.store.journal → new.session.names.life ≡ suc old.session.names.life = λ now. named ∙ ends.life now ∙ ap suc (sym served.lasts.named) in
       let says : Clean g new.session.store.journal → SaysNext waits new_ps served.said (written g new.session.store.journal) =
       λ now. let it = served.says (clean now) in
       says-next-then waits new_ps served.said closed (written g new.session.store.journal) (it.0, it.1, it.2, it.3)
       (next-says waits ps over new.session.store.store new_ps closed (written g new.session.store.journal)
       (subst (λ c. IsNextFile waits ps over new.session.store.store new_ps closed c) (shown-durable g new.session.store shows now) (ends.durable now))) in
       rw (ended ∙ none, no_more, epoch-told told old.answers.items new.answers.items late empty (ap (λ v. v.items) answers))
-      (Serves.epoch served.lines began.store.store old.session.store.store new.session.store.store (told ++ old.answers.items) old.session.life new.session.life served.said (written g new.session.store.journal) waits ps new_ps so_far
-      (subst (λ n. is_epoch_full (limit_while waits n) old.session.store.store ≡ true) served.lasts.most full) ends.store are life says);
+      (Serves.epoch served.lines began.store.store old.session.store.store new.session.store.store (told ++ old.answers.items) old.session.names new.session.names served.said (written g new.session.store.journal) waits goes ps new_ps so_far
+      (subst (λ n. is_epoch_full (limit_while waits (full_with n old.session.names)) old.session.store.store ≡ true) served.lasts.most full) served.lasts.sound.strong ends.store over_names counted are life says);
 }
 
 -- what it has answered
 abbrev pub told-epoch : {S : Type 0} {g : Ghosts S} {began : Session S} {given taken given_now taken_now : Option (List ℕ)} {old : Server S} (new : Server S) (taken_new : Option (List ℕ)) (kept kept_now : Option (List KeptHistory)) → old.end ≡ None
-    → is_epoch_full (limit_while old.session.waiting old.session.most_events) old.session.store.store ≡ true → EndsEpoch g old.session.waiting old.session.store new.session.store → IsDurable g new.session.store → new.session.life ≡ life_of new.session.store
+    → is_epoch_full (full_at old.session) old.session.store.store ≡ true → EndsEpoch g old.session.store.strong old.session.waiting old.session.store new.session.store → IsDurable g new.session.store → new.session.names.life ≡ life_of new.session.store → AreCarriedOver old.session.names old.session.store.strong old.session.store.store.history old.session.store.prepared.items new.session.names.carried
+    → new.session.names.begun_with ≡ length new.session.store.store.history
     → new.session.most_events ≡ old.session.most_events → new.session.waiting ≡ None → ShowsCommit g new.session.store.journal
     → WritesEpochs g old.session.store new.session.store kept kept_now → (Clean g new.session.store.journal → Clean g old.session.store.journal)
     → LeavesEpochs g old.session.store new.session.store kept kept_now → new.line ≡ old.line → new.answers ≡ old.answers → new.end ≡ old.end
     → Appends taken_now taken_new (answers_text (last_answers (late_answer old.session.waiting old.session.store.store) None))
     → HasTold g began given taken old given_now taken_now → HasTold g began given taken new given_now taken_new
-told-epoch {S} {g} {began} {given} {taken} {given_now} {taken_now} {old} new taken_new kept kept_now none full ends sound named most no_more shows writes clean crash line answers ended appended has =
+told-epoch {S} {g} {began} {given} {taken} {given_now} {taken_now} {old} new taken_new kept kept_now none full ends sound named over_names counted most no_more shows writes clean crash line answers ended appended has =
     let late = late_answer old.session.waiting old.session.store.store in
     record {
       told = has.told ++ answers_in late;
@@ -283,7 +285,7 @@ told-epoch {S} {g} {began} {given} {taken} {given_now} {taken_now} {old} new tak
       consumed = has.consumed;
       all = λ e. has.all none;
       waits = ap (λ v. v.items) answers ∙ has.waits;
-      served = served-epoch new kept kept_now none has.waits full ends sound named most no_more shows writes clean crash line answers ended has.served;
+      served = served-epoch new kept kept_now none has.waits full ends sound named over_names counted most no_more shows writes clean crash line answers ended has.served;
       appended = subst (Appends taken taken_new) (sym (told-more has.told (answers_in late)))
           (Appends-trans taken taken_now taken_new (answers_text has.told) (answers_text (answers_in late)) has.appended (subst (λ xs. Appends taken_now taken_new (answers_text xs)) (late-alone late) appended));
     }

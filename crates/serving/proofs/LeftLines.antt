@@ -1,5 +1,5 @@
 -- What a crash leaves of lines that were done.
-use Rattle.std.proofs.Common.{◌≡◌, ◌∙◌, ◌⊎◌, inl, inr, ℕ, zero, suc, ◌+◌, ◌<◌, get_or, true, false, ◌||◌, ◌==◌, Option, None, List, [], ◌∷◌, ◌++◌, length, take, drop, refl, sym, ap, ap₂, subst, IsTrue, arith}
+use Rattle.std.proofs.Common.{◌≡◌, ◌∙◌, ◌⊎◌, inl, inr, ℕ, zero, suc, ◌+◌, ◌<◌, get_or, Bool, true, false, ◌||◌, ◌==◌, Option, None, List, [], ◌∷◌, ◌++◌, length, take, drop, refl, sym, ap, ap₂, subst, IsTrue, arith}
 use Rattle.std.proofs.Math.Seq.{take-append_seam}
 use Rattle.std.proofs.lemmas.Bool.{or_parts}
 use Rattle.std.proofs.lemmas.List.{append_assoc, append-nil, drop_all, length-append, take-append-drop, take-append-le, take_more}
@@ -18,14 +18,14 @@ use Rattle.serving.specs.declared.answer_line.Answered.{Answered}
 use Rattle.serving.specs.declared.extension.Extension.{Extension}
 use Rattle.serving.specs.declared.session.Session.{Session}
 use Rattle.serving.specs.declared.server.Server.{Server}
-use Rattle.serving.specs.Does.{is_epoch_full}
 use Rattle.serving.specs.EpochEnd.{BeginsAnew, IsEpochOver, LeavesEnd}
 use Rattle.serving.specs.Follows.{LeavesWritten}
-use Rattle.serving.specs.Left.{AreFirstAnswers, IsStoreFile, closed_store, IsLeftAfter, LeavesLines, Survives, Began, began_at}
+use Rattle.serving.specs.Left.{AreFirstAnswers, IsStoreFile, MayEnd, closed_store, IsLeftAfter, LeavesLines, Survives, Began, began_at}
 use Rattle.serving.specs.Lines.{AreLines, asks_end}
 use Rattle.durable_store.specs.Durable.{prepared_in}
-use Rattle.serving.specs.Epochs.{aborted}
-use Rattle.serving.specs.NextEpoch.{IsNextFile, SaysSame, limit_while}
+use Rattle.serving.specs.Epochs.{closed_by}
+use Rattle.serving.specs.NextEpoch.{IsNextFile, SaysSame}
+use Rattle.serving.specs.Names.{KnownNames}
 use Rattle.serving.specs.Prepared.{now_says}
 use Rattle.serving.specs.Served.{Serves}
 use Rattle.serving.specs.Server.{AnswersLine, DoesLine, HasServed, KeepsByte, StaysInEpoch, TakesByte, TakesEnd, life_of}
@@ -78,10 +78,10 @@ pub rest-read : (seen bytes : List ℕ) (i : ℕ) → (seen ++ take i bytes) ++ 
 rest-read seen bytes i = append_assoc seen (take i bytes) (drop i bytes) ∙ ap (λ bs. seen ++ bs) (take-append-drop i bytes)
 
 -- where it is over for another reason too
-file-last : {over others : Type 0} {waits : Option Extension} {life : ℕ} {said : Contents} {s : Stored} {c : Contents} → (over → others) → IsStoreFile over waits life said s c → IsStoreFile others waits life said s c
+file-last : {over others : Bool → Type 0} {waits : Option Extension} {life : ℕ} {said : Contents} {s : Stored} {c : Contents} → ((goes : Bool) → over goes → others goes) → IsStoreFile over waits life said s c → IsStoreFile others waits life said s c
 file-last turn (IsStoreFile.present c is lives knows) = IsStoreFile.present c is lives knows
-file-last turn (IsStoreFile.closed c so is lives knows) = IsStoreFile.closed c (turn so) is lives knows
-file-last turn (IsStoreFile.anew c now next ps so is lives knows begins) = IsStoreFile.anew c now next ps (turn so) is lives knows begins
+file-last turn (IsStoreFile.closed goes c so is lives knows) = IsStoreFile.closed goes c (turn goes so) is lives knows
+file-last turn (IsStoreFile.anew goes c now next ps so is lives knows begins) = IsStoreFile.anew goes c now next ps (turn goes so) is lives knows begins
 
 module _ {b : Began} where
   -- of more bytes
@@ -123,21 +123,21 @@ module _ {b : Began} where
     done = left.done;
     first = left.first;
     file = record {
-      life = left.file.life;
+      names = left.file.names;
       reached = left.file.reached;
       said = left.file.said;
       ended = left.file.ended;
       waits = left.file.waits;
       serves = left.file.serves;
-      file = file-last (λ (so : (is_epoch_full (limit_while left.file.waits b.most) left.file.reached ≡ true) ⊎ last left.lines). elim so [ inl full ↦ inl full | inr it ↦ inr (turn left.lines it) ]) left.file.file;
+      file = file-last (λ goes (so : MayEnd b.most left.file.waits left.file.names left.file.reached (last left.lines) goes). elim so [ inl full ↦ inl full | inr it ↦ inr (turn left.lines it.0, it.1) ]) left.file.file;
     };
   }
 
   -- after these lines
-  left-of : {last : List (List ℕ) → Type 0} (seen rest : List ℕ) (lines : List (List ℕ)) (half : List ℕ) (c : Contents) (told waiting done : List Answered) (life : ℕ) (said : Contents) (reached : Stored) (ended : Option Asked) (waits : Option Extension)
-      → AreLines seen lines half → told ++ waiting ≡ done → Serves (Unit {0}) b.most b.file b.life lines b.store done life said reached ended waits
-      → IsStoreFile ((is_epoch_full (limit_while waits b.most) reached ≡ true) ⊎ last lines) waits life said reached c → IsLeftAfter b last (seen ++ rest) told waiting c
-  left-of seen rest lines half c told waiting done life said reached ended waits asked all serves file = record {
+  left-of : {last : List (List ℕ) → Type 0} (seen rest : List ℕ) (lines : List (List ℕ)) (half : List ℕ) (c : Contents) (told waiting done : List Answered) (names : KnownNames) (said : Contents) (reached : Stored) (ended : Option Asked) (waits : Option Extension)
+      → AreLines seen lines half → told ++ waiting ≡ done → Serves (Unit {0}) b.most b.file b.names lines b.store done names said reached ended waits
+      → IsStoreFile (MayEnd b.most waits names reached (last lines)) waits names.life said reached c → IsLeftAfter b last (seen ++ rest) told waiting c
+  left-of seen rest lines half c told waiting done names said reached ended waits asked all serves file = record {
     count = length seen;
     within = omega (arith, length-append seen rest);
     lines = lines;
@@ -145,7 +145,7 @@ module _ {b : Began} where
     asked = subst (λ bs. AreLines bs lines half) (sym (take-append_seam seen rest)) asked;
     done = done;
     first = subst (λ xs. AreFirstAnswers told waiting xs) all (first-all told waiting);
-    file = record { life = life; reached = reached; said = said; ended = ended; waits = waits; serves = serves; file = file };
+    file = record { names = names; reached = reached; said = said; ended = ended; waits = waits; serves = serves; file = file };
   }
 
 -- ---- a byte
@@ -190,17 +190,17 @@ module _ {S : Type 0} (g : Ghosts S) (b : Began) (now : Durable S) where
 
 module _ {S : Type 0} {g : Ghosts S} where
   -- all that was written by then
-  file-written : {over : Type 0} {waits : Option Extension} (s : Server S) (said c : Contents) → SaysSame said (written g s.session.store.journal) → IsDurable g s.session.store → s.session.life ≡ life_of s.session.store → Clean g s.session.store.journal
-      → c ≡ written g s.session.store.journal → c.headers ≡ s.session.store.journal.header ∷ [] → IsStoreFile over waits s.session.life said s.session.store.store c
+  file-written : {over : Bool → Type 0} {waits : Option Extension} (s : Server S) (said c : Contents) → SaysSame said (written g s.session.store.journal) → IsDurable g s.session.store → s.session.names.life ≡ life_of s.session.store → Clean g s.session.store.journal
+      → c ≡ written g s.session.store.journal → c.headers ≡ s.session.store.journal.header ∷ [] → IsStoreFile over waits s.session.names.life said s.session.store.store c
   file-written s said c says sound named clean is headers =
       IsStoreFile.present c (subst (λ (x : Contents). IsStoreOf x s.session.store.store) (sym is) (is-store-of g s.session.store sound clean)) (s.session.store.journal.header, headers, sym named)
       (ap (λ (x : Contents). x.outcomes) is ∙ says.2, ap (λ (x : Contents). x.prepared) is ∙ says.3)
 
   -- where one is to a commit, all that was written is durable
   pub lines-group : (b : Began) {last : List (List ℕ) → Type 0} {all : List (List ℕ)} {half seen : List ℕ} {told : List Answered} (mid new : Session S) (rest : List ℕ) (answers : List Answered) (said : Contents) (ended : Option Asked)
-      → (Clean g mid.store.journal → SaysSame said (written g mid.store.journal)) → AreLines seen all half → IsDurable g mid.store → mid.life ≡ life_of mid.store → StaysInEpoch g mid new → (has_lasting answers ≡ true → ShowsCommit g new.store.journal)
+      → (Clean g mid.store.journal → SaysSame said (written g mid.store.journal)) → AreLines seen all half → IsDurable g mid.store → mid.names.life ≡ life_of mid.store → StaysInEpoch g mid new → (has_lasting answers ≡ true → ShowsCommit g new.store.journal)
       → (Clean g new.store.journal → written g new.store.journal ≡ written g mid.store.journal)
-      → Serves (Clean g mid.store.journal) b.most b.file b.life all b.store (told ++ answers) mid.life said mid.store.store ended mid.waiting
+      → Serves (Clean g mid.store.journal) b.most b.file b.names all b.store (told ++ answers) mid.names said mid.store.store ended mid.waiting
       → LeavesLines g b last (seen ++ rest) told answers new.store → Clean g new.store.journal → LeavesLines g b last (seen ++ rest) (told ++ answers) [] new.store
   lines-group b {last} {all} {half} {seen} {told} mid new rest answers said ended says asked sound named stays settled same serves so_far clean =
       elim (has_lasting answers) as (λ v. has_lasting answers ≡ v → LeavesLines g b last (seen ++ rest) (told ++ answers) [] new.store) [
@@ -211,14 +211,14 @@ module _ {S : Type 0} {g : Ghosts S} where
             let header = ap (λ (c : Contents). c.headers) is ∙ (stays.sound.journal clean).0.header_is shows.0.sound in
             let store : IsStoreOf (contents_of db) mid.store.store = subst (λ (x : Contents). IsStoreOf x mid.store.store) (sym (is ∙ same clean)) (is-store-of g mid.store sound was) in (
               (so_far db left).0,
-              left-of seen rest all half (contents_of db) (told ++ answers) [] (told ++ answers) mid.life said mid.store.store ended mid.waiting asked (append-nil (told ++ answers)) (serves-weaker (λ known. was) serves)
+              left-of seen rest all half (contents_of db) (told ++ answers) [] (told ++ answers) mid.names said mid.store.store ended mid.waiting asked (append-nil (told ++ answers)) (serves-weaker (λ known. was) serves)
                   (IsStoreFile.present (contents_of db) store (new.store.journal.header, header, stays.same ∙ sym named) (ap (λ (x : Contents). x.outcomes) (is ∙ same clean) ∙ (says was).2, ap (λ (x : Contents). x.prepared) (is ∙ same clean) ∙ (says was).3)),
             )
         | false ↦ λ none. lines-first g b new.store (λ done first. first-told none first) so_far
       ] refl
 
   -- before the first line, where nothing waits to become durable
-  pub lines-none : (began : Session S) {last : List (List ℕ) → Type 0} → IsDurable g began.store → began.life ≡ life_of began.store → Clean g began.store.journal → ShowsCommit g began.store.journal
+  pub lines-none : (began : Session S) {last : List (List ℕ) → Type 0} → IsDurable g began.store → began.names.life ≡ life_of began.store → Clean g began.store.journal → ShowsCommit g began.store.journal
       → ((db : Trees) → IsTrue (g.view began.store.journal.store).is_open → may_leave g began.store.journal db → db ≡ (g.view began.store.journal.store).committed)
       → LeavesLines g (began_at g began) last [] [] [] began.store
   lines-none began sound named clean shows last_commit db left =
@@ -227,31 +227,31 @@ module _ {S : Type 0} {g : Ghosts S} where
       let is : contents_of db ≡ written g began.store.journal = sound.settled clean db left ∙ shown-durable g began.store shows clean in
       let store : IsStoreOf (contents_of db) began.store.store = subst (λ (x : Contents). IsStoreOf x began.store.store) (sym is) (is-store-of g began.store sound clean) in (
         subst IsFile (sym (last_commit db it.is_open left)) (file.kept it.is_open),
-        left-of [] [] [] [] (contents_of db) [] [] [] began.life (written g began.store.journal) began.store.store None None (record { text = refl; whole = tt; within = refl }) refl (Serves.none began.store.store)
+        left-of [] [] [] [] (contents_of db) [] [] [] began.names (written g began.store.journal) began.store.store None None (record { text = refl; whole = tt; within = refl }) refl (Serves.none began.store.store)
             (IsStoreFile.present (contents_of db) store (began.store.journal.header, ap (λ (c : Contents). c.headers) is ∙ file.header_is it.sound, sym named) (ap (λ (c : Contents). c.outcomes) is, ap (λ (c : Contents). c.prepared) is)),
       )
 
 -- the file of an epoch that is over
-file-ended : {S : Type 0} (g : Ghosts S) {over : Type 0} (waits : Option Extension) (s : Server S) (said c : Contents) → SaysSame said (written g s.session.store.journal) → over → s.session.life ≡ life_of s.session.store
+file-ended : {S : Type 0} (g : Ghosts S) {over : Bool → Type 0} (goes : Bool) (waits : Option Extension) (s : Server S) (said c : Contents) → SaysSame said (written g s.session.store.journal) → over goes → s.session.names.life ≡ life_of s.session.store
     → IsDurable g s.session.store → Clean g s.session.store.journal
-    → (IsEpochOver g s.session.store c ⊎ BeginsAnew g waits s.session.store c) → IsStoreFile over waits s.session.life said s.session.store.store c
-file-ended g waits s said c says so named sound clean ended =
+    → (IsEpochOver g goes s.session.store c ⊎ BeginsAnew g goes waits s.session.store c) → IsStoreFile over waits s.session.names.life said s.session.store.store c
+file-ended g goes waits s said c says so named sound clean ended =
     let store = s.session.store.store in
     let are : s.session.store.prepared.items ≡ prepared_in (now_says said store) = held-said g said s.session.store sound clean says in
-    let closed : (c : Contents) → IsStoreOf c (aborted s.session.store.prepared.items store) → IsStoreOf c (closed_store said store) = λ c it. subst (λ ps. IsStoreOf c (aborted ps store)) are it in
+    let closed : (c : Contents) → IsStoreOf c (closed_by goes s.session.store.prepared.items store) → IsStoreOf c (closed_store goes said store) = λ c it. subst (λ ps. IsStoreOf c (closed_by goes ps store)) are it in
     elim ended [
-      | inl it ↦ IsStoreFile.closed c so (closed c it.0) (s.session.store.journal.header, it.1, sym named) (it.2 ∙ says.2, it.3 ∙ says.3)
-      | inr it ↦ IsStoreFile.anew it.before c it.next it.prepared so (closed it.before it.over.0) (s.session.store.journal.header, it.over.1, sym named) (it.over.2 ∙ says.2, it.over.3 ∙ says.3)
-          (subst (λ ps. IsNextFile waits ps (aborted ps store) it.next it.prepared it.before c) are it.is)
+      | inl it ↦ IsStoreFile.closed goes c so (closed c it.0) (s.session.store.journal.header, it.1, sym named) (it.2 ∙ says.2, it.3 ∙ says.3)
+      | inr it ↦ IsStoreFile.anew goes it.before c it.next it.prepared so (closed it.before it.over.0) (s.session.store.journal.header, it.over.1, sym named) (it.over.2 ∙ says.2, it.over.3 ∙ says.3)
+          (subst (λ ps. IsNextFile waits ps (closed_by goes ps store) it.next it.prepared it.before c) are it.is)
     ]
 
 module _ {S : Type 0} {g : Ghosts S} {began : Session S} where
   -- after all lines so far
   left-now : {last : List (List ℕ) → Type 0} {told : List Answered} {seen : List ℕ} (s : Server S) (rest : List ℕ) (c : Contents) → (served : HasServed g began told seen s) → Clean g s.session.store.journal
-      → IsStoreFile ((is_epoch_full (limit_while s.session.waiting began.most_events) s.session.store.store ≡ true) ⊎ last served.lines) s.session.waiting s.session.life served.said s.session.store.store c
+      → IsStoreFile (MayEnd began.most_events s.session.waiting s.session.names s.session.store.store (last served.lines)) s.session.waiting s.session.names.life served.said s.session.store.store c
       → IsLeftAfter (began_at g began) last (seen ++ rest) told s.answers.items c
   left-now {last} {told} {seen} s rest c served clean file =
-      left-of seen rest served.lines served.half c told s.answers.items (told ++ s.answers.items) s.session.life served.said s.session.store.store s.end s.session.waiting served.asked refl
+      left-of seen rest served.lines served.half c told s.answers.items (told ++ s.answers.items) s.session.names served.said s.session.store.store s.end s.session.waiting served.asked refl
       (serves-weaker (λ known. clean) served.serves) file
 
   -- ---- a crash
@@ -291,11 +291,11 @@ module _ {S : Type 0} {g : Ghosts S} {began : Session S} where
 
   -- ---- the end of an epoch
 
-  pub lines-ended : {last : List (List ℕ) → Type 0} {told : List Answered} {seen : List ℕ} (s : Server S) (new : Durable S) (rest : List ℕ)
-      → (served : HasServed g began told seen s) → ((is_epoch_full (limit_while s.session.waiting began.most_events) s.session.store.store ≡ true) ⊎ last served.lines)
-      → LeavesEnd g s.session.waiting s.session.store new → LeavesLines g (began_at g began) last (seen ++ rest) told s.answers.items s.session.store → LeavesLines g (began_at g began) last (seen ++ rest) told s.answers.items new
-  lines-ended s new rest served so crash so_far db left = elim (crash db left) [
-    | inl it ↦ (it.1, left-now s rest (contents_of db) served it.0 (file-ended g s.session.waiting s served.said (contents_of db) (served.says it.0) so served.lasts.named served.lasts.sound it.0 it.2))
+  pub lines-ended : (goes : Bool) {last : List (List ℕ) → Type 0} {told : List Answered} {seen : List ℕ} (s : Server S) (new : Durable S) (rest : List ℕ)
+      → (served : HasServed g began told seen s) → MayEnd began.most_events s.session.waiting s.session.names s.session.store.store (last served.lines) goes
+      → LeavesEnd g goes s.session.waiting s.session.store new → LeavesLines g (began_at g began) last (seen ++ rest) told s.answers.items s.session.store → LeavesLines g (began_at g began) last (seen ++ rest) told s.answers.items new
+  lines-ended goes s new rest served so crash so_far db left = elim (crash db left) [
+    | inl it ↦ (it.1, left-now s rest (contents_of db) served it.0 (file-ended g goes s.session.waiting s served.said (contents_of db) (served.says it.0) so served.lasts.named served.lasts.sound it.0 it.2))
     | inr before ↦ so_far db before
   ]
 

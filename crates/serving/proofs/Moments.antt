@@ -1,14 +1,12 @@
 -- The moment at which a line was answered is found in the file.
-use Rattle.std.proofs.Common.{◌≡◌, ◌∙◌, ◌⊎◌, inl, inr, ℕ, suc, ◌<◌, ◌≤◌, true, false, Option, None, Some, List, [], ◌∷◌, ◌++◌, drop, take, refl, sym, ap, subst, arith}
+use Rattle.std.proofs.Common.{◌≡◌, ◌∙◌, ◌⊎◌, inl, inr, ℕ, suc, ◌<◌, ◌≤◌, Bool, true, false, Option, None, Some, List, [], ◌∷◌, ◌++◌, drop, take, refl, sym, ap, subst, arith}
 use Rattle.std.proofs.lemmas.List.{append-nil, append_assoc, map-append, take-append-drop}
 use Rattle.object_trait.specs.declared.event.Event.{Event}
 use Rattle.object_trait.specs.declared.event.EventKind.{EventKind}
 use Rattle.store_laws.specs.Stored.{Stored}
-use Rattle.store.specs.Ends.{closing_but}
 use Rattle.journal.specs.declared.prepared_row.Prepared.{Prepared}
 use Rattle.journal.specs.Contents.{Contents}
 use Rattle.durable_store.specs.Durable.{events_of_kinds, prepared_in, kinds}
-use Rattle.durable_store.specs.Held.{prepared_numbers}
 use Rattle.durable_store.specs.Recovered.{IsStoreOf}
 use Rattle.request_text.specs.declared.request.Asked.{Asked}
 use Rattle.serving.specs.declared.answer_line.AnswerLine.{AnswerLine}
@@ -17,13 +15,14 @@ use Rattle.serving.specs.declared.answer_line.Answered.{Answered}
 use Rattle.serving.specs.declared.extension.Extension.{Extension}
 use Rattle.serving.specs.AnswersFound.{GoesFurther}
 use Rattle.serving.specs.Archives.{life_in}
-use Rattle.serving.specs.Epochs.{aborted}
+use Rattle.serving.specs.Epochs.{closed_by, closings}
 use Rattle.serving.specs.Left.{Began, IsInLife, IsLeftAfter, IsStoreFile, closed_store}
 use Rattle.serving.specs.Lines.{AreLines}
-use Rattle.serving.specs.NextEpoch.{MayWait, is_not_added, limit_while}
+use Rattle.serving.specs.NextEpoch.{MayWait, begin_limit, full_with, is_not_added}
 use Rattle.serving.specs.Places.{TellsSuch}
+use Rattle.serving.specs.Names.{KnownNames}
 use Rattle.serving.specs.Prepared.{now_says}
-use Rattle.serving.specs.Served.{IsAnswered, Serves}
+use Rattle.serving.specs.Served.{IsAnswered, KnewNames, Serves}
 use Rattle.serving.specs.Told.{is_lasting}
 use Rattle.serving.proofs.FirstLines.{either-lines}
 use Rattle.serving.proofs.Growth.{Grows, answered-grows}
@@ -40,31 +39,33 @@ kinds-events (k ∷ ks) = ap (λ xs. k ∷ xs) (kinds-events ks)
 
 -- ---- a store goes on from the moment of an answer
 
-goes-grow : {born : ℕ} {moment : Stored} {life : ℕ} {old : Stored} (new : Stored) → GoesFurther born moment life old → Grows old new → GoesFurther born moment life new
+pub goes-grow : {born : ℕ} {moment : Stored} {life : ℕ} {old : Stored} (new : Stored) → GoesFurther born moment life old → Grows old new → GoesFurther born moment life new
 goes-grow {moment = moment} new (GoesFurther.same old more is) (events, grown, same) =
     GoesFurther.same new (more ++ kinds events) (ap kinds grown ∙ kinds-append old.history events ∙ ap (λ ks. ks ++ kinds events) is ∙ append_assoc (kinds moment.history) more (kinds events))
 goes-grow new (GoesFurther.epoch life waits ps next before first old goes renews begins) (events, grown, same) = GoesFurther.epoch life waits ps next before first new goes renews (same ∙ begins)
 
 -- an epoch is closed
-goes-close : {born : ℕ} {moment : Stored} {life : ℕ} {old : Stored} (ps : List Prepared) → GoesFurther born moment life old → GoesFurther born moment life (aborted ps old)
-goes-close {old = old} ps goes = goes-grow (aborted ps old) goes (closing_but (prepared_numbers ps) old.history, refl, refl)
+goes-close : {born : ℕ} {moment : Stored} {life : ℕ} {old : Stored} (all : Bool) (ps : List Prepared) → GoesFurther born moment life old → GoesFurther born moment life (closed_by all ps old)
+goes-close {old = old} all ps goes = goes-grow (closed_by all ps old) goes (closings all ps old, refl, refl)
 
 -- at some moment a line of this kind was done and so answered; a store in this life goes on from there
-pub record AnsweredAt (clean : Type 0) (P : List ℕ → Answered → Type 0) (life : ℕ) (now : Stored) : Type 0 where
+pub record AnsweredAt (clean : Type 0) (epoch : ℕ) (c : Contents) (first : KnownNames) (began : Stored) (P : List ℕ → Answered → Type 0) (life : ℕ) (now : Stored) : Type 0 where
   pub line : List ℕ
   pub a : Answered
   pub claims : P line a
   pub most : ℕ
-  pub born : ℕ
+  pub names : KnownNames
+  pub knew : KnewNames clean epoch c first began names
   pub said : Contents
   pub old : Stored
   pub new : Stored
-  pub answered : IsAnswered clean most born said line old a new
-  pub goes_on : GoesFurther born new life now
+  pub answered : IsAnswered clean most names said line old a new
+  pub goes_on : GoesFurther names.life new life now
 
-moment-grows : {clean : Type 0} {P : List ℕ → Answered → Type 0} {life : ℕ} {old : Stored} (new : Stored) → AnsweredAt clean P life old → Grows old new → AnsweredAt clean P life new
+moment-grows : {clean : Type 0} {epoch : ℕ} {c : Contents} {first : KnownNames} {began : Stored} {P : List ℕ → Answered → Type 0} {life : ℕ} {old : Stored} (new : Stored) → AnsweredAt clean epoch c first began P life old → Grows old new
+    → AnsweredAt clean epoch c first began P life new
 moment-grows new m grown =
-    record { line = m.line; a = m.a; claims = m.claims; most = m.most; born = m.born; said = m.said; old = m.old; new = m.new; answered = m.answered; goes_on = goes-grow new m.goes_on grown }
+    record { line = m.line; a = m.a; claims = m.claims; most = m.most; names = m.names; knew = m.knew; said = m.said; old = m.old; new = m.new; answered = m.answered; goes_on = goes-grow new m.goes_on grown }
 
 -- what waits, or isn't added, isn't lasting
 not-added-lasts : (answer : AnswerLine) → is_not_added answer ≡ true → is_lasting answer ≡ false
@@ -75,39 +76,52 @@ pub more-lasts : (a : Answered) (waits : Option Extension) → MayWait a.tag a.a
 more-lasts a None it = not-added-lasts a.answer it
 more-lasts a (Some e) it = ap is_lasting it.0
 
-pub serves-moment : {clean : Type 0} {most : ℕ} {c : Contents} {begins : ℕ} {lines : List (List ℕ)} {old : Stored} {answers : List Answered} {life : ℕ} {said : Contents} {new : Stored} {ended : Option Asked} {waits : Option Extension}
-    → clean → Serves clean most c begins lines old answers life said new ended waits → (P : List ℕ → Answered → Type 0) (lasts : Lasts P) → TellsSuch lines answers P → AnsweredAt clean P life new
+pub serves-moment : {clean : Type 0} {most : ℕ} {c : Contents} {begins : KnownNames} {lines : List (List ℕ)} {old : Stored} {answers : List Answered} {names : KnownNames} {said : Contents} {new : Stored} {ended : Option Asked} {waits : Option Extension}
+    → clean → Serves clean most c begins lines old answers names said new ended waits → (P : List ℕ → Answered → Type 0) (lasts : Lasts P) → TellsSuch lines answers P → AnsweredAt clean most c begins old P names.life new
 serves-moment now (Serves.none s) P lasts told = absurd told
-serves-moment {clean} {most} now (Serves.line lines asked old mid new answers a life said waits before other may answered) P lasts told =
-    let limit = limit_while waits most in
-    elim (told-last lines answers asked a P ((serves-count before).1 refl) (answered-turn clean limit life said asked mid a new answered) told) [
-      | inl earlier ↦ moment-grows new (serves-moment now before P lasts earlier) (answered-grows clean now limit life said asked mid a new answered)
-      | inr here ↦ record { line = asked; a = a; claims = here; most = limit; born = life; said = said; old = mid; new = new; answered = answered; goes_on = GoesFurther.same new [] (sym (append-nil (kinds new.history))) }
+serves-moment {clean} {most} {c} {begins} now (Serves.line lines asked old mid new answers a names said waits goes before other may strong answered) P lasts told =
+    let limit = begin_limit goes waits (full_with most names) in
+    elim (told-last lines answers asked a P ((serves-count before).1 refl) (answered-turn clean limit names said asked mid a new answered) told) [
+      | inl earlier ↦ moment-grows new (serves-moment now before P lasts earlier) (answered-grows clean now limit names said asked mid a new answered)
+      | inr here ↦ record {
+        line = asked;
+        a = a;
+        claims = here;
+        most = limit;
+        names = names;
+        knew = record { lines = lines; answers = answers; said = said; reached = mid; waits = waits; serves = before };
+        said = said;
+        old = mid;
+        new = new;
+        answered = answered;
+        goes_on = GoesFurther.same new [] (sym (append-nil (kinds new.history)));
+      }
     ]
-serves-moment now (Serves.more lines asked old new answers a life said waits before may more) P lasts told =
+serves-moment now (Serves.more lines asked old new answers a names said waits before may more) P lasts told =
     elim (told-last lines answers asked a P ((serves-count before).1 refl) (more-turn a waits more.told) told) [
       | inl earlier ↦ serves-moment now before P lasts earlier
       | inr here ↦ absurd (let it : true ≡ false = sym (lasts asked a here) ∙ more-lasts a waits more.told in cc)
     ]
-serves-moment now (Serves.end lines asked old new answers life said waits before ends) P lasts told =
+serves-moment now (Serves.end lines asked old new answers names said waits before ends) P lasts told =
     serves-moment now before P lasts
     (told-first lines (asked ∷ []) answers [] P lasts (serves-count before).0 refl (subst (λ xs. TellsSuch (lines ++ asked ∷ []) xs P) (sym (append-nil answers)) told))
-serves-moment now (Serves.forget lines old mid answers life n said ended waits before) P lasts told =
+serves-moment now (Serves.forget lines old mid answers names n said ended waits before) P lasts told =
     moment-grows (record mid { forgotten = n }) (serves-moment now before P lasts told) ([], sym (append-nil mid.history), refl)
-serves-moment {clean} now (Serves.epoch lines old mid new answers life next said file waits ps new_ps before full renews are follows says) P lasts told =
-    let m = moment-grows (aborted ps mid) (serves-moment now before P lasts (told-epoch waits mid lines answers P told)) (closing_but (prepared_numbers ps) mid.history, refl, refl) in
-    subst (λ n. AnsweredAt clean P n new) (sym (follows now))
+serves-moment {clean} {most} {c} {begins} now (Serves.epoch lines old mid new answers names next said file waits all ps new_ps before full strong renews over counted are follows says) P lasts told =
+    let m = moment-grows (closed_by all ps mid) (serves-moment now before P lasts (told-epoch waits mid lines answers P told)) (closings all ps mid, refl, refl) in
+    subst (λ n. AnsweredAt clean most c begins old P n new) (sym (follows now))
     (record {
       line = m.line;
       a = m.a;
       claims = m.claims;
       most = m.most;
-      born = m.born;
+      names = m.names;
+      knew = m.knew;
       said = m.said;
       old = m.old;
       new = m.new;
       answered = m.answered;
-      goes_on = GoesFurther.epoch life waits ps new_ps (aborted ps mid) new new m.goes_on renews refl;
+      goes_on = GoesFurther.epoch names.life waits ps new_ps (closed_by all ps mid) new new m.goes_on renews refl;
     })
 
 -- ---- of a file
@@ -134,13 +148,13 @@ gone-in c life born moment (h, said, lives) gone =
       λ same. elim gone [ inl over ↦ absurd (omega (arith, over, is, same)) | inr it ↦ it.1 ],
     )
 
-pub file-goes : {over : Type 0} {waits : Option Extension} {life : ℕ} {said : Contents} {s : Stored} {c : Contents} (born : ℕ) (moment : Stored) → IsStoreFile over waits life said s c → GoesFurther born moment life s → FileGoesOn c born moment
+pub file-goes : {over : Bool → Type 0} {waits : Option Extension} {life : ℕ} {said : Contents} {s : Stored} {c : Contents} (born : ℕ) (moment : Stored) → IsStoreFile over waits life said s c → GoesFurther born moment life s → FileGoesOn c born moment
 file-goes {over} {waits} {life} {said} {s} born moment (IsStoreFile.present c is lives knows) goes = gone-in c life born moment lives (store-gone c s life is goes)
-file-goes {over} {waits} {life} {said} {s} born moment (IsStoreFile.closed c so is lives knows) goes =
-    gone-in c life born moment lives (store-gone c (closed_store said s) life is (goes-close (prepared_in (now_says said s)) goes))
-file-goes {over} {waits} {life} {said} {s} born moment (IsStoreFile.anew c now next ps so is (h, headers, lives) knows begins) goes =
-    let gone = store-gone c (closed_store said s) life is (goes-close (prepared_in (now_says said s)) goes) in
-    let later : life_in now.headers ≡ suc life = ap life_in (next-headers waits (prepared_in (now_says said s)) (closed_store said s) next ps c now begins) ∙ ap (λ hs. life_in (raised hs)) headers ∙ ap suc lives in (
+file-goes {over} {waits} {life} {said} {s} born moment (IsStoreFile.closed all c so is lives knows) goes =
+    gone-in c life born moment lives (store-gone c (closed_store all said s) life is (goes-close all (prepared_in (now_says said s)) goes))
+file-goes {over} {waits} {life} {said} {s} born moment (IsStoreFile.anew all c now next ps so is (h, headers, lives) knows begins) goes =
+    let gone = store-gone c (closed_store all said s) life is (goes-close all (prepared_in (now_says said s)) goes) in
+    let later : life_in now.headers ≡ suc life = ap life_in (next-headers waits (prepared_in (now_says said s)) (closed_store all said s) next ps c now begins) ∙ ap (λ hs. life_in (raised hs)) headers ∙ ap suc lives in (
       elim gone [ inl over ↦ omega (arith, over, later) | inr it ↦ omega (arith, it.0, later) ],
       λ same. elim gone [ inl over ↦ absurd (omega (arith, over, later, same)) | inr it ↦ absurd (omega (arith, it.0, later, same)) ],
     )

@@ -1,18 +1,18 @@
 -- What begins where an epoch is over.
-use Rattle.std.proofs.Common.{◌≡◌, ◌∙◌, ℕ, Option, None, Some, List, [], ◌++◌, map, length, refl, ap, subst}
+use Rattle.std.proofs.Common.{◌≡◌, ◌∙◌, Bool, Option, None, Some, List, [], ◌++◌, map, length, refl, ap, subst}
 use Rattle.journal.specs.declared.header.Header.{Header}
 use Rattle.journal.specs.Contents.{Contents, newest_format}
 use Rattle.store_laws.specs.Stored.{Stored}
-use Rattle.store.specs.Carries.{Carries}
 use Rattle.journal.specs.declared.prepared_row.Prepared.{Prepared}
 use Rattle.durable_store.specs.Epochs.{GoesOver}
 use Rattle.table_checker.specs.Checked.{Checked}
 use Rattle.durable_store.specs.Growth.{ArePlaced, AreUnknown}
 use Rattle.durable_store.specs.Recovered.{next_life}
+use Rattle.durable_store.proofs.NextStores.{over-forgetful}
 use Rattle.serving.specs.declared.answer_line.AnswerLine.TheVariants.{Extended}
 use Rattle.serving.specs.declared.answer_line.Answered.{Answered}
 use Rattle.serving.specs.declared.extension.Extension.{Extension}
-use Rattle.serving.specs.Epochs.{aborted}
+use Rattle.serving.specs.Epochs.{closed_by}
 use Rattle.serving.specs.Follows.{HasMore}
 use Rattle.serving.specs.NextEpoch.{HasMoreObjects, IsNextFile, IsNextStore, SaysNext, SaysSame, late_answer}
 use Rattle.serving.specs.Requests.{LetsGo}
@@ -73,18 +73,8 @@ next-headers (Some e) ps old new qs c now next = ap (λ (x : Contents). x.header
 
 -- ---- a store that has forgotten more begins anew at the same states
 
-carries-as : (s t : Stored) (those : List ℕ) (added : List Checked) (new : Stored) → LetsGo s t → Carries t 0 those added new → Carries s 0 those added new
-carries-as s t those added new lets carries =
-    let it : Carries (record s { forgotten = t.forgotten }) 0 those added new = subst (λ (u : Stored). Carries u 0 those added new) lets carries in
-    record { kept = it.kept; epoch = it.epoch; order = it.order; ordered = it.ordered; is = it.is }
-
 over-as : (s t : Stored) (added : List Checked) (ps : List Prepared) (new : Stored) (qs : List Prepared) → LetsGo s t → GoesOver added t ps new qs → GoesOver added s ps new qs
-over-as s t added ps new qs lets over = record {
-  those = over.those;
-  in_order = over.in_order;
-  carries = (over.carries.0, carries-as s t over.those added over.carries.0 lets over.carries.1, over.carries.2);
-  renumbers = over.renumbers;
-}
+over-as s t added ps new qs lets over = over-forgetful s t added ps new qs lets over
 
 pub next-store-as : (waits : Option Extension) (ps : List Prepared) (s t new : Stored) (qs : List Prepared) → LetsGo s t → IsNextStore waits ps t new qs → IsNextStore waits ps s new qs
 next-store-as None ps s t new qs lets next = over-as s t [] ps new qs lets next
@@ -104,6 +94,6 @@ next-file-as (Some e) ps s t new qs c now lets next = record {
 }
 
 -- what waits is answered the same
-pub late-as : (waits : Option Extension) (ps : List Prepared) (s t : Stored) → LetsGo (aborted ps s) t → late_answer waits t ≡ late_answer waits s
-late-as None ps s t lets = refl
-late-as (Some e) ps s t lets = ap (λ (u : Stored). let it : Answered = record { tag = e.tag; answer = Extended (length u.types) } in Some it) lets
+pub late-as : (goes : Bool) (waits : Option Extension) (ps : List Prepared) (s t : Stored) → LetsGo (closed_by goes ps s) t → late_answer waits t ≡ late_answer waits s
+late-as goes None ps s t lets = refl
+late-as goes (Some e) ps s t lets = ap (λ (u : Stored). let it : Answered = record { tag = e.tag; answer = Extended (length u.types) } in Some it) lets

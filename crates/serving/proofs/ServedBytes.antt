@@ -18,12 +18,12 @@ use Rattle.serving.specs.declared.session.Session.{Session}
 use Rattle.serving.specs.declared.server.Server.{Server}
 use Rattle.serving.specs.Keys.{kept_answered, outcomes_after, said_after}
 use Rattle.serving.specs.Lines.{asks_end, is_end, is_taken, may_wait}
-use Rattle.serving.specs.NextEpoch.{limit_while}
+use Rattle.serving.specs.NextEpoch.{begin_limit, full_with}
 use Rattle.journal.specs.declared.prepared_row.Prepared.{Prepared}
 use Rattle.serving.specs.Prepared.{prepared_answered}
 use Rattle.serving.specs.Requests.{DoesRequest}
 use Rattle.serving.specs.Served.{IsAnswered, IsAskedMore, Serves}
-use Rattle.serving.specs.Server.{AnswersLine, DoesAsked, DoesLine, StaysInEpoch, HasServed, KeepsByte, KeepsKeys, TakesByte, TakesEnd, most_kept}
+use Rattle.serving.specs.Server.{AnswersLine, DoesAsked, DoesLine, HasServed, KeepsByte, KeepsKeys, StaysInEpoch, TakesByte, TakesEnd, begins_until, most_kept}
 use Rattle.durable_store.specs.Durable.{IsDurable}
 use Rattle.serving.proofs.HeldSaid.{held-now}
 use Rattle.serving.proofs.MoreEvents.{follows-none, leaves-then, writes-then}
@@ -34,7 +34,7 @@ use Rattle.serving.proofs.ByteByByte.{AskSame, same-kept, asked-kept, byte-more,
 pub stays-then : {S : Type 0} {g : Ghosts S} {old mid new : Session S} → StaysInEpoch g old mid → StaysInEpoch g mid new → StaysInEpoch g old new
 stays-then {g = g} {old} {mid} {new} first second = record {
   sound = second.sound;
-  life = second.life ∙ first.life;
+  names = second.names ∙ first.names;
   most = second.most ∙ first.most;
   same = second.same ∙ first.same;
   follows = writes-then g old.store mid.store new.store second.clean first.follows second.follows;
@@ -46,7 +46,7 @@ stays-then {g = g} {old} {mid} {new} first second = record {
 pub stays-put : {S : Type 0} {g : Ghosts S} (s : Session S) → IsDurable g s.store → StaysInEpoch g s s
 stays-put {g = g} s sound = record {
   sound = sound;
-  life = refl;
+  names = refl;
   most = refl;
   same = refl;
   follows = λ clean. follows-none (written g s.store.journal);
@@ -72,13 +72,13 @@ byte-kept {S} {g} {began} {told} {bytes} {old} {new} b other keeps served =
 -- the LF of a line that is answered in this epoch
 line-answered : {S : Type 0} {g : Ghosts S} {began : Session S} {told : List Answered} {bytes : List ℕ} {old new : Server S} (b : ℕ) (a : Answered) → b ≡ 10 → old.end ≡ None → new.end ≡ None → new.line.items ≡ []
     → asks_end old.line.items ≡ false → may_wait old.session.waiting old.line.items ≡ false → StaysInEpoch g old.session new.session → new.session.waiting ≡ old.session.waiting
-    → IsAnswered (Clean g new.session.store.journal) (limit_while old.session.waiting old.session.most_events) old.session.life (written g old.session.store.journal) old.line.items old.session.store.store a new.session.store.store
-    → KeepsKeys g old.session.store old.line.items a.answer new.session.store
+    → IsAnswered (Clean g new.session.store.journal) (begins_until old.session) old.session.names (written g old.session.store.journal) old.line.items old.session.store.store a new.session.store.store
+    → KeepsKeys g old.session.names old.session.store old.line.items a.answer new.session.store
     → new.answers.items ≡ old.answers.items ++ a ∷ [] → HasServed g began told bytes old → HasServed g began told (bytes ++ b ∷ []) new
 line-answered {S} {g} {began} {told} {bytes} {old} {new} b a is none ended clear other may stays waits does keeps told_now served =
     let same : asked_by old.line.items ≡ asked_by served.half = ap asked_by served.kept ∙ asked-kept served.half in
     let most = began.most_events in
-    let limit = limit_while old.session.waiting most in
+    let limit = begin_limit old.session.store.strong old.session.waiting (full_with most old.session.names) in
     let file = written g began.store.journal in
     record {
       lines = served.lines ++ served.half ∷ [];
@@ -86,28 +86,28 @@ line-answered {S} {g} {began} {told} {bytes} {old} {new} b a is none ended clear
       asked = line-more b is served.asked;
       kept = clear;
       lasts = lasts-stays served.lasts stays;
-      said = said_after served.said served.half a.answer;
+      said = said_after old.session.names served.said served.half a.answer;
       says = λ now.
           let before = served.says (stays.clean now) in
           let others = (stays.follows now).others in (
             ap (λ (x : Contents). x.objects) others ∙ before.0,
             ap (λ (x : Contents). x.types) others ∙ before.1,
             (keeps now).0 ∙ ap₂ (λ (q : Result Request RequestFault) (outcomes : ℕ → Option KeyedOutcome). outcomes_after (kept_answered q a.answer) outcomes) (ap (λ (x : Asked). x.request) same) before.2,
-            (keeps now).1 ∙ ap₂ (λ (q : Result Request RequestFault) (ps : List Prepared). prepared_answered q a.answer ps) (ap (λ (x : Asked). x.request) same) before.3,
+            (keeps now).1 ∙ ap₂ (λ (q : Result Request RequestFault) (ps : List Prepared). prepared_answered old.session.names q a.answer ps) (ap (λ (x : Asked). x.request) same) before.3,
           );
       serves =
-          let so_far : Serves (Clean g new.session.store.journal) most file began.life served.lines began.store.store (told ++ old.answers.items) old.session.life served.said old.session.store.store None old.session.waiting =
+          let so_far : Serves (Clean g new.session.store.journal) most file began.names served.lines began.store.store (told ++ old.answers.items) old.session.names served.said old.session.store.store None old.session.waiting =
           serves-weaker stays.clean
-          (subst (λ e. Serves (Clean g old.session.store.journal) most file began.life served.lines began.store.store (told ++ old.answers.items) old.session.life served.said old.session.store.store e old.session.waiting) none served.serves) in
-          let answered : IsAnswered (Clean g new.session.store.journal) limit old.session.life served.said served.half old.session.store.store a new.session.store.store =
-          answered-before (λ now. now) limit old.session.life served.said (written g old.session.store.journal) old.line.items served.half old.session.store.store a new.session.store.store
+          (subst (λ e. Serves (Clean g old.session.store.journal) most file began.names served.lines began.store.store (told ++ old.answers.items) old.session.names served.said old.session.store.store e old.session.waiting) none served.serves) in
+          let answered : IsAnswered (Clean g new.session.store.journal) limit old.session.names served.said served.half old.session.store.store a new.session.store.store =
+          answered-before (λ now. now) limit old.session.names served.said (written g old.session.store.journal) old.line.items served.half old.session.store.store a new.session.store.store
           (λ now. served.says (stays.clean now)) (subst (λ line. AskSame line served.half) (sym served.kept) (same-kept served.half))
-          (subst (λ n. IsAnswered (Clean g new.session.store.journal) (limit_while old.session.waiting n) old.session.life (written g old.session.store.journal) old.line.items old.session.store.store a new.session.store.store) served.lasts.most does) in
+          (subst (λ n. IsAnswered (Clean g new.session.store.journal) (begin_limit old.session.store.strong old.session.waiting (full_with n old.session.names)) old.session.names (written g old.session.store.journal) old.line.items old.session.store.store a new.session.store.store) served.lasts.most does) in
           let ends : asks_end served.half ≡ false = ap (λ (x : Asked). is_end x.request) (sym same) ∙ other in
           let taken : may_wait old.session.waiting served.half ≡ false = ap (λ (x : Asked). is_taken old.session.waiting x.request) (sym same) ∙ may in
           let all : told ++ new.answers.items ≡ (told ++ old.answers.items) ++ a ∷ [] = ap (λ xs. told ++ xs) told_now ∙ sym (append_assoc told old.answers.items (a ∷ [])) in
-          rw (ended, all, stays.life, waits)
-          (Serves.line served.lines served.half began.store.store old.session.store.store new.session.store.store (told ++ old.answers.items) a old.session.life served.said old.session.waiting so_far ends taken answered);
+          rw (ended, all, stays.names, waits)
+          (Serves.line served.lines served.half began.store.store old.session.store.store new.session.store.store (told ++ old.answers.items) a old.session.names served.said old.session.waiting old.session.store.strong so_far ends taken served.lasts.sound.strong answered);
     }
 
 -- only where nothing waits may a line wait
@@ -143,13 +143,13 @@ line-waits {S} {g} {began} {told} {bytes} {old} {new} b a is none clear may more
       says = served.says;
       serves =
           let free : old.session.waiting ≡ None = taken-none old.session.waiting old.line.items may in
-          let so_far : Serves (Clean g old.session.store.journal) most file began.life served.lines began.store.store (told ++ old.answers.items) old.session.life served.said old.session.store.store None None =
-          subst (λ w. Serves (Clean g old.session.store.journal) most file began.life served.lines began.store.store (told ++ old.answers.items) old.session.life served.said old.session.store.store None w) free
-          (subst (λ e. Serves (Clean g old.session.store.journal) most file began.life served.lines began.store.store (told ++ old.answers.items) old.session.life served.said old.session.store.store e old.session.waiting) none served.serves) in
+          let so_far : Serves (Clean g old.session.store.journal) most file began.names served.lines began.store.store (told ++ old.answers.items) old.session.names served.said old.session.store.store None None =
+          subst (λ w. Serves (Clean g old.session.store.journal) most file began.names served.lines began.store.store (told ++ old.answers.items) old.session.names served.said old.session.store.store None w) free
+          (subst (λ e. Serves (Clean g old.session.store.journal) most file began.names served.lines began.store.store (told ++ old.answers.items) old.session.names served.said old.session.store.store e old.session.waiting) none served.serves) in
           let taken : may_wait None served.half ≡ true = ap (λ (x : Asked). is_taken None x.request) (sym same) ∙ subst (λ w. may_wait w old.line.items ≡ true) free may in
           let asked : IsAskedMore served.half a new.session.waiting = record { tag = more.tag ∙ ap (λ (x : Asked). x.tag) same; told = more.told } in
           let all : told ++ new.answers.items ≡ (told ++ old.answers.items) ++ a ∷ [] = ap (λ xs. told ++ xs) told_now ∙ sym (append_assoc told old.answers.items (a ∷ [])) in
-          rw (none, all) (Serves.more served.lines served.half began.store.store old.session.store.store (told ++ old.answers.items) a old.session.life served.said new.session.waiting so_far taken asked);
+          rw (none, all) (Serves.more served.lines served.half began.store.store old.session.store.store (told ++ old.answers.items) a old.session.names served.said new.session.waiting so_far taken asked);
     })
 
 -- the LF of a line that is answered
@@ -158,7 +158,7 @@ line-told : {S : Type 0} {g : Ghosts S} {began : Session S} {told : List Answere
 line-told {S} {g} {began} {told} {bytes} {old} {new} b is none clear other answers served =
     elim (may_wait old.session.waiting old.line.items) as (λ v. may_wait old.session.waiting old.line.items ≡ v
     → MatchBool v (IsAskedMore old.line.items answers.a new.session.waiting × (new.session ≡ record old.session { waiting = new.session.waiting }))
-    (StaysInEpoch g old.session new.session × (new.session.waiting ≡ old.session.waiting) × IsAnswered (Clean g new.session.store.journal) (limit_while old.session.waiting old.session.most_events) old.session.life (written g old.session.store.journal) old.line.items old.session.store.store answers.a new.session.store.store × KeepsKeys g old.session.store old.line.items answers.a.answer new.session.store)
+    (StaysInEpoch g old.session new.session × (new.session.waiting ≡ old.session.waiting) × IsAnswered (Clean g new.session.store.journal) (begins_until old.session) old.session.names (written g old.session.store.journal) old.line.items old.session.store.store answers.a new.session.store.store × KeepsKeys g old.session.names old.session.store old.line.items answers.a.answer new.session.store)
     → HasServed g began told (bytes ++ b ∷ []) new) [
       | true ↦ λ may does. line-waits b answers.a is none clear may does.0 does.1 answers.others answers.told served
       | false ↦ λ may does. line-answered b answers.a is none (ap (λ (s : Server S). s.end) answers.others ∙ none) clear other may does.0 does.1 does.2 does.3 answers.told served
@@ -180,9 +180,9 @@ end-taken {S} {g} {began} {told} {bytes} {old} {new} b is none clear ends does s
       said = served.said;
       says = served.says;
       serves =
-          let so_far : Serves (Clean g old.session.store.journal) most file began.life served.lines began.store.store (told ++ old.answers.items) old.session.life served.said old.session.store.store None old.session.waiting =
-          subst (λ ended. Serves (Clean g old.session.store.journal) most file began.life served.lines began.store.store (told ++ old.answers.items) old.session.life served.said old.session.store.store ended old.session.waiting) none served.serves in
-          rw same (Serves.end served.lines served.half began.store.store old.session.store.store (told ++ old.answers.items) old.session.life served.said old.session.waiting so_far (ap (λ (x : Asked). is_end x.request) (sym same) ∙ ends));
+          let so_far : Serves (Clean g old.session.store.journal) most file began.names served.lines began.store.store (told ++ old.answers.items) old.session.names served.said old.session.store.store None old.session.waiting =
+          subst (λ ended. Serves (Clean g old.session.store.journal) most file began.names served.lines began.store.store (told ++ old.answers.items) old.session.names served.said old.session.store.store ended old.session.waiting) none served.serves in
+          rw same (Serves.end served.lines served.half began.store.store old.session.store.store (told ++ old.answers.items) old.session.names served.said old.session.waiting so_far (ap (λ (x : Asked). is_end x.request) (sym same) ∙ ends));
     })
 
 -- the LF of a line
@@ -207,7 +207,7 @@ byte-served {S} {g} {began} {told} {bytes} {old} {new} b none takes served =
 stays-waiting : {S : Type 0} {g : Ghosts S} (s : Session S) (waits : Option Extension) → IsDurable g s.store → StaysInEpoch g s (record s { waiting = waits })
 stays-waiting {g = g} s waits sound = record {
   sound = sound;
-  life = refl;
+  names = refl;
   most = refl;
   same = refl;
   follows = λ clean. follows-none (written g s.store.journal);
@@ -218,7 +218,7 @@ stays-waiting {g = g} s waits sound = record {
 asked-stays : {S : Type 0} {g : Ghosts S} (old : Session S) (line : List ℕ) (a : Answered) (new : Session S) → IsDurable g old.store → DoesAsked g old line a new → StaysInEpoch g old new
 asked-stays {S} {g} old line a new sound does =
     elim (may_wait old.waiting line) as (λ v. MatchBool v (IsAskedMore line a new.waiting × (new ≡ record old { waiting = new.waiting }))
-    (StaysInEpoch g old new × (new.waiting ≡ old.waiting) × IsAnswered (Clean g new.store.journal) (limit_while old.waiting old.most_events) old.life (written g old.store.journal) line old.store.store a new.store.store × KeepsKeys g old.store line a.answer new.store)
+    (StaysInEpoch g old new × (new.waiting ≡ old.waiting) × IsAnswered (Clean g new.store.journal) (begins_until old) old.names (written g old.store.journal) line old.store.store a new.store.store × KeepsKeys g old.names old.store line a.answer new.store)
     → StaysInEpoch g old new) [
       | true ↦ λ it. subst (λ (s : Session S). StaysInEpoch g old s) (sym it.1) (stays-waiting old new.waiting sound)
       | false ↦ λ it. it.0
@@ -228,28 +228,28 @@ asked-stays {S} {g} old line a new sound does =
 pub asked-answered : {S : Type 0} (g : Ghosts S) (old : Session S) (line : List ℕ) (asked : Asked) (a : Answered) (new : Session S) → IsDurable g old.store → asked ≡ asked_by line → is_taken old.waiting asked.request ≡ false
     → StaysInEpoch g old new → new.waiting ≡ old.waiting → a.tag ≡ asked.tag
     → (Clean g new.store.journal → (written g new.store.journal).outcomes ≡ outcomes_after (kept_answered asked.request a.answer) (written g old.store.journal).outcomes)
-    → (Clean g new.store.journal → (written g new.store.journal).prepared ≡ prepared_answered asked.request a.answer (written g old.store.journal).prepared)
-    → MatchResult asked.request (λ r. DoesRequest (Clean g new.store.journal) (limit_while old.waiting old.most_events) old.life (written g old.store.journal) old.store.prepared.items line old.store.store r a.answer new.store.store)
+    → (Clean g new.store.journal → (written g new.store.journal).prepared ≡ prepared_answered old.names asked.request a.answer (written g old.store.journal).prepared)
+    → MatchResult asked.request (λ r. DoesRequest (Clean g new.store.journal) (begins_until old) old.names (written g old.store.journal) old.store.prepared.items line old.store.store r a.answer new.store.store)
     (λ fault. (a.answer ≡ Fault fault) × (new.store.store ≡ old.store.store)) → DoesAsked g old line a new
 asked-answered {S} g old line asked a new sound is other stays waits tag keys rows does =
-    let answered : IsAnswered (Clean g new.store.journal) (limit_while old.waiting old.most_events) old.life (written g old.store.journal) line old.store.store a new.store.store = record {
+    let answered : IsAnswered (Clean g new.store.journal) (begins_until old) old.names (written g old.store.journal) line old.store.store a new.store.store = record {
       tag = tag ∙ ap (λ (x : Asked). x.tag) is;
       prepared = old.store.prepared.items;
       are = λ now. held-now g old.store sound (stays.clean now);
       request =
-          subst (λ (x : Asked). MatchResult x.request (λ r. DoesRequest (Clean g new.store.journal) (limit_while old.waiting old.most_events) old.life (written g old.store.journal) old.store.prepared.items line old.store.store r a.answer new.store.store)
+          subst (λ (x : Asked). MatchResult x.request (λ r. DoesRequest (Clean g new.store.journal) (begins_until old) old.names (written g old.store.journal) old.store.prepared.items line old.store.store r a.answer new.store.store)
           (λ fault. (a.answer ≡ Fault fault) × (new.store.store ≡ old.store.store))) is does;
     } in
     let test : false ≡ may_wait old.waiting line = sym other ∙ ap (λ (x : Asked). is_taken old.waiting x.request) is in
     subst (λ v. MatchBool v (IsAskedMore line a new.waiting × (new ≡ record old { waiting = new.waiting }))
-    (StaysInEpoch g old new × (new.waiting ≡ old.waiting) × IsAnswered (Clean g new.store.journal) (limit_while old.waiting old.most_events) old.life (written g old.store.journal) line old.store.store a new.store.store × KeepsKeys g old.store line a.answer new.store))
+    (StaysInEpoch g old new × (new.waiting ≡ old.waiting) × IsAnswered (Clean g new.store.journal) (begins_until old) old.names (written g old.store.journal) line old.store.store a new.store.store × KeepsKeys g old.names old.store line a.answer new.store))
     test (
       stays,
       waits,
       answered,
       λ now. (
         keys now ∙ ap (λ (x : Asked). outcomes_after (kept_answered x.request a.answer) (written g old.store.journal).outcomes) is,
-        rows now ∙ ap (λ (x : Asked). prepared_answered x.request a.answer (written g old.store.journal).prepared) is,
+        rows now ∙ ap (λ (x : Asked). prepared_answered old.names x.request a.answer (written g old.store.journal).prepared) is,
       ),
     )
 

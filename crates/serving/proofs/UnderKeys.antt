@@ -1,5 +1,5 @@
 -- What a file knows of keys, and of who was prepared, after a request under a key.
-use Rattle.std.proofs.Common.{◌≡◌, ◌∙◌, inl, inr, ℕ, Bool, true, false, if◌then◌else◌, List, [], Option, Some, None, refl, sym, ap}
+use Rattle.std.proofs.Common.{◌≡◌, ◌∙◌, inl, inr, ℕ, Bool, List, [], ◌++◌, Option, Some, None, refl, sym, ap}
 use Rattle.object_trait.specs.declared.event.Event.{Event}
 use Rattle.transaction_key.specs.TransactionKey.{key_place}
 use Rattle.store_laws.specs.Stored.{Stored}
@@ -33,9 +33,9 @@ use Rattle.durable_store.specs.declared.keyed.Unfinished.TheVariants as unfinish
 use Rattle.request_text.specs.declared.request.Decision.{Decision as Asked}
 use Rattle.request_text.specs.declared.request.Request.TheVariants as request
 use Rattle.request_text.specs.declared.request.TransactionName.{TransactionName}
-use Rattle.serving.specs.declared.answer_line.AnswerLine.TheVariants as answer
-use Rattle.serving.specs.Keys.{commit_under_answer, do_under_answer, draining_under, foreign_under, kept_by, outcomes_after, outcomes_where_free}
-use Rattle.serving.specs.Prepared.{decision_of, foreign, foreign_answer, foreign_vote_by, is_given, prepared_after, prepared_as, verdict_answer, vote_answer}
+use Rattle.serving.specs.Keys.{commit_under_answer, do_under_answer, draining_under, kept_by, outcomes_after, outcomes_where_free, unknown_under}
+use Rattle.serving.specs.Names.{KnownNames, number_named}
+use Rattle.serving.specs.Prepared.{decision_of, prepared_after, prepared_as, rows_as, verdict_answer, vote_answer}
 use Rattle.serving.specs.Several.{ended_answer}
 
 -- what is kept at a known key's place isn't changed
@@ -55,18 +55,14 @@ commit-keeps c es prepared old n t key (keyed.Known Aborted) new knows did = ref
 commit-keeps c es prepared old n t key keyed.Prepared new knows did = refl
 commit-keeps c es prepared old n t key keyed.Taken new knows did = refl
 
--- of another life
-foreign-kept : (c : Contents) (t : TransactionName) (key : List ℕ) (found : Option Prepared) → c.outcomes ≡ outcomes_after (kept_by (request.CommitUnder t key) (foreign_answer found)) c.outcomes
-foreign-kept c t key None = refl
-foreign-kept c t key (Some p) = refl
-
-pub foreign-keeps : (c : Contents) (ps : List Prepared) (t : TransactionName) (key : List ℕ) (known : KeyState) → IsInState c key known
-    → c.outcomes ≡ outcomes_after (kept_by (request.CommitUnder t key) (foreign_under (foreign ps t) known)) c.outcomes
-foreign-keeps c ps t key state.Free knows = foreign-kept c t key (first_passing (is_given t) ps)
-foreign-keeps c ps t key (state.Known (Committed replies)) knows = sym (known-kept c key (Committed []) (Committed replies) (c.outcomes (key_place key)) knows)
-foreign-keeps c ps t key (state.Known Aborted) knows = refl
-foreign-keeps c ps t key state.Prepared knows = refl
-foreign-keeps c ps t key state.Taken knows = refl
+-- of a name that nobody has
+pub unknown-keeps : (c : Contents) (t : TransactionName) (key : List ℕ) (known : KeyState) → IsInState c key known
+    → c.outcomes ≡ outcomes_after (kept_by (request.CommitUnder t key) (unknown_under known)) c.outcomes
+unknown-keeps c t key state.Free knows = refl
+unknown-keeps c t key (state.Known (Committed replies)) knows = sym (known-kept c key (Committed []) (Committed replies) (c.outcomes (key_place key)) knows)
+unknown-keeps c t key (state.Known Aborted) knows = refl
+unknown-keeps c t key state.Prepared knows = refl
+unknown-keeps c t key state.Taken knows = refl
 
 -- a whole transaction
 done-with : (s : Stored) (calls : List CallAt) (came : Attempt) (kept : Outcome) → IsDoneWith s calls came kept → (replies : List ℕ) × (kept ≡ Committed replies)
@@ -74,27 +70,27 @@ done-with s calls (attempt.Done ks) kept is = (reply_text s calls ks.items, is)
 done-with s calls (attempt.Ended at how) kept is = absurd is
 done-with s calls (attempt.NotBegun refusal) kept is = absurd is
 
-ended-keeps : (c : Contents) (key : List ℕ) (life : ℕ) (ps : List Prepared) (at : ℕ) (how : Ending) → c.outcomes ≡ outcomes_after (kept_by (request.DoUnder key) (ended_answer life ps at how)) c.outcomes
-ended-keeps c key life ps at (ending.Busy u) = refl
-ended-keeps c key life ps at ending.None = refl
-ended-keeps c key life ps at (ending.Refused refusal) = refl
+ended-keeps : (c : Contents) (key : List ℕ) (names : KnownNames) (at : ℕ) (how : Ending) → c.outcomes ≡ outcomes_after (kept_by (request.DoUnder key) (ended_answer names at how)) c.outcomes
+ended-keeps c key names at (ending.Busy u) = refl
+ended-keeps c key names at ending.None = refl
+ended-keeps c key names at (ending.Refused refusal) = refl
 
-kept-replies : (c : Contents) (es : List Event) (key : List ℕ) (life : ℕ) (ps : List Prepared) (kept : Outcome) (replies : List ℕ) → kept ≡ Committed replies → c.outcomes (key_place key) ≡ None
-    → (with_key key (Some kept) (with_all c es)).outcomes ≡ outcomes_after (kept_by (request.DoUnder key) (do_under_answer life ps (keyed.Done kept))) c.outcomes
-kept-replies c es key life ps (Committed told) replies is free = sym (ap (λ there. outcomes_where_free there (record { key = key; outcome = Committed told }) c.outcomes) free)
-kept-replies c es key life ps Aborted replies is free = absurd (cc)
+kept-replies : (c : Contents) (es : List Event) (key : List ℕ) (names : KnownNames) (kept : Outcome) (replies : List ℕ) → kept ≡ Committed replies → c.outcomes (key_place key) ≡ None
+    → (with_key key (Some kept) (with_all c es)).outcomes ≡ outcomes_after (kept_by (request.DoUnder key) (do_under_answer names (keyed.Done kept))) c.outcomes
+kept-replies c es key names (Committed told) replies is free = sym (ap (λ there. outcomes_where_free there (record { key = key; outcome = Committed told }) c.outcomes) free)
+kept-replies c es key names Aborted replies is free = absurd (cc)
 
-pub do-keeps : (c : Contents) (es : List Event) (old : Stored) (calls : List CallAt) (life : ℕ) (ps : List Prepared) (key : List ℕ) (came : Keyed Unfinished) (new : Stored) → KnowsKey c key came → AttemptsUnder old calls came new
-    → (with_key key (kept_under came) (with_all c es)).outcomes ≡ outcomes_after (kept_by (request.DoUnder key) (do_under_answer life ps came)) c.outcomes
-do-keeps c es old calls life ps key (keyed.Done kept) new free did =
+pub do-keeps : (c : Contents) (es : List Event) (old : Stored) (calls : List CallAt) (names : KnownNames) (key : List ℕ) (came : Keyed Unfinished) (new : Stored) → KnowsKey c key came → AttemptsUnder old calls came new
+    → (with_key key (kept_under came) (with_all c es)).outcomes ≡ outcomes_after (kept_by (request.DoUnder key) (do_under_answer names came)) c.outcomes
+do-keeps c es old calls names key (keyed.Done kept) new free did =
     let it = done-with new calls did.0 kept did.2 in
-    kept-replies c es key life ps kept it.0 it.1 free.0
-do-keeps c es old calls life ps key (keyed.Undone (unfinished.Ended at how)) new free did = ended-keeps c key life ps at how
-do-keeps c es old calls life ps key (keyed.Undone (unfinished.NotBegun refusal)) new free did = refl
-do-keeps c es old calls life ps key (keyed.Known (Committed replies)) new knows did = sym (known-kept c key (Committed replies) (Committed replies) (c.outcomes (key_place key)) knows)
-do-keeps c es old calls life ps key (keyed.Known Aborted) new knows did = refl
-do-keeps c es old calls life ps key keyed.Prepared new knows did = refl
-do-keeps c es old calls life ps key keyed.Taken new knows did = refl
+    kept-replies c es key names kept it.0 it.1 free.0
+do-keeps c es old calls names key (keyed.Undone (unfinished.Ended at how)) new free did = ended-keeps c key names at how
+do-keeps c es old calls names key (keyed.Undone (unfinished.NotBegun refusal)) new free did = refl
+do-keeps c es old calls names key (keyed.Known (Committed replies)) new knows did = sym (known-kept c key (Committed replies) (Committed replies) (c.outcomes (key_place key)) knows)
+do-keeps c es old calls names key (keyed.Known Aborted) new knows did = refl
+do-keeps c es old calls names key keyed.Prepared new knows did = refl
+do-keeps c es old calls names key keyed.Taken new knows did = refl
 
 -- where no transaction begins
 pub draining-keeps : (c : Contents) (key : List ℕ) (known : KeyState) → IsInState c key known → c.outcomes ≡ outcomes_after (kept_by (request.DoUnder key) (draining_under known)) c.outcomes
@@ -151,19 +147,13 @@ vote-keeps s c now p (vote.Known known) votes = ap (λ (x : Contents). x.outcome
 vote-keeps s c now p vote.Taken votes = ap (λ (x : Contents). x.outcomes) votes.2
 
 -- and adds its row where it says so
-pub vote-rows : (s : Stored) (c now : Contents) (t : TransactionName) (key : List ℕ) (until : ℕ) (came : Vote) → Votes s c (prepared_as t key until) came now
-    → now.prepared ≡ prepared_after (request.Prepare t key until) (vote_answer came) c.prepared
-vote-rows s c now t key until vote.Prepared votes = ap (λ (x : Contents). x.prepared) votes.3
-vote-rows s c now t key until vote.Again votes = ap (λ (x : Contents). x.prepared) votes.1
-vote-rows s c now t key until vote.NotOpen votes = ap (λ (x : Contents). x.prepared) votes.1
-vote-rows s c now t key until vote.Otherwise votes = ap (λ (x : Contents). x.prepared) votes.1
-vote-rows s c now t key until vote.KeyInUse votes = ap (λ (x : Contents). x.prepared) votes.2
-vote-rows s c now t key until (vote.Known (Committed replies)) votes = ap (λ (x : Contents). x.prepared) votes.2
-vote-rows s c now t key until (vote.Known Aborted) votes = ap (λ (x : Contents). x.prepared) votes.2
-vote-rows s c now t key until vote.Taken votes = ap (λ (x : Contents). x.prepared) votes.2
-
--- of another life
-pub foreign-rows : (t : TransactionName) (key : List ℕ) (until : ℕ) (found : Option Prepared) (rows : List Prepared) → prepared_after (request.Prepare t key until) (foreign_vote_by key found) rows ≡ rows
-foreign-rows t key until None rows = refl
-foreign-rows t key until (Some p) rows =
-    elim (has_key key p) as (λ b. prepared_after (request.Prepare t key until) (if b then answer.VotedBefore else answer.IsPrepared) rows ≡ rows) [ true ↦ refl | false ↦ refl ]
+pub vote-rows : (s : Stored) (c now : Contents) (names : KnownNames) (t : TransactionName) (n : ℕ) (key : List ℕ) (until : ℕ) (came : Vote) → number_named names t ≡ Some n → Votes s c (prepared_as t n key until) came now
+    → now.prepared ≡ prepared_after names (request.Prepare t key until) (vote_answer came) c.prepared
+vote-rows s c now names t n key until vote.Prepared known votes = ap (λ (x : Contents). x.prepared) votes.3 ∙ ap (λ (found : Option ℕ). c.prepared ++ rows_as found t key until) (sym known)
+vote-rows s c now names t n key until vote.Again known votes = ap (λ (x : Contents). x.prepared) votes.1
+vote-rows s c now names t n key until vote.NotOpen known votes = ap (λ (x : Contents). x.prepared) votes.1
+vote-rows s c now names t n key until vote.Otherwise known votes = ap (λ (x : Contents). x.prepared) votes.1
+vote-rows s c now names t n key until vote.KeyInUse known votes = ap (λ (x : Contents). x.prepared) votes.2
+vote-rows s c now names t n key until (vote.Known (Committed replies)) known votes = ap (λ (x : Contents). x.prepared) votes.2
+vote-rows s c now names t n key until (vote.Known Aborted) known votes = ap (λ (x : Contents). x.prepared) votes.2
+vote-rows s c now names t n key until vote.Taken known votes = ap (λ (x : Contents). x.prepared) votes.2

@@ -17,6 +17,7 @@ use Rattle.request_text.specs.declared.fault.RequestFault.{RequestFault}
 use Rattle.request_text.specs.declared.fault.RequestFault.TheVariants.{TooLong, NotAscii, BadTag, UnknownVerb, BadWords, BadNumber}
 use Rattle.request_text.specs.declared.request.TransactionName.{TransactionName}
 use Rattle.serving.specs.declared.answer_line.AnswerLine.{AnswerLine}
+use Rattle.serving.specs.declared.answer_line.HeldTransaction.{HeldTransaction}
 use Rattle.serving.specs.declared.answer_line.KeyRefusal.{KeyRefusal}
 use Rattle.serving.specs.declared.answer_line.KeyRefusal.TheVariants as key
 use Rattle.serving.specs.declared.answer_line.Moment.{Moment}
@@ -137,9 +138,13 @@ abbrev pub answer_lines : List ℕ → List ℕ → List ℕ
 answer_lines tag text = flat_map (behind tag) (slice_split (λ b. b == 10) text)
 
 -- a transaction that is prepared: its key, its name, and until when its client waits
-abbrev pub held_text : List ℕ → Prepared → List ℕ
-held_text tag p = pieces_text
-    (tag ∷ codes " " ∷ p.key ∷ codes " " ∷ decimal p.given.life ∷ codes "." ∷ decimal p.given.number ∷ codes " " ∷ decimal p.until ∷ (10 ∷ []) ∷ [])
+abbrev pub prepared_words : List ℕ → Prepared → List ℕ
+prepared_words tag p =
+    pieces_text (tag ∷ codes " " ∷ p.key ∷ codes " " ∷ decimal p.given.life ∷ codes "." ∷ decimal p.given.number ∷ codes " " ∷ decimal p.until ∷ [])
+
+-- and the objects at which it holds operations
+abbrev pub held_text : List ℕ → HeldTransaction → List ℕ
+held_text tag held = prepared_words tag held.prepared ++ (flat_map number_after_space held.objects.items ++ (10 ∷ []))
 
 -- ---- an answer
 

@@ -18,6 +18,7 @@ use Rattle.serving.specs.declared.answer_line.Answered.{Answered}
 use Rattle.serving.specs.declared.extension.Extension.{Extension}
 use Rattle.serving.specs.Archives.{life_in}
 use Rattle.serving.specs.Left.{Began, IsFileAfter}
+use Rattle.serving.specs.Names.{KnownNames}
 use Rattle.serving.specs.NextEpoch.{IsNextStore}
 use Rattle.journal.specs.declared.prepared_row.Prepared.{Prepared}
 use Rattle.serving.specs.Places.{TellsSuch}
@@ -45,14 +46,14 @@ pub record HasMoment (b : Began) (last : List (List ℕ) → Type 0) (c : Conten
   pub file : IsFileAfter b last lines done c
   pub tells : TellsSuch lines done (IsIt line a)
   pub most : ℕ
-  pub born : ℕ
+  pub names : KnownNames
   pub said : Contents
   pub old : Stored
   pub new : Stored
-  pub answered : IsAnswered (Unit {0}) most born said line old a new
-  pub goes_on : GoesFurther born new file.life file.reached
-  pub since : born ≤ life_in c.headers
-  pub happened : born ≡ life_in c.headers → (more : List EventKind) × (c.events ≡ kinds new.history ++ more)
+  pub answered : IsAnswered (Unit {0}) most names said line old a new
+  pub goes_on : GoesFurther names.life new file.names.life file.reached
+  pub since : names.life ≤ life_in c.headers
+  pub happened : names.life ≡ life_in c.headers → (more : List EventKind) × (c.events ≡ kinds new.history ++ more)
 
 -- whatever a crash leaves goes on from each of them
 abbrev pub AnswersAreFound : {S : Type 0} (g : Ghosts S) → Began → (List (List ℕ) → Type 0) → List (List ℕ) → List Answered → Durable S → Type 0
@@ -73,7 +74,7 @@ AnswersDone line a = ((asked_by line).request ≡ Ok request.Do) × (is_complete
 -- a file goes on from the moment at which it was: the line's calls were made and so replied to, and its commit is one of the events by then
 pub record HasTransaction (b : Began) (last : List (List ℕ) → Type 0) (c : Contents) (line : List ℕ) (a : Answered) : Type 0 where
   pub found : HasMoment b last c line a
-  pub did : Attempts (Unit {0}) found.born found.answered.prepared found.said.objects found.old (calls_asked line) a.answer found.new
+  pub did : Attempts (Unit {0}) found.names found.said.objects found.old (calls_asked line) a.answer found.new
   pub committed : Contains (kinds found.new.history) (Commit (begins found.old.history))
 
 -- whatever a crash leaves has each whole transaction that was answered as done

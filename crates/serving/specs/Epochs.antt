@@ -1,7 +1,8 @@
 -- Epoch after epoch.
-use Rattle.std.specs.Prelude.{◌⊎◌, List, [], ◌∷◌, ◌++◌, Option}
+use Rattle.std.specs.Prelude.{◌⊎◌, Bool, true, false, List, [], ◌∷◌, ◌++◌, Option}
 use Rattle.sqlite_trees.specs.declared.store.Store.{Ghosts}
 use Rattle.sqlite_trees.specs.Tree.{Trees}
+use Rattle.object_trait.specs.declared.event.Event.{Event}
 use Rattle.store_laws.specs.Stored.{Stored}
 use Rattle.store.specs.Ends.{closing_but}
 use Rattle.durable_store.specs.Durable.{prepared_in}
@@ -16,9 +17,14 @@ use Rattle.serving.specs.declared.extension.Extension.{Extension}
 use Rattle.serving.specs.Follows.{HasMore}
 use Rattle.serving.specs.NextEpoch.{IsNextFile}
 
--- with an abort of each transaction that was open, but of these, which are prepared
-abbrev pub aborted : List Prepared → Stored → Stored
-aborted ps s = record s { history = s.history ++ closing_but (prepared_numbers ps) s.history }
+-- what happens as an epoch ends: nothing where all that is open goes over, and else an abort of each transaction that is open, but of these, which are prepared
+abbrev pub closings : Bool → List Prepared → Stored → List Event
+closings true ps s = []
+closings false ps s = closing_but (prepared_numbers ps) s.history
+
+-- a store after that
+abbrev pub closed_by : Bool → List Prepared → Stored → Stored
+closed_by goes ps s = record s { history = s.history ++ closings goes ps s }
 
 -- what a file comes to: events follow, or it begins anew at the committed states of the store of what it says, and maybe with more objects; and
 -- what it said at the end of each epoch that is over, in their order

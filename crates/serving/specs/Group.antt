@@ -13,7 +13,8 @@ use Rattle.serving.specs.declared.session.Session.{Session}
 use Rattle.serving.specs.declared.server.Server.{Server}
 use Rattle.serving.specs.Lines.{AreLines}
 use Rattle.serving.specs.Served.{Serves}
-use Rattle.serving.specs.Server.{HasServed, life_of}
+use Rattle.serving.specs.Names.{KnownNames}
+use Rattle.serving.specs.Server.{HasServed, first_names}
 use Rattle.serving.specs.Told.{AppendsPart, answers_text}
 
 -- since it began a server has taken these bytes of its input, done the lines of them up to one that asks for the end, and written
@@ -51,12 +52,12 @@ pub record StopsTelling {S : Type 0} (g : Ghosts S) (began : Session S) (given t
   pub lines : List (List ℕ)
   pub read : AreFirstLines given lines
   pub answers : List Answered
-  pub life : ℕ
+  pub names : KnownNames
   pub reached : Stored
   pub said : Contents
   pub ended : Option Asked
   pub waits : Option Extension
-  pub serves : Serves (Clean g now.journal) began.most_events (written g began.store.journal) began.life lines began.store.store answers life said reached ended waits
+  pub serves : Serves (Clean g now.journal) began.most_events (written g began.store.journal) began.names lines began.store.store answers names said reached ended waits
   pub part : AppendsPart taken taken_now (answers_text answers)
 
 -- a server that was asked nothing yet
@@ -65,4 +66,4 @@ pub record IsUnasked {S : Type 0} (s : Server S) : Type 0 where
   pub answers : s.answers.items ≡ []
   pub end : s.end ≡ None
   pub none_waits : s.session.waiting ≡ None
-  pub named : s.session.life ≡ life_of s.session.store
+  pub named : s.session.names ≡ first_names s.session.store

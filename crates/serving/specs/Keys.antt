@@ -1,11 +1,13 @@
 -- What requests under keys do, and what a file knows of the keys then.
-use Rattle.std.specs.Prelude.{◌≡◌, ℕ, List, [], MatchBool, Option, Some, None, Result, Ok, Err, ◌==◌}
+use Rattle.std.specs.Prelude.{◌≡◌, ℕ, List, [], MatchBool, MatchOption, Option, Some, None, Result, Ok, Err}
+use Rattle.serial_order.specs.declared.refusal.Refusal.TheVariants.{NotOpen}
 use Rattle.journal.specs.declared.prepared_row.Prepared.{Prepared}
 use Rattle.serial_order.specs.Operations.{is_among}
 use Rattle.durable_store.specs.Held.{prepared_numbers}
 use Rattle.durable_store.specs.Votes.{decided_outcome}
 use Rattle.durable_store.specs.declared.denial.Denial.{Denial}
-use Rattle.serving.specs.Prepared.{decision_of, foreign, now_says, prepared_answered}
+use Rattle.serving.specs.Names.{KnownNames, number_named}
+use Rattle.serving.specs.Prepared.{decision_of, now_says, prepared_answered}
 use Rattle.store_laws.specs.Stored.{Stored}
 use Rattle.attempts.specs.Commands.{CallAt}
 use Rattle.transaction_key.specs.TransactionKey.{key_place}
@@ -49,19 +51,19 @@ commit_under_answer (keyed.Known known) = committed_before known
 commit_under_answer keyed.Prepared = KeyRefused why.Prepared
 commit_under_answer keyed.Taken = KeyRefused Taken
 
--- of a transaction of another life, which is answered this where the key is free
-abbrev pub foreign_under : AnswerLine → KeyState → AnswerLine
-foreign_under answer state.Free = answer
-foreign_under answer (state.Known known) = committed_before known
-foreign_under answer state.Prepared = KeyRefused why.Prepared
-foreign_under answer state.Taken = KeyRefused Taken
+-- of a name that nobody has
+abbrev pub unknown_under : KeyState → AnswerLine
+unknown_under state.Free = Refused NotOpen
+unknown_under (state.Known known) = committed_before known
+unknown_under state.Prepared = KeyRefused why.Prepared
+unknown_under state.Taken = KeyRefused Taken
 
--- a commit of a transaction under a key, of which the file knows this, if clean
-abbrev pub DoesCommitUnder : Type 0 → ℕ → Contents → List Prepared → Stored → TransactionName → List ℕ → AnswerLine → Stored → Type 0
-DoesCommitUnder clean life c ps old t key answer new =
-    MatchBool (t.life == life)
-    ((came : Keyed Denial) × (clean → KnowsKey (now_says c old) key came) × CommitsUnder (is_among (prepared_numbers ps) t.number) old t.number came new × (answer ≡ commit_under_answer came))
-    ((known : KeyState) × (clean → IsInState (now_says c old) key known) × (answer ≡ foreign_under (foreign ps t) known) × (new ≡ old))
+-- a commit of a transaction under a key, of which the file knows this, if clean; of a name that nobody has it tells what is known of the key
+abbrev pub DoesCommitUnder : Type 0 → KnownNames → Contents → List Prepared → Stored → TransactionName → List ℕ → AnswerLine → Stored → Type 0
+DoesCommitUnder clean names c ps old t key answer new =
+    MatchOption (number_named names t)
+    ((known : KeyState) × (clean → IsInState (now_says c old) key known) × (answer ≡ unknown_under known) × (new ≡ old))
+    (λ n. (came : Keyed Denial) × (clean → KnowsKey (now_says c old) key came) × CommitsUnder (is_among (prepared_numbers ps) n) old n came new × (answer ≡ commit_under_answer came))
 
 -- ---- a whole transaction
 
@@ -71,13 +73,13 @@ done_before (outcome.Committed replies) = Replied replies
 done_before outcome.Aborted = KeyRefused Aborted
 
 -- what came of it under a key
-abbrev pub do_under_answer : ℕ → List Prepared → Keyed Unfinished → AnswerLine
-do_under_answer life ps (keyed.Done kept) = done_before kept
-do_under_answer life ps (keyed.Undone (unfinished.Ended at how)) = ended_answer life ps at how
-do_under_answer life ps (keyed.Undone (unfinished.NotBegun refusal)) = Refused refusal
-do_under_answer life ps (keyed.Known known) = done_before known
-do_under_answer life ps keyed.Prepared = KeyRefused why.Prepared
-do_under_answer life ps keyed.Taken = KeyRefused Taken
+abbrev pub do_under_answer : KnownNames → Keyed Unfinished → AnswerLine
+do_under_answer names (keyed.Done kept) = done_before kept
+do_under_answer names (keyed.Undone (unfinished.Ended at how)) = ended_answer names at how
+do_under_answer names (keyed.Undone (unfinished.NotBegun refusal)) = Refused refusal
+do_under_answer names (keyed.Known known) = done_before known
+do_under_answer names keyed.Prepared = KeyRefused why.Prepared
+do_under_answer names keyed.Taken = KeyRefused Taken
 
 -- where no transaction begins
 abbrev pub draining_under : KeyState → AnswerLine
@@ -87,11 +89,11 @@ draining_under state.Prepared = KeyRefused why.Prepared
 draining_under state.Taken = KeyRefused Taken
 
 -- a whole transaction of these calls under a key, of which the file knows this, if clean
-abbrev pub DoesDoUnder : Type 0 → ℕ → ℕ → Contents → List Prepared → Stored → List AskedCall → List ℕ → AnswerLine → Stored → Type 0
-DoesDoUnder clean most life c ps old calls key answer new =
+abbrev pub DoesDoUnder : Type 0 → ℕ → KnownNames → Contents → Stored → List AskedCall → List ℕ → AnswerLine → Stored → Type 0
+DoesDoUnder clean most names c old calls key answer new =
     MatchBool (is_epoch_full most old) ((known : KeyState) × (clean → IsInState (now_says c old) key known) × (answer ≡ draining_under known) × (new ≡ old))
     ((made : List CallAt) × InTurn (IsCallAt clean c.objects) calls made × (came : Keyed Unfinished) × (clean → KnowsKey (now_says c old) key came) × AttemptsUnder old made came new
-    × (answer ≡ do_under_answer life ps came))
+    × (answer ≡ do_under_answer names came))
 
 -- ---- what became of one
 
@@ -126,9 +128,9 @@ abbrev pub outcomes_after : Option KeyedOutcome → (ℕ → Option KeyedOutcome
 outcomes_after None outcomes = outcomes
 outcomes_after (Some o) outcomes = outcomes_where_free (outcomes (key_place o.key)) o outcomes
 
--- what a file says after a line that was so answered
-abbrev pub said_after : Contents → List ℕ → AnswerLine → Contents
-said_after c line answer = record c {
+-- what a file says after a line that was so answered, by these names
+abbrev pub said_after : KnownNames → Contents → List ℕ → AnswerLine → Contents
+said_after names c line answer = record c {
   outcomes = outcomes_after (kept_answered (asked_by line).request answer) c.outcomes;
-  prepared = prepared_answered (asked_by line).request answer c.prepared;
+  prepared = prepared_answered names (asked_by line).request answer c.prepared;
 }

@@ -1,5 +1,5 @@
 -- What a crash leaves of a store that serves: the file as it was after some of the lines that were read, and nothing that they didn't ask for.
-use Rattle.std.specs.Prelude.{◌≡◌, ◌⊎◌, ◌≤◌, ℕ, true, false, List, [], ◌∷◌, ◌++◌, length, take, drop, Option}
+use Rattle.std.specs.Prelude.{◌≡◌, ◌⊎◌, ◌≤◌, ℕ, Bool, true, false, List, [], ◌∷◌, ◌++◌, length, take, drop, Option}
 use Rattle.sqlite_trees.specs.declared.store.Store.{Ghosts}
 use Rattle.sqlite_trees.specs.Tree.{Trees}
 use Rattle.store_laws.specs.Stored.{Stored}
@@ -13,9 +13,10 @@ use Rattle.serving.specs.declared.answer_line.Answered.{Answered}
 use Rattle.serving.specs.declared.extension.Extension.{Extension}
 use Rattle.serving.specs.declared.session.Session.{Session}
 use Rattle.serving.specs.Does.{is_epoch_full}
-use Rattle.serving.specs.Epochs.{aborted}
+use Rattle.serving.specs.Epochs.{closed_by}
 use Rattle.serving.specs.Lines.{AreLines}
-use Rattle.serving.specs.NextEpoch.{IsNextFile, limit_while}
+use Rattle.serving.specs.Names.{KnownNames}
+use Rattle.serving.specs.NextEpoch.{IsNextFile, WhereStrong, full_with, limit_while}
 use Rattle.serving.specs.Prepared.{now_says}
 use Rattle.durable_store.specs.Durable.{prepared_in}
 use Rattle.journal.specs.declared.prepared_row.Prepared.{Prepared}
@@ -24,15 +25,15 @@ use Rattle.serving.specs.Told.{has_lasting}
 
 -- ---- where serving began
 
--- what its file said then, its life, its store, and with how many events an epoch is full
+-- what its file said then, by which names its client knew its transactions, its store, and with how many events an epoch is full
 pub record Began : Type 0 where
   pub most : ℕ
   pub file : Contents
-  pub life : ℕ
+  pub names : KnownNames
   pub store : Stored
 
 abbrev pub began_at : {S : Type 0} (g : Ghosts S) → Session S → Began
-began_at g s = record { most = s.most_events; file = written g s.store.journal; life = s.life; store = s.store.store }
+began_at g s = record { most = s.most_events; file = written g s.store.journal; names = s.names; store = s.store.store }
 
 -- ---- the file of a store
 
@@ -44,28 +45,33 @@ IsInLife c life = (h : Header) × (c.headers ≡ h ∷ []) × (h.life ≡ life)
 abbrev pub KnowsKeys : Contents → Contents → Type 0
 KnowsKeys said c = (c.outcomes ≡ said.outcomes) × (c.prepared ≡ said.prepared)
 
--- with an abort of each transaction that was open and isn't prepared, as the file says
-abbrev pub closed_store : Contents → Stored → Stored
-closed_store said s = aborted (prepared_in (now_says said s)) s
+-- after what happens as an epoch ends, by what the file says is prepared
+abbrev pub closed_store : Bool → Contents → Stored → Stored
+closed_store goes said s = closed_by goes (prepared_in (now_says said s)) s
 
--- the file of this store in this life, which knows of keys and of who was prepared what was said; where its epoch is over, also that file with an abort of each
--- transaction that was open and isn't prepared, and the file that begins anew from there, with what waits to be added
-pub data IsStoreFile (over : Type 0) (waits : Option Extension) (life : ℕ) (said : Contents) (s : Stored) : Contents → Type 0 where
+-- the file of this store in this life, which knows of keys and of who was prepared what was said; where its epoch is over, also that file
+-- after what happens as it ends, and the file that begins anew from there, with what waits to be added
+pub data IsStoreFile (over : Bool → Type 0) (waits : Option Extension) (life : ℕ) (said : Contents) (s : Stored) : Contents → Type 0 where
   present : (c : Contents) → IsStoreOf c s → IsInLife c life → KnowsKeys said c → IsStoreFile over waits life said s c
-  closed : (c : Contents) → over → IsStoreOf c (closed_store said s) → IsInLife c life → KnowsKeys said c → IsStoreFile over waits life said s c
-  anew : (c now : Contents) (next : Stored) (ps : List Prepared) → over → IsStoreOf c (closed_store said s) → IsInLife c life → KnowsKeys said c
-      → IsNextFile waits (prepared_in (now_says said s)) (closed_store said s) next ps c now → IsStoreFile over waits life said s now
+  closed : (goes : Bool) (c : Contents) → over goes → IsStoreOf c (closed_store goes said s) → IsInLife c life → KnowsKeys said c → IsStoreFile over waits life said s c
+  anew : (goes : Bool) (c now : Contents) (next : Stored) (ps : List Prepared) → over goes → IsStoreOf c (closed_store goes said s) → IsInLife c life → KnowsKeys said c
+      → IsNextFile waits (prepared_in (now_says said s)) (closed_store goes said s) next ps c now → IsStoreFile over waits life said s now
 
--- since serving began these lines were done and so answered, and this is the file then; its epoch may be over where it is full or
--- an extension waits, or where these lines are the last
+-- an epoch may end where it is full or an extension waits, and then all that is open goes over if each yes is strong; or where these lines are the last, and then
+-- nothing does but what is prepared
+abbrev pub MayEnd : ℕ → Option Extension → KnownNames → Stored → Type 0 → Bool → Type 0
+MayEnd most waits names reached last goes =
+    ((is_epoch_full (limit_while waits (full_with most names)) reached ≡ true) × WhereStrong goes reached) ⊎ (last × (goes ≡ false))
+
+-- since serving began these lines were done and so answered, and this is the file then; its epoch may have ended
 pub record IsFileAfter (b : Began) (last : List (List ℕ) → Type 0) (lines : List (List ℕ)) (done : List Answered) (c : Contents) : Type 0 where
-  pub life : ℕ
+  pub names : KnownNames
   pub reached : Stored
   pub said : Contents
   pub ended : Option Asked
   pub waits : Option Extension
-  pub serves : Serves (Unit {0}) b.most b.file b.life lines b.store done life said reached ended waits
-  pub file : IsStoreFile ((is_epoch_full (limit_while waits b.most) reached ≡ true) ⊎ last lines) waits life said reached c
+  pub serves : Serves (Unit {0}) b.most b.file b.names lines b.store done names said reached ended waits
+  pub file : IsStoreFile (MayEnd b.most waits names reached (last lines)) waits names.life said reached c
 
 -- ---- after a crash
 

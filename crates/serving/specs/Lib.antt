@@ -1,5 +1,6 @@
 pub mod AnswerText
 pub mod Told
+pub mod Names
 pub mod Does
 pub mod Follows
 pub mod NextEpoch
@@ -7,6 +8,7 @@ pub mod Archives
 pub mod Epochs
 pub mod Means
 pub mod Several
+pub mod HeldTransactions
 pub mod Keys
 pub mod Requests
 pub mod Lines

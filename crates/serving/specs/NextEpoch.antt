@@ -1,7 +1,8 @@
 -- What begins where an epoch is over: a store at the committed states, with what is prepared, and with what waits to be added.
-use Rattle.std.specs.Prelude.{◌≡◌, ℕ, Bool, true, false, List, [], ◌∷◌, ◌++◌, length, Option, Some, None}
+use Rattle.std.specs.Prelude.{◌≡◌, ◌↔◌, ℕ, ◌+◌, min, Bool, true, false, List, [], ◌∷◌, ◌++◌, length, Option, Some, None}
 use Rattle.table_checker.specs.Checked.{Checked}
 use Rattle.store_laws.specs.Stored.{Stored}
+use Rattle.carried_orders.specs.Orders.{AreStrong}
 use Rattle.store_text.specs.declared.line.ObjectLine.{ObjectLine}
 use Rattle.journal.specs.Contents.{Contents}
 use Rattle.durable_store.specs.Durable.{kinds}
@@ -13,11 +14,27 @@ use Rattle.serving.specs.declared.answer_line.AnswerLine.{AnswerLine}
 use Rattle.serving.specs.declared.answer_line.AnswerLine.TheVariants.{Extended, NotAdded, Waiting}
 use Rattle.serving.specs.declared.answer_line.Answered.{Answered}
 use Rattle.serving.specs.declared.extension.Extension.{Extension}
+use Rattle.serving.specs.Names.{KnownNames}
 
--- with this many events an epoch is full: with none where an extension waits
+-- ---- when an epoch is over
+
+-- with this many events an epoch is full: so many more than it began with, and never more than 980,000
+abbrev pub full_with : ℕ → KnownNames → ℕ
+full_with most names = min (names.begun_with + most) 980000
+
+-- with none where an extension waits
 abbrev pub limit_while : Option Extension → ℕ → ℕ
 limit_while None most = most
 limit_while (Some e) most = 0
+
+-- whether all that is open goes over as it ends: it does where each yes is strong
+abbrev pub WhereStrong : Bool → Stored → Type 0
+WhereStrong goes s = (goes ≡ true) ↔ AreStrong s.types
+
+-- with this many events no transaction begins: where all that is open goes over, only with more than a history can have
+abbrev pub begin_limit : Bool → Option Extension → ℕ → ℕ
+begin_limit true waits most = 4294967295
+begin_limit false waits most = limit_while waits most
 
 -- ---- another epoch
 

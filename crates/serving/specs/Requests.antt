@@ -14,7 +14,9 @@ use Rattle.serving.specs.declared.answer_line.AnswerLine.TheVariants.{Done, Drai
 use Rattle.request_text.specs.Requests.{calls_asked, objects_asked}
 use Rattle.serving.specs.Keys.{DoesCommitUnder, DoesDoUnder, DoesOutcome}
 use Rattle.serving.specs.Means.{Means}
-use Rattle.serving.specs.Prepared.{DoesDecide, DoesHeld, DoesPrepare, decision_of}
+use Rattle.serving.specs.Names.{KnownNames}
+use Rattle.serving.specs.Prepared.{DoesDecide, DoesPrepare, decision_of}
+use Rattle.serving.specs.HeldTransactions.{DoesHeld}
 use Rattle.journal.specs.declared.prepared_row.Prepared.{Prepared}
 use Rattle.serving.specs.Several.{DoesCommitted, DoesDo, DoesPeek}
 use Rattle.serving.specs.Does.{DoesAbort, DoesBegin, DoesCall, DoesCommit, DoesKept, DoesRollback, DoesStats, DoesWould}
@@ -55,29 +57,29 @@ LetsGo old new = new ≡ record old { forgotten = new.forgotten }
 
 -- ---- each request
 
--- a request of this line to a store in this life over a file that says this, in which these are prepared, whose epochs are full with this many events; only
+-- a request of this line to a store whose client knows these names, over a file that says this, in which these are prepared, whose epochs are full with this many events; only
 -- what is read from the file needs a clean disk. To this store no objects are added: that is asked of the epoch after it
-abbrev pub DoesRequest : Type 0 → ℕ → ℕ → Contents → List Prepared → List ℕ → Stored → Request → AnswerLine → Stored → Type 0
-DoesRequest clean most life c ps line old request.Begin answer new = DoesBegin most life old answer new
-DoesRequest clean most life c ps line old (request.Call t x name) answer new = (n : ℕ) × Means clean c.objects x n × DoesCall life ps old t n name answer new
-DoesRequest clean most life c ps line old (request.Would t x name) answer new = (n : ℕ) × Means clean c.objects x n × DoesWould life ps old t n name answer new
-DoesRequest clean most life c ps line old (request.Commit t) answer new = DoesCommit life ps old t answer new
-DoesRequest clean most life c ps line old (request.CommitUnder t key) answer new = DoesCommitUnder clean life c ps old t key answer new
-DoesRequest clean most life c ps line old (request.Abort t) answer new = DoesAbort life ps old t answer new
-DoesRequest clean most life c ps line old (request.Rollback t count) answer new = DoesRollback life ps old t count answer new
-DoesRequest clean most life c ps line old (request.Kept x) answer new = (n : ℕ) × Means clean c.objects x n × DoesKept old n answer new
-DoesRequest clean most life c ps line old request.Peek answer new = DoesPeek clean life c.objects old (calls_asked line) answer new
-DoesRequest clean most life c ps line old request.Committed answer new = DoesCommitted clean life c.objects old (objects_asked line) answer new
-DoesRequest clean most life c ps line old request.Do answer new = DoesDo clean most life ps c.objects old (calls_asked line) answer new
-DoesRequest clean most life c ps line old (request.DoUnder key) answer new = DoesDoUnder clean most life c ps old (calls_asked line) key answer new
-DoesRequest clean most life c ps line old (request.Outcome key) answer new = DoesOutcome clean c old key answer new
-DoesRequest clean most life c ps line old (request.Prepare t key until) answer new = DoesPrepare clean life c ps old t key until answer new
-DoesRequest clean most life c ps line old (request.Decide key d) answer new = DoesDecide clean c old key (decision_of d) answer new
-DoesRequest clean most life c ps line old request.Prepared answer new = DoesHeld ps old answer new
-DoesRequest clean most life c ps line old (request.Find name) answer new = (new ≡ old) × (found : Option ℕ) × (answer ≡ found_answer found) × (clean → found ≡ find_named c.objects name)
-DoesRequest clean most life c ps line old request.Objects answer new = TellsObjects clean answer c.objects × LetsGo old new
-DoesRequest clean most life c ps line old request.Types answer new = TellsTypes clean answer c.types × LetsGo old new
-DoesRequest clean most life c ps line old (request.Events from count) answer new = TellsEvents clean answer (events_from old from count) × LetsGo old new
-DoesRequest clean most life c ps line old request.Stats answer new = DoesStats ps old answer new
-DoesRequest clean most life c ps line old request.Extend answer new = (answer ≡ Draining) × (new ≡ old)
-DoesRequest clean most life c ps line old request.End answer new = (answer ≡ Done) × (new ≡ old)
+abbrev pub DoesRequest : Type 0 → ℕ → KnownNames → Contents → List Prepared → List ℕ → Stored → Request → AnswerLine → Stored → Type 0
+DoesRequest clean most names c ps line old request.Begin answer new = DoesBegin most names.life old answer new
+DoesRequest clean most names c ps line old (request.Call t x name) answer new = (n : ℕ) × Means clean c.objects x n × DoesCall names ps old t n name answer new
+DoesRequest clean most names c ps line old (request.Would t x name) answer new = (n : ℕ) × Means clean c.objects x n × DoesWould names ps old t n name answer new
+DoesRequest clean most names c ps line old (request.Commit t) answer new = DoesCommit names ps old t answer new
+DoesRequest clean most names c ps line old (request.CommitUnder t key) answer new = DoesCommitUnder clean names c ps old t key answer new
+DoesRequest clean most names c ps line old (request.Abort t) answer new = DoesAbort names ps old t answer new
+DoesRequest clean most names c ps line old (request.Rollback t count) answer new = DoesRollback names ps old t count answer new
+DoesRequest clean most names c ps line old (request.Kept x) answer new = (n : ℕ) × Means clean c.objects x n × DoesKept old n answer new
+DoesRequest clean most names c ps line old request.Peek answer new = DoesPeek clean names.life c.objects old (calls_asked line) answer new
+DoesRequest clean most names c ps line old request.Committed answer new = DoesCommitted clean names.life c.objects old (objects_asked line) answer new
+DoesRequest clean most names c ps line old request.Do answer new = DoesDo clean most names c.objects old (calls_asked line) answer new
+DoesRequest clean most names c ps line old (request.DoUnder key) answer new = DoesDoUnder clean most names c old (calls_asked line) key answer new
+DoesRequest clean most names c ps line old (request.Outcome key) answer new = DoesOutcome clean c old key answer new
+DoesRequest clean most names c ps line old (request.Prepare t key until) answer new = DoesPrepare clean names c old t key until answer new
+DoesRequest clean most names c ps line old (request.Decide key d) answer new = DoesDecide clean c old key (decision_of d) answer new
+DoesRequest clean most names c ps line old request.Prepared answer new = DoesHeld ps old answer new
+DoesRequest clean most names c ps line old (request.Find name) answer new = (new ≡ old) × (found : Option ℕ) × (answer ≡ found_answer found) × (clean → found ≡ find_named c.objects name)
+DoesRequest clean most names c ps line old request.Objects answer new = TellsObjects clean answer c.objects × LetsGo old new
+DoesRequest clean most names c ps line old request.Types answer new = TellsTypes clean answer c.types × LetsGo old new
+DoesRequest clean most names c ps line old (request.Events from count) answer new = TellsEvents clean answer (events_from old from count) × LetsGo old new
+DoesRequest clean most names c ps line old request.Stats answer new = DoesStats ps old answer new
+DoesRequest clean most names c ps line old request.Extend answer new = (answer ≡ Draining) × (new ≡ old)
+DoesRequest clean most names c ps line old request.End answer new = (answer ≡ Done) × (new ≡ old)

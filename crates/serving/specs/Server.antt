@@ -1,6 +1,8 @@
 -- What a server has done of what its client asked.
-use Rattle.std.specs.Prelude.{◌≡◌, ℕ, ◌≤◌, List, [], ◌∷◌, ◌++◌, length, take, nat_lt, ◌==◌, if◌then◌else◌, MatchBool, Some, None}
+use Rattle.std.specs.Prelude.{◌≡◌, ◌⊎◌, ℕ, true, ◌≤◌, List, [], ◌∷◌, ◌++◌, length, take, nat_lt, ◌==◌, if◌then◌else◌, MatchBool, Some, None}
 use Rattle.sqlite_trees.specs.declared.store.Store.{Ghosts}
+use Rattle.serial_order.specs.History.{summary}
+use Rattle.serial_order.specs.Replay.{open_count}
 use Rattle.journal.specs.Contents.{Contents}
 use Rattle.journal.specs.Journal.{Clean, written}
 use Rattle.durable_store.specs.declared.durable.Durable.{Durable}
@@ -13,7 +15,8 @@ use Rattle.serving.specs.Epochs.{LeavesEpochs, WritesEpochs}
 use Rattle.serving.specs.Follows.{LeavesMore, WritesMore}
 use Rattle.serving.specs.Keys.{said_after}
 use Rattle.serving.specs.Lines.{AreLines, asks_end, may_wait}
-use Rattle.serving.specs.NextEpoch.{SaysSame, limit_while}
+use Rattle.serving.specs.Names.{KnownNames, given_names}
+use Rattle.serving.specs.NextEpoch.{SaysSame, begin_limit, full_with, limit_while}
 use Rattle.request_text.specs.Requests.{asked_by}
 use Rattle.serving.specs.Served.{IsAnswered, IsAskedMore, Serves}
 
@@ -25,10 +28,26 @@ most_kept = 4096
 abbrev pub life_of : {S : Type 0} → Durable S → ℕ
 life_of d = d.journal.header.life
 
+-- the names by which its client knows its transactions, where a session begins
+abbrev pub first_names : {S : Type 0} → Durable S → KnownNames
+first_names d = given_names (life_of d) d.prepared.items
+
+-- with this many events the epoch of a session is over, where nothing is open that can't go over
+abbrev pub full_at : {S : Type 0} → Session S → ℕ
+full_at s = limit_while s.waiting (full_with s.most_events s.names)
+
+-- with this many no transaction begins
+abbrev pub begins_until : {S : Type 0} → Session S → ℕ
+begins_until s = begin_limit s.store.strong s.waiting (full_with s.most_events s.names)
+
+-- a full epoch may end at once: all that is open goes over, or nothing is open but what is prepared
+abbrev pub MayEndNow : {S : Type 0} → Session S → Type 0
+MayEndNow s = (s.store.strong ≡ true) ⊎ (open_count (summary s.store.store.history) ≤ length s.store.prepared.items)
+
 -- a session goes on from another, in the same epoch
 pub record StaysInEpoch {S : Type 0} (g : Ghosts S) (old new : Session S) : Type 0 where
   pub sound : IsDurable g new.store
-  pub life : new.life ≡ old.life
+  pub names : new.names ≡ old.names
   pub most : new.most_events ≡ old.most_events
   pub same : life_of new.store ≡ life_of old.store
   pub follows : WritesMore g old.store new.store
@@ -38,7 +57,7 @@ pub record StaysInEpoch {S : Type 0} (g : Ghosts S) (old new : Session S) : Type
 -- the same, epoch after epoch; what an archive keeps of them is said apart
 pub record Lasts {S : Type 0} (g : Ghosts S) (old new : Session S) : Type 0 where
   pub sound : IsDurable g new.store
-  pub named : new.life ≡ life_of new.store
+  pub named : new.names.life ≡ life_of new.store
   pub most : new.most_events ≡ old.most_events
   pub reaches : WritesEpochs g old.store new.store None None
   pub clean : Clean g new.store.journal → Clean g old.store.journal
@@ -53,7 +72,7 @@ pub record HasServed {S : Type 0} (g : Ghosts S) (began : Session S) (told : Lis
   pub lasts : Lasts g began now.session
   pub said : Contents
   pub says : Clean g now.session.store.journal → SaysSame said (written g now.session.store.journal)
-  pub serves : Serves (Clean g now.session.store.journal) began.most_events (written g began.store.journal) began.life lines began.store.store (told ++ now.answers.items) now.session.life said now.session.store.store now.end now.session.waiting
+  pub serves : Serves (Clean g now.session.store.journal) began.most_events (written g began.store.journal) began.names lines began.store.store (told ++ now.answers.items) now.session.names said now.session.store.store now.end now.session.waiting
 
 -- what is written says of keys, and of who was prepared, what it said
 abbrev pub KeepsAll : {S : Type 0} (g : Ghosts S) → Durable S → Durable S → Type 0
@@ -61,17 +80,17 @@ KeepsAll g old new =
     Clean g new.journal → ((written g new.journal).outcomes ≡ (written g old.journal).outcomes) × ((written g new.journal).prepared ≡ (written g old.journal).prepared)
 
 -- what is written says of keys, and of who was prepared, what it says after this line
-abbrev pub KeepsKeys : {S : Type 0} (g : Ghosts S) → Durable S → List ℕ → AnswerLine → Durable S → Type 0
-KeepsKeys g old line answer new =
-    Clean g new.journal → ((written g new.journal).outcomes ≡ (said_after (written g old.journal) line answer).outcomes)
-    × ((written g new.journal).prepared ≡ (said_after (written g old.journal) line answer).prepared)
+abbrev pub KeepsKeys : {S : Type 0} (g : Ghosts S) → KnownNames → Durable S → List ℕ → AnswerLine → Durable S → Type 0
+KeepsKeys g names old line answer new =
+    Clean g new.journal → ((written g new.journal).outcomes ≡ (said_after names (written g old.journal) line answer).outcomes)
+    × ((written g new.journal).prepared ≡ (said_after names (written g old.journal) line answer).prepared)
 
 -- a line is answered: what it asks for may wait now; or it is done, in the same epoch
 abbrev pub DoesAsked : {S : Type 0} (g : Ghosts S) → Session S → List ℕ → Answered → Session S → Type 0
 DoesAsked g old line a new =
     MatchBool (may_wait old.waiting line) (IsAskedMore line a new.waiting × (new ≡ record old { waiting = new.waiting }))
-    (StaysInEpoch g old new × (new.waiting ≡ old.waiting) × IsAnswered (Clean g new.store.journal) (limit_while old.waiting old.most_events) old.life (written g old.store.journal) line old.store.store a new.store.store
-    × KeepsKeys g old.store line a.answer new.store)
+    (StaysInEpoch g old new × (new.waiting ≡ old.waiting) × IsAnswered (Clean g new.store.journal) (begins_until old) old.names (written g old.store.journal) line old.store.store a new.store.store
+    × KeepsKeys g old.names old.store line a.answer new.store)
 
 pub record AnswersLine {S : Type 0} (g : Ghosts S) (old new : Server S) : Type 0 where
   pub a : Answered

@@ -21,8 +21,7 @@ use Rattle.serving.specs.declared.answer_line.Moment.{Moment}
 use Rattle.serving.specs.declared.answer_line.AnswerLine.TheVariants.{Draining, Seen, SeenStates, NothingSeen, Unseen, Completed, CompletedOne, BusyAt, NothingAt, RefusedAt, Refused, Nothing}
 use Rattle.durable_store.specs.Keys.{op_of_object}
 use Rattle.serving.specs.Does.{is_epoch_full}
-use Rattle.serving.specs.Prepared.{known_name}
-use Rattle.journal.specs.declared.prepared_row.Prepared.{Prepared}
+use Rattle.serving.specs.Names.{KnownNames, known_name}
 use Rattle.serving.specs.Means.{Means}
 
 -- one of each list after another, and as many in both
@@ -98,10 +97,10 @@ replies_of s (call ∷ calls) [] = []
 replies_of s (call ∷ calls) (k ∷ ks) = found_reply s (call.0) (Some k) ∷ replies_of s calls ks
 
 -- what is answered where the call at this place ended it
-abbrev pub ended_answer : ℕ → List Prepared → ℕ → Ending → AnswerLine
-ended_answer life ps at (ending.Busy u) = BusyAt at (known_name life ps u)
-ended_answer life ps at ending.None = NothingAt at
-ended_answer life ps at (ending.Refused refusal) = RefusedAt at refusal
+abbrev pub ended_answer : KnownNames → ℕ → Ending → AnswerLine
+ended_answer names at (ending.Busy u) = BusyAt at (known_name names u)
+ended_answer names at ending.None = NothingAt at
+ended_answer names at (ending.Refused refusal) = RefusedAt at refusal
 
 -- of one that is done the replies are told
 abbrev pub TellsReplies : List (Option (List ℕ)) → AnswerLine → Type 0
@@ -111,21 +110,21 @@ TellsReplies replies Nothing = Contains replies None
 TellsReplies replies answer = ⊥
 
 -- what is told of what came of it
-abbrev pub TellsAttempt : Stored → ℕ → List Prepared → List CallAt → Attempt → AnswerLine → Type 0
-TellsAttempt s life ps calls (attempt.Done ks) answer = TellsReplies (replies_of s calls ks.items) answer
-TellsAttempt s life ps calls (attempt.Ended at how) answer = answer ≡ ended_answer life ps at how
-TellsAttempt s life ps calls (attempt.NotBegun refusal) answer = answer ≡ Refused refusal
+abbrev pub TellsAttempt : Stored → KnownNames → List CallAt → Attempt → AnswerLine → Type 0
+TellsAttempt s names calls (attempt.Done ks) answer = TellsReplies (replies_of s calls ks.items) answer
+TellsAttempt s names calls (attempt.Ended at how) answer = answer ≡ ended_answer names at how
+TellsAttempt s names calls (attempt.NotBegun refusal) answer = answer ≡ Refused refusal
 
 -- it did this: these calls, in their order, in one transaction that is over
-pub record Attempts (clean : Type 0) (life : ℕ) (ps : List Prepared) (lines : List ObjectLine) (old : Stored) (calls : List AskedCall) (answer : AnswerLine) (new : Stored) : Type 0 where
+pub record Attempts (clean : Type 0) (names : KnownNames) (lines : List ObjectLine) (old : Stored) (calls : List AskedCall) (answer : AnswerLine) (new : Stored) : Type 0 where
   pub made : List CallAt
   pub are_made : InTurn (IsCallAt clean lines) calls made
   pub came : Attempt
   pub replays : new ≡ commands_replayed old (is_memory_refused_at came) 0 (attempt_commands (begins old.history) made came)
   pub answers : AttemptAnswers old 0 made came new
-  pub tells : TellsAttempt new life ps made came answer
+  pub tells : TellsAttempt new names made came answer
 
 -- a whole transaction, but for an epoch that is full
-abbrev pub DoesDo : Type 0 → ℕ → ℕ → List Prepared → List ObjectLine → Stored → List AskedCall → AnswerLine → Stored → Type 0
-DoesDo clean most life ps lines old calls answer new =
-    MatchBool (is_epoch_full most old) ((answer ≡ Draining) × (new ≡ old)) (Attempts clean life ps lines old calls answer new)
+abbrev pub DoesDo : Type 0 → ℕ → KnownNames → List ObjectLine → Stored → List AskedCall → AnswerLine → Stored → Type 0
+DoesDo clean most names lines old calls answer new =
+    MatchBool (is_epoch_full most old) ((answer ≡ Draining) × (new ≡ old)) (Attempts clean names lines old calls answer new)

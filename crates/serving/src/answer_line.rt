@@ -130,7 +130,7 @@ pub enum AnswerLine {
     /// The transactions that are prepared, in the order in which they were, and that these are all: answered only once they
     /// are durable.
     Held {
-        prepared: Vec<Prepared>,
+        prepared: Vec<HeldTransaction>,
     },
     /// What was asked for isn't added.
     NotAdded {
@@ -146,6 +146,13 @@ pub enum AnswerLine {
     Fault {
         fault: RequestFault,
     },
+}
+
+/// A transaction that is prepared, and the numbers of the objects at which it holds operations, ascending.
+#[derive(Drop)]
+pub struct HeldTransaction {
+    pub prepared: Prepared,
+    pub objects: Vec<u32>,
 }
 
 /// Why nothing is done under a key.

@@ -398,7 +398,7 @@ fn put_word<W: Out>(out: &mut W, word: &Name) -> Result<(), OutFault>
 }
 
 /// Writes numbers, each after a space, and ends the line.
-fn put_numbers<W: Out>(out: &mut W, numbers: &[u32]) -> Result<(), OutFault>
+pub(crate) fn put_numbers<W: Out>(out: &mut W, numbers: &[u32]) -> Result<(), OutFault>
     requires { W.fault out.old ≡ None }
     ensures { Puts (W.taken out.old) (W.taken out.new) (W.fault out.new) (flat_map number_after_space numbers.now ++ (10 ∷ [])) result }
 {

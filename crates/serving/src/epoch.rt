@@ -1,16 +1,14 @@
 //! The end of an epoch: its history goes to an archive, before the file begins anew.
 
-ghost use Rattle.std.specs.Prelude.{◌≡◌, [], ◌∷◌, Some, true, is_some, OnOk, IfOk};
-ghost use Rattle.store.specs.Ends.{closing_but};
-ghost use Rattle.durable_store.specs.Held.{prepared_numbers};
+ghost use Rattle.std.specs.Prelude.{◌≡◌, [], ◌∷◌, Some, false, true, is_some, OnOk, IfOk};
 ghost use Rattle.journal.specs.Journal.{Clean, ShowsCommit, durable, written};
-ghost use Rattle.durable_store.specs.Durable.{IsDurable, kinds, with_all, OutcomesStay, events_of_kinds};
+ghost use Rattle.durable_store.specs.Durable.{IsDurable, kinds, with_all, OutcomesStay, WritesSince, events_of_kinds};
 ghost use Rattle.durable_store.specs.Epochs.{GoesOver, LeavesEpoch, renewed_with};
-ghost use Rattle.serving.specs.EpochEnd.{EndsEpoch, LeavesClosed, LeavesEnd, LeavesNext};
+ghost use Rattle.serving.specs.EpochEnd.{EndsEpoch, EndsInEpoch, LeavesClosed, LeavesEnd, LeavesNext};
 ghost use Rattle.serving.specs.NextEpoch.{IsNextFile, IsNextStore, late_answer};
 ghost use Rattle.serving.specs.Archives.{KeepsEpochs, text_of_epoch};
-ghost use Rattle.serving.specs.Epochs.{LeavesEpochs, WritesEpochs, aborted};
-ghost use Rattle.serving.specs.Follows.{LeavesWritten};
+ghost use Rattle.serving.specs.Epochs.{LeavesEpochs, WritesEpochs, closed_by, closings};
+ghost use Rattle.serving.specs.Follows.{LeavesMore, LeavesWritten, WritesMore};
 ghost use Rattle.serving.specs.Requests.{LetsGo};
 ghost use Rattle.history_text.specs.Canonical.{canonical_text};
 
@@ -27,37 +25,39 @@ use sqlite_trees::store::Alter;
 use std::alloc::{AllocError, Global};
 use store_text::ObjectLine;
 
-/// Aborts what is open and isn't prepared, gives the history of the epoch to the archive, and begins another epoch, all of it durable: with
-/// the objects of what waits, which is answered then.
+/// Gives the history of the epoch to the archive, and begins another epoch, all of it durable: with the objects of what waits, which is
+/// answered then. Where what is open isn't to go over, all of it is aborted before that isn't prepared.
 ///
 /// # Errors
 ///
 /// The file or the archive failed, or memory was refused: who opens the file again finds what was open and wasn't prepared aborted. It has
-/// begun anew only where the archive keeps the history.
+/// begun anew only where the archive keeps the history. Or what is to go over can't, since some yes is one-way.
 pub(crate) fn end_epoch<S: Alter, A: Archive>(
     alloc: Global,
     mut store: Durable<S>,
+    goes: bool,
     waiting: Option<Extension>,
     archive: &mut A,
 ) -> (Durable<S>, Result<Option<Answered>, ServeFault>)
     requires { IsDurable S.Store store }
     ensures late { IfOk result.1 (λ late. late ≡ late_answer waiting store.store) }
     ensures sound { OnOk result.1 (IsDurable S.Store result.0) }
-    ensures ends { OnOk result.1 (EndsEpoch S.Store waiting store result.0) }
+    ensures ends { OnOk result.1 (EndsEpoch S.Store goes waiting store result.0) }
     ensures writes { OnOk result.1 (WritesEpochs S.Store store result.0 (A.kept archive.old) (A.kept archive.new)) }
     ensures shows { OnOk result.1 (ShowsCommit S.Store result.0.journal) }
     ensures settled { OnOk result.1 (Clean S.Store result.0.journal → durable S.Store result.0.journal ≡ written S.Store result.0.journal) }
     ensures clean { Clean S.Store result.0.journal → Clean S.Store store.journal }
-    ensures left { LeavesEnd S.Store waiting store result.0 }
+    ensures left { LeavesEnd S.Store goes waiting store result.0 }
     ensures crash { LeavesEpochs S.Store store result.0 (A.kept archive.old) (A.kept archive.new) }
 {
-    match close_epoch(alloc, &mut store, waiting.is_some(), archive) {
+    match close_epoch(alloc, &mut store, goes, waiting.is_some(), archive) {
         Ok(()) => begin_next(alloc, store, waiting),
         Err(fault) => (store, Err(fault)),
     }
 }
 
-/// Aborts what is open and isn't prepared, and gives the history of the epoch to the archive. What was written may be asked to be durable.
+/// Aborts what is open and isn't prepared, unless it is to go over, and gives the history of the epoch to the archive. What was written may be
+/// asked to be durable.
 ///
 /// # Errors
 ///
@@ -65,6 +65,7 @@ pub(crate) fn end_epoch<S: Alter, A: Archive>(
 fn close_epoch<S: Alter, A: Archive>(
     alloc: Global,
     store: &mut Durable<S>,
+    goes: bool,
     settled: bool,
     archive: &mut A,
 ) -> Result<(), ServeFault>
@@ -73,16 +74,64 @@ fn close_epoch<S: Alter, A: Archive>(
     ensures sound { OnOk result (IsDurable S.Store store.new) }
     ensures shows { OnOk result (settled ≡ true → ShowsCommit S.Store store.new.journal) }
     ensures prepared { OnOk result (store.new.prepared ≡ store.old.prepared) }
-    ensures store { OnOk result (LetsGo (aborted store.old.prepared.items store.old.store) store.new.store) }
+    ensures store { OnOk result (LetsGo (closed_by goes store.old.prepared.items store.old.store) store.new.store) }
     ensures life { OnOk result (store.new.journal.header ≡ store.old.journal.header) }
     ensures written { OnOk result (Clean S.Store store.new.journal
-        → written S.Store store.new.journal ≡ with_all (written S.Store store.old.journal) (closing_but (prepared_numbers store.old.prepared.items) store.old.store.history)) }
+        → written S.Store store.new.journal ≡ with_all (written S.Store store.old.journal) (closings goes store.old.prepared.items store.old.store)) }
     ensures clean { Clean S.Store store.new.journal → Clean S.Store store.old.journal }
-    ensures left { LeavesClosed S.Store store.old store.new }
+    ensures left { LeavesClosed S.Store goes store.old store.new }
     ensures crash { LeavesEpochs S.Store store.old store.new (A.kept archive.old) (A.kept archive.new) }
 {
-    store.abort_unprepared(alloc)?;
+    abort_unless(alloc, store, goes)?;
     archive_epoch(alloc, store, settled, archive)
+}
+
+/// Aborts what is open and isn't prepared, unless it is to go over.
+///
+/// # Errors
+///
+/// As `Durable::abort_unprepared`.
+fn abort_unless<S: Alter>(
+    alloc: Global,
+    store: &mut Durable<S>,
+    goes: bool,
+) -> Result<(), JournalError>
+    requires { IsDurable S.Store store.old }
+    ensures sound { OnOk result (IsDurable S.Store store.new) }
+    ensures prepared { OnOk result (store.new.prepared ≡ store.old.prepared) }
+    ensures store { OnOk result (store.new.store ≡ closed_by goes store.old.prepared.items store.old.store) }
+    ensures life { store.new.journal.header ≡ store.old.journal.header }
+    ensures written { OnOk result (WritesSince S.Store store.old store.new) }
+    ensures clean { Clean S.Store store.new.journal → Clean S.Store store.old.journal }
+    ensures crash { OutcomesStay S.Store store.old store.new }
+{
+    if goes {
+        Ok(())
+    } else {
+        store.abort_unprepared(alloc)
+    }
+}
+
+/// Aborts what is open and isn't prepared, durable. The epoch goes on where the file is opened again.
+///
+/// # Errors
+///
+/// The file failed, or memory was refused: who opens the file again finds the same.
+pub(crate) fn stop_in_epoch<S: Alter>(
+    alloc: Global,
+    store: &mut Durable<S>,
+) -> Result<(), JournalError>
+    requires { IsDurable S.Store store.old }
+    ensures goes_on { OnOk result (EndsInEpoch S.Store store.old store.new) }
+    ensures sound { OnOk result (IsDurable S.Store store.new) }
+    ensures shows { OnOk result (ShowsCommit S.Store store.new.journal) }
+    ensures writes { OnOk result (WritesMore S.Store store.old store.new) }
+    ensures clean { Clean S.Store store.new.journal → Clean S.Store store.old.journal }
+    ensures left { LeavesClosed S.Store false store.old store.new }
+    ensures crash { LeavesMore S.Store store.old store.new }
+{
+    store.abort_unprepared(alloc)?;
+    store.settle()
 }
 
 /// Gives the history of the present epoch to an archive that asks for it. What was written may be asked to be durable.
@@ -221,7 +270,7 @@ fn events_of(alloc: Global, happened: &[EventKind]) -> Result<Vec<Event>, AllocE
     Ok(events)
 }
 
-/// Begins another epoch, where nothing is open but what is prepared, which goes over: with the objects of what waits, which is answered then.
+/// Begins another epoch, where nothing is open but what goes over: with the objects of what waits, which is answered then.
 ///
 /// # Errors
 ///
@@ -254,7 +303,7 @@ fn begin_next<S: Alter>(
     }
 }
 
-/// Begins another epoch with more objects, where nothing is open but what is prepared, and answers that they are there.
+/// Begins another epoch with more objects, where nothing is open but what goes over, and answers that they are there.
 ///
 /// # Errors
 ///
@@ -286,7 +335,7 @@ fn extend<S: Alter>(
     }
 }
 
-/// Begins another epoch, where nothing is open but what is prepared.
+/// Begins another epoch, where nothing is open but what goes over.
 fn renew<S: Alter>(alloc: Global, store: Durable<S>) -> (Durable<S>, Result<(), ServeFault>)
     requires { IsDurable S.Store store }
     ensures sound { OnOk result.1 (IsDurable S.Store result.0) }

@@ -3,9 +3,10 @@
 ghost use Rattle.std.specs.Prelude.{◌≡◌, None, ◌++◌};
 ghost use Rattle.std.specs.List.{flat_map};
 ghost use Rattle.outputs.specs.Out.{Puts};
-ghost use Rattle.serving.specs.AnswerText.{done_text, held_text};
+ghost use Rattle.serving.specs.AnswerText.{done_text, held_text, prepared_words};
 
-use crate::answer_text::put_done;
+use crate::answer_line::HeldTransaction;
+use crate::answer_text::{put_done, put_numbers};
 use itoa::Buffer;
 use journal::Prepared;
 use outputs::{Out, OutFault, items_in_turn, put_all, texts_in_turn};
@@ -14,7 +15,7 @@ use outputs::{Out, OutFault, items_in_turn, put_all, texts_in_turn};
 pub(crate) fn put_held<W: Out>(
     out: &mut W,
     tag: &[u8],
-    prepared: &[Prepared],
+    prepared: &[HeldTransaction],
 ) -> Result<(), OutFault>
     requires { W.fault out.old ≡ None }
     ensures { Puts (W.taken out.old) (W.taken out.new) (W.fault out.new) (flat_map (held_text tag.now) prepared.now ++ done_text tag.now) result }
@@ -25,12 +26,16 @@ pub(crate) fn put_held<W: Out>(
 }
 
 /// Writes a line of each.
-fn put_held_lines<W: Out>(out: &mut W, tag: &[u8], prepared: &[Prepared]) -> Result<(), OutFault>
+fn put_held_lines<W: Out>(
+    out: &mut W,
+    tag: &[u8],
+    prepared: &[HeldTransaction],
+) -> Result<(), OutFault>
     requires { W.fault out.old ≡ None }
     ensures { Puts (W.taken out.old) (W.taken out.new) (W.fault out.new) (flat_map (held_text tag.now) prepared.now) result }
 {
     texts_in_turn();
-    items_in_turn::<Prepared>();
+    items_in_turn::<HeldTransaction>();
     for one in prepared {
         put_one(out, tag, one)?;
     }
@@ -38,9 +43,19 @@ fn put_held_lines<W: Out>(out: &mut W, tag: &[u8], prepared: &[Prepared]) -> Res
 }
 
 /// Writes the line of one.
-fn put_one<W: Out>(out: &mut W, tag: &[u8], one: &Prepared) -> Result<(), OutFault>
+fn put_one<W: Out>(out: &mut W, tag: &[u8], one: &HeldTransaction) -> Result<(), OutFault>
     requires { W.fault out.old ≡ None }
     ensures { Puts (W.taken out.old) (W.taken out.new) (W.fault out.new) (held_text tag.now one.now) result }
+{
+    texts_in_turn();
+    put_prepared(out, tag, &one.prepared)?;
+    put_numbers(out, &one.objects)
+}
+
+/// Writes the beginning of the line of one: all but the objects.
+fn put_prepared<W: Out>(out: &mut W, tag: &[u8], one: &Prepared) -> Result<(), OutFault>
+    requires { W.fault out.old ≡ None }
+    ensures { Puts (W.taken out.old) (W.taken out.new) (W.fault out.new) (prepared_words tag.now one.now) result }
 {
     let (mut life, mut number, mut until) = (Buffer::new(), Buffer::new(), Buffer::new());
     put_all(
@@ -55,7 +70,6 @@ fn put_one<W: Out>(out: &mut W, tag: &[u8], one: &Prepared) -> Result<(), OutFau
             number.format(one.given.number).as_bytes(),
             b" ",
             until.format(one.until).as_bytes(),
-            b"\n",
         ],
     )
 }

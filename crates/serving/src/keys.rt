@@ -5,17 +5,16 @@ ghost use Rattle.journal.specs.Journal.{Clean, written};
 ghost use Rattle.durable_store.specs.Durable.{IsDurable};
 ghost use Rattle.request_text.specs.declared.request.Request.TheVariants as request;
 ghost use Rattle.serving.specs.Follows.{LeavesWritten};
-ghost use Rattle.serving.specs.Keys.{DoesCommitUnder, DoesDoUnder, DoesOutcome, commit_under_answer, committed_before, do_under_answer, done_before, draining_under, foreign_under, kept_by, outcome_answer, outcomes_after};
-ghost use Rattle.serving.specs.NextEpoch.{limit_while};
-ghost use Rattle.serving.specs.Server.{KeepsAll, StaysInEpoch};
+ghost use Rattle.serving.specs.Keys.{DoesCommitUnder, DoesDoUnder, DoesOutcome, commit_under_answer, committed_before, do_under_answer, done_before, draining_under, kept_by, outcome_answer, outcomes_after, unknown_under};
+ghost use Rattle.serving.specs.Server.{KeepsAll, StaysInEpoch, begins_until};
 
 use crate::answer_line::{AnswerLine, KeyRefusal};
-use crate::names::{denied_answer, foreign};
+use crate::names::{Names, denied_answer, not_open};
 use crate::session::{Session, is_full};
 use crate::votes::key_refused;
 use crate::whole::ended_answer;
 use durable_store::{Denial, KeyState, Keyed, Unfinished};
-use journal::{JournalError, Outcome, Prepared};
+use journal::{JournalError, Outcome};
 use request_text::{AskedCall, TransactionName};
 use sqlite_trees::store::Alter;
 use std::alloc::Global;
@@ -35,7 +34,7 @@ impl<S: Alter> Session<S> {
         key: TransactionKey,
     ) -> Result<AnswerLine, JournalError>
         requires { IsDurable S.Store self.old.store }
-        ensures does { IfOk result (λ a. DoesCommitUnder (Clean S.Store self.new.store.journal) self.old.life (written S.Store self.old.store.journal) self.old.store.prepared.items self.old.store.store t key a self.new.store.store) }
+        ensures does { IfOk result (λ a. DoesCommitUnder (Clean S.Store self.new.store.journal) self.old.names (written S.Store self.old.store.journal) self.old.store.prepared.items self.old.store.store t key a self.new.store.store) }
         ensures keys { IfOk result (λ a. Clean S.Store self.new.store.journal → (written S.Store self.new.store.journal).outcomes ≡ outcomes_after (kept_by (request.CommitUnder t key) a) (written S.Store self.old.store.journal).outcomes) }
         ensures rows { OnOk result (Clean S.Store self.new.store.journal → (written S.Store self.new.store.journal).prepared ≡ (written S.Store self.old.store.journal).prepared) }
         ensures stays_in_epoch { OnOk result (StaysInEpoch S.Store self.old self.new) }
@@ -43,12 +42,11 @@ impl<S: Alter> Session<S> {
         ensures clean { Clean S.Store self.new.store.journal → Clean S.Store self.old.store.journal }
         ensures crash { LeavesWritten S.Store self.old.store self.new.store }
     {
-        if t.life != self.life {
+        let Some(number) = self.names.number_of(t) else {
             let known = self.store.state_of(alloc, &key)?;
-            let answer = foreign(self.store.prepared(), t);
-            return Ok(foreign_under(answer, known));
-        }
-        let came = self.store.commit_under(alloc, t.number, key)?;
+            return Ok(unknown_under(known));
+        };
+        let came = self.store.commit_under(alloc, number, key)?;
         Ok(commit_under_answer(came))
     }
 
@@ -65,7 +63,7 @@ impl<S: Alter> Session<S> {
         key: TransactionKey,
     ) -> Result<AnswerLine, JournalError>
         requires { IsDurable S.Store self.old.store }
-        ensures does { IfOk result (λ a. DoesDoUnder (Clean S.Store self.new.store.journal) (limit_while self.old.waiting self.old.most_events) self.old.life (written S.Store self.old.store.journal) self.old.store.prepared.items self.old.store.store calls.now key a self.new.store.store) }
+        ensures does { IfOk result (λ a. DoesDoUnder (Clean S.Store self.new.store.journal) (begins_until self.old) self.old.names (written S.Store self.old.store.journal) self.old.store.store calls.now key a self.new.store.store) }
         ensures keys { IfOk result (λ a. Clean S.Store self.new.store.journal → (written S.Store self.new.store.journal).outcomes ≡ outcomes_after (kept_by (request.DoUnder key) a) (written S.Store self.old.store.journal).outcomes) }
         ensures rows { OnOk result (Clean S.Store self.new.store.journal → (written S.Store self.new.store.journal).prepared ≡ (written S.Store self.old.store.journal).prepared) }
         ensures stays_in_epoch { OnOk result (StaysInEpoch S.Store self.old self.new) }
@@ -80,7 +78,7 @@ impl<S: Alter> Session<S> {
         }
         let made = self.calls_at(alloc, calls)?;
         let came = self.store.attempt_under(alloc, &made, key)?;
-        Ok(do_under_answer(self.life, self.store.prepared(), came))
+        Ok(do_under_answer(&self.names, came))
     }
 
     /// What became of the transaction that has this key. It is answered only once that is settled.
@@ -131,12 +129,12 @@ fn commit_under_answer(came: Keyed<Denial>) -> AnswerLine
     }
 }
 
-/// What one is answered whose transaction is of another life, which is answered this where the key is free.
-fn foreign_under(answer: AnswerLine, known: KeyState) -> AnswerLine
-    ensures { result ≡ foreign_under answer known }
+/// What one is answered that names a transaction that nobody has.
+fn unknown_under(known: KeyState) -> AnswerLine
+    ensures { result ≡ unknown_under known }
 {
     match known {
-        KeyState::Free => answer,
+        KeyState::Free => not_open(),
         KeyState::Known(known) => committed_before(known),
         KeyState::Prepared => key_refused(KeyRefusal::Prepared),
         KeyState::Taken => key_refused(KeyRefusal::Taken),
@@ -156,12 +154,12 @@ fn done_before(known: Outcome) -> AnswerLine
 }
 
 /// What a whole transaction under a key is answered.
-fn do_under_answer(life: u32, prepared: &[Prepared], came: Keyed<Unfinished>) -> AnswerLine
-    ensures { result ≡ do_under_answer life prepared.now came }
+fn do_under_answer(names: &Names, came: Keyed<Unfinished>) -> AnswerLine
+    ensures { result ≡ do_under_answer names.now came }
 {
     match came {
         Keyed::Done(kept) => done_before(kept),
-        Keyed::Undone(Unfinished::Ended { at, how }) => ended_answer(life, prepared, at, how),
+        Keyed::Undone(Unfinished::Ended { at, how }) => ended_answer(names, at, how),
         Keyed::Undone(Unfinished::NotBegun(refusal)) => AnswerLine::Refused { refusal },
         Keyed::Known(known) => done_before(known),
         Keyed::Prepared => key_refused(KeyRefusal::Prepared),

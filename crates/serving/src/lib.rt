@@ -10,6 +10,7 @@ mod epoch;
 mod epoch_limits;
 mod extension;
 mod held_text;
+mod held_transactions;
 mod keys;
 mod laws;
 mod names;
@@ -22,7 +23,7 @@ mod votes;
 mod whole;
 
 pub use additions::{Added, AdditionFault, Additions, NoAdditions};
-pub use answer_line::{AnswerLine, Answered, KeyRefusal, Moment};
+pub use answer_line::{AnswerLine, Answered, HeldTransaction, KeyRefusal, Moment};
 pub use answer_text::write_answer;
 pub use archive::{Archive, ArchiveFault, NoArchive};
 pub use client::Client;
@@ -32,6 +33,7 @@ pub use laws::{
     told_answers_are_found, told_commits_are_found, told_keys_are_found,
     told_transactions_are_found,
 };
+pub use names::{Carried, Names};
 pub use serve_fault::ServeFault;
 pub use server::Server;
 pub use service::serve;

@@ -30,7 +30,7 @@ impl<S: Alter> Session<S> {
         calls: &[AskedCall],
     ) -> Result<AnswerLine, JournalError>
         requires { IsDurable S.Store self.now.store }
-        ensures { IfOk result (λ a. DoesPeek (Clean S.Store self.now.store.journal) self.now.life (written S.Store self.now.store.journal).objects self.now.store.store calls.now a self.now.store.store) }
+        ensures { IfOk result (λ a. DoesPeek (Clean S.Store self.now.store.journal) self.now.names.life (written S.Store self.now.store.journal).objects self.now.store.store calls.now a self.now.store.store) }
     {
         let mut replies = Vec::with_capacity(alloc, calls.len())?;
         for at in 0..calls.len() {
@@ -74,7 +74,7 @@ impl<S: Alter> Session<S> {
         objects: &[ObjectWord],
     ) -> Result<AnswerLine, JournalError>
         requires { IsDurable S.Store self.now.store }
-        ensures { IfOk result (λ a. DoesCommitted (Clean S.Store self.now.store.journal) self.now.life (written S.Store self.now.store.journal).objects self.now.store.store objects.now a self.now.store.store) }
+        ensures { IfOk result (λ a. DoesCommitted (Clean S.Store self.now.store.journal) self.now.names.life (written S.Store self.now.store.journal).objects self.now.store.store objects.now a self.now.store.store) }
     {
         let mut states = Vec::with_capacity(alloc, objects.len())?;
         for at in 0..objects.len() {
@@ -95,10 +95,10 @@ impl<S: Alter> Session<S> {
 
     /// The present moment.
     fn moment(&self) -> Moment
-        ensures { result ≡ moment_of self.now.life self.now.store.store }
+        ensures { result ≡ moment_of self.now.names.life self.now.store.store }
     {
         Moment {
-            life: self.life,
+            life: self.names.life(),
             commits: self.store.store().commit_count(),
         }
     }

@@ -1,32 +1,31 @@
 //! A client is served, group by group: its lines are done, what they wrote becomes durable, and then it gets the answers.
 
-ghost use Rattle.std.specs.Prelude.{◌≡◌, ◌≤◌, ◌+◌, None, OnOk, List, ℕ, true, IsSome, ◌<◌, length, MatchResult, OnErr, [], ◌++◌, Option, IfOk, IsTrue, false};
+ghost use Rattle.std.specs.Prelude.{◌≡◌, ◌≤◌, ◌+◌, None, OnOk, List, ℕ, true, IsSome, ◌<◌, length, MatchResult, IfErr, OnErr, [], ◌++◌, Option, IfOk, IsTrue, false};
 ghost use Rattle.journal.specs.Journal.{Clean, ShowsCommit, durable, written};
 ghost use Rattle.durable_store.specs.Durable.{IsDurable};
 ghost use Rattle.serving.specs.declared.answer_line.Answered.{Answered as Told};
 ghost use Rattle.serving.specs.declared.session.Session.{Session as Began};
 ghost use Rattle.serving.specs.Follows.{LeavesMore, LeavesWritten};
 ghost use Rattle.serving.specs.Lines.{is_end};
-ghost use Rattle.serving.specs.Server.{DoesLine, StaysInEpoch, HasServed, ServesBytes, TakesByte};
+ghost use Rattle.serving.specs.Server.{DoesLine, StaysInEpoch, HasServed, MayEndNow, ServesBytes, TakesByte, full_at};
 ghost use Rattle.std.specs.Io.KnownBytes.{Consumes, IsAtEnd};
 ghost use Rattle.outputs.specs.Gathered.{taken_by, under};
 ghost use Rattle.serving.specs.Acknowledged.{NoneLast, StopsSafely, TellsSafely};
 ghost use Rattle.serving.specs.Left.{LeavesLines, Survives, began_at};
 ghost use Rattle.serving.specs.Epochs.{LeavesEpochs, WritesEpochs};
 ghost use Rattle.serving.specs.Group.{HasTold, IsUnasked, StopsTelling, IsMore, known_from};
-ghost use Rattle.serial_order.specs.History.{summary};
-ghost use Rattle.serial_order.specs.Replay.{open_count};
 ghost use Rattle.serving.specs.Does.{is_epoch_full};
 ghost use Rattle.serving.specs.EpochEnd.{EndsEpoch};
-ghost use Rattle.serving.specs.NextEpoch.{limit_while};
 ghost use Rattle.serving.specs.Requests.{LetsGo};
 ghost use Rattle.serving.specs.Told.{has_lasting, is_lasting};
+ghost use Rattle.serving.specs.Whole.{session_of};
 
 use crate::additions::Additions;
 use crate::answer_line::{AnswerLine, Answered, is_lasting};
 use crate::archive::Archive;
 use crate::client::Client;
 use crate::extension::Extension;
+use crate::names::Names;
 use crate::serve_fault::ServeFault;
 use crate::session::{Session, is_full};
 use durable_store::Durable;
@@ -34,7 +33,7 @@ use journal::JournalError;
 use outputs::Out;
 use request_text::{Asked, Request, RequestFault, read_line};
 use sqlite_trees::store::Alter;
-use std::alloc::Global;
+use std::alloc::{AllocError, Global};
 use std::io::Read;
 use std::rt::Clock;
 use std::time::{Duration, Instant};
@@ -57,17 +56,24 @@ pub struct Server<S: Alter> {
 
 impl<S: Alter> Server<S> {
     /// A server of this store, which was asked nothing yet, with epochs that are full with this many events.
-    pub fn new(alloc: Global, store: Durable<S>, most_events: u32) -> Server<S>
-        ensures fresh { IsUnasked result }
-        ensures store { result.session.store ≡ store }
-        ensures life { result.session.life ≡ store.journal.header.life }
-        ensures most { result.session.most_events ≡ most_events }
+    ///
+    /// # Errors
+    ///
+    /// Memory was refused: the store, as it was.
+    pub fn new(alloc: Global, store: Durable<S>, most_events: u32) -> Result<Server<S>, Durable<S>>
+        ensures fresh { IfOk result IsUnasked }
+        ensures begun { IfOk result (λ server. server.session ≡ session_of most_events store) }
+        ensures store { IfOk result (λ server. server.session.store ≡ store) }
+        ensures refused { IfErr result (λ kept. kept ≡ store) }
     {
-        let life = store.life();
-        Server {
+        let names = match Names::given(alloc, store.life(), store.prepared()) {
+            Ok(names) => names,
+            Err(AllocError) => return Err(store),
+        };
+        Ok(Server {
             session: Session {
                 store,
-                life,
+                names,
                 most_events,
                 waiting: None,
             },
@@ -75,7 +81,7 @@ impl<S: Alter> Server<S> {
             answers: Vec::new(alloc),
             end: None,
             full_since: None,
-        }
+        })
     }
 
     /// The line that asked for the end, where one did.
@@ -99,7 +105,7 @@ impl<S: Alter> Server<S> {
         } = self;
         let Session {
             store,
-            life: _,
+            names: _,
             most_events: _,
             waiting,
         } = session;
@@ -107,8 +113,9 @@ impl<S: Alter> Server<S> {
     }
 
     /// Serves the client, group by group: what it asks is read into the buffer, as much as is there. An epoch that is full
-    /// ends where nothing is open but what is prepared, or where what is open went on as long as the limits say; the archive keeps its history, where it
-    /// asks for any, before the file begins anew. At `Ok` the client asked for the end, or the input has ended, and it got
+    /// ends behind its group where each yes is strong, and all that is open goes over; else where nothing is open but what is
+    /// prepared, or where what is open went on as long as the limits say. The archive keeps its history, where it asks for any,
+    /// before the file begins anew. At `Ok` the client asked for the end, or the input has ended, and it got
     /// the answers to all whole lines before, in their order. However it ends, each commit that was answered survives a
     /// crash, where all that was written was durable as it began.
     ///
@@ -193,7 +200,8 @@ impl<S: Alter> Server<S> {
         let mut server = self;
         match server.serve_group(alloc, additions, input, buffer, client) {
             Ok(true) => server.next_epoch(clock, alloc, drain, archive, client),
-            served => (server, served),
+            Ok(false) => (server, Ok(false)),
+            Err(fault) => (server, Err(fault)),
         }
     }
 
@@ -472,8 +480,8 @@ impl<S: Alter> Server<S> {
             → TellsSafely S.Store began given taken result.0 given_now (taken_by W.taken client.new.out)) }
         ensures stops { OnErr result.1 ((began : Began S) (given taken given_now : Option (List ℕ)) → TellsSafely S.Store began given taken self given_now (taken_by W.taken client.old.out)
             → StopsSafely S.Store began given taken result.0.session.store (taken_by W.taken client.new.out)) }
-        ensures ends { OnOk result.1 (is_epoch_full (limit_while self.session.waiting self.session.most_events) self.session.store.store ≡ true → open_count (summary self.session.store.store.history) ≤ length self.session.store.prepared.items
-            → EndsEpoch S.Store self.session.waiting self.session.store result.0.session.store) }
+        ensures ends { OnOk result.1 (is_epoch_full (full_at self.session) self.session.store.store ≡ true → MayEndNow self.session
+            → EndsEpoch S.Store self.session.store.strong self.session.waiting self.session.store result.0.session.store) }
         ensures more { IfOk result.1 (λ more. more ≡ true) }
         ensures asked { result.0.end ≡ None }
         ensures told { result.0.answers ≡ self.answers }
@@ -511,18 +519,20 @@ impl<S: Alter> Server<S> {
         }
     }
 
-    /// Whether the epoch is over: it is full or an extension waits, and nothing is open but what is prepared, or the open ones
-    /// had their time.
+    /// Whether the epoch is over: it is full or an extension waits, and what is open goes over, or nothing is but what is prepared,
+    /// or the open ones had their time.
     fn is_over<C: Clock>(&mut self, clock: &C, drain: Duration) -> bool
-        ensures full { result ≡ true → is_epoch_full (limit_while self.old.session.waiting self.old.session.most_events) self.old.session.store.store ≡ true }
-        ensures over { is_epoch_full (limit_while self.old.session.waiting self.old.session.most_events) self.old.session.store.store ≡ true
-            → open_count (summary self.old.session.store.store.history) ≤ length self.old.session.store.prepared.items → result ≡ true }
+        ensures full { result ≡ true → is_epoch_full (full_at self.old.session) self.old.session.store.store ≡ true }
+        ensures over { is_epoch_full (full_at self.old.session) self.old.session.store.store ≡ true → MayEndNow self.old.session → result ≡ true }
         ensures others { self.new ≡ record self.old { full_since = self.new.full_since } }
     {
-        let limit = self.session.limit();
+        let limit = self.session.full_at();
         let store = self.session.store.store();
         if !is_full(store, limit) {
             return false;
+        }
+        if self.session.store.is_strong() {
+            return true;
         }
         if store.open_count() as usize <= self.session.store.prepared().len() {
             return true;

@@ -1,6 +1,6 @@
 //! A durable store that one client asks: what each request does, and what it is answered.
 
-ghost use Rattle.std.specs.Prelude.{◌≡◌, ℕ, IfOk, OnOk, MatchResult, ◌<◌, None, Option};
+ghost use Rattle.std.specs.Prelude.{◌≡◌, ℕ, IfOk, OnOk, MatchResult, ◌<◌, None, Option, length};
 ghost use Rattle.journal.specs.Journal.{Clean, written, ShowsCommit, durable};
 ghost use Rattle.durable_store.specs.Durable.{IsDurable};
 ghost use Rattle.serving.specs.Follows.{LeavesWritten};
@@ -10,10 +10,11 @@ ghost use Rattle.serving.specs.Means.{Means};
 ghost use Rattle.serving.specs.Requests.{LetsGo, found_answer, TellsEvents, TellsObjects, TellsTypes, events_from, DoesRequest};
 ghost use Rattle.request_text.specs.Requests.{asked_by};
 ghost use Rattle.serving.specs.Lines.{is_taken};
-ghost use Rattle.serving.specs.NextEpoch.{MayWait, late_answer, limit_while};
+ghost use Rattle.serving.specs.NextEpoch.{MayWait, late_answer};
 ghost use Rattle.serving.specs.Keys.{kept_answered, kept_by, outcomes_after};
 ghost use Rattle.serving.specs.Prepared.{prepared_after, prepared_answered};
-ghost use Rattle.serving.specs.Server.{DoesAsked, KeepsAll, StaysInEpoch, life_of};
+ghost use Rattle.serving.specs.Names.{AreCarriedOver};
+ghost use Rattle.serving.specs.Server.{DoesAsked, KeepsAll, StaysInEpoch, begins_until, full_at, life_of};
 ghost use Rattle.serving.specs.Does.{DoesAbort, DoesBegin, DoesCall, DoesCommit, DoesRollback, done_or, is_epoch_full, DoesKept, DoesStats, DoesWould, reply_of};
 ghost use Rattle.serving.specs.EpochEnd.{EndsEpoch, LeavesEnd};
 ghost use Rattle.serving.specs.Epochs.{LeavesEpochs, WritesEpochs};
@@ -23,7 +24,7 @@ use crate::answer_line::{AnswerLine, Answered};
 use crate::archive::Archive;
 use crate::epoch::end_epoch;
 use crate::extension::Extension;
-use crate::names::{denied_answer, foreign, unless_refused};
+use crate::names::{Carried, Names, denied_answer, not_open, unless_refused};
 use crate::serve_fault::ServeFault;
 use durable_store::{Denial, Durable, op_at};
 use journal::JournalError;
@@ -35,30 +36,41 @@ use request_text::{
 };
 use serial_order::Refusal;
 use sqlite_trees::store::Alter;
-use std::alloc::Global;
+use std::alloc::{AllocError, Global};
 use store::Store;
 use type_table::{Name, Operation};
 
 /// The most events of one answer.
 const MOST_TOLD: u32 = 65_536;
 
-/// A durable store that one client asks, the number of its life, with which it names its transactions, with how many
-/// events an epoch is full, and what waits to be added where another begins: until then no transaction begins.
+/// A durable store that one client asks, by which names the client knows its transactions, with how many events more than it
+/// began with an epoch is full, and what waits to be added where another begins.
 pub struct Session<S: Alter> {
     pub store: Durable<S>,
-    pub life: u32,
+    pub names: Names,
     pub most_events: u32,
     pub waiting: Option<Extension>,
 }
 
 impl<S: Alter> Session<S> {
-    /// With how many events the present epoch is full.
-    pub(crate) fn limit(&self) -> u32
-        ensures { result ≡ limit_while self.now.waiting self.now.most_events }
+    /// With how many events the present epoch is full: with none where an extension waits.
+    pub(crate) fn full_at(&self) -> u32
+        ensures { result ≡ full_at self.now }
     {
         match self.waiting {
             Some(_) => 0,
-            None => self.most_events,
+            None => self.names.full_with(self.most_events),
+        }
+    }
+
+    /// With how many events no transaction begins: where all that is open goes over, with more than there can be.
+    pub(crate) fn limit(&self) -> u32
+        ensures { result ≡ begins_until self.now }
+    {
+        if self.store.is_strong() {
+            u32::MAX
+        } else {
+            self.full_at()
         }
     }
 
@@ -134,10 +146,10 @@ impl<S: Alter> Session<S> {
         asked: Result<Request, RequestFault>,
     ) -> Result<AnswerLine, JournalError>
         requires { IsDurable S.Store self.old.store }
-        ensures does { IfOk result (λ a. MatchResult asked (λ request. DoesRequest (Clean S.Store self.new.store.journal) (limit_while self.old.waiting self.old.most_events) self.old.life (written S.Store self.old.store.journal) self.old.store.prepared.items line.now self.old.store.store request a self.new.store.store)
+        ensures does { IfOk result (λ a. MatchResult asked (λ request. DoesRequest (Clean S.Store self.new.store.journal) (begins_until self.old) self.old.names (written S.Store self.old.store.journal) self.old.store.prepared.items line.now self.old.store.store request a self.new.store.store)
             (λ fault. (a ≡ AnswerLine.Fault fault) × (self.new.store.store ≡ self.old.store.store))) }
         ensures keys { IfOk result (λ a. Clean S.Store self.new.store.journal → (written S.Store self.new.store.journal).outcomes ≡ outcomes_after (kept_answered asked a) (written S.Store self.old.store.journal).outcomes) }
-        ensures rows { IfOk result (λ a. Clean S.Store self.new.store.journal → (written S.Store self.new.store.journal).prepared ≡ prepared_answered asked a (written S.Store self.old.store.journal).prepared) }
+        ensures rows { IfOk result (λ a. Clean S.Store self.new.store.journal → (written S.Store self.new.store.journal).prepared ≡ prepared_answered self.old.names asked a (written S.Store self.old.store.journal).prepared) }
         ensures stays_in_epoch { OnOk result (StaysInEpoch S.Store self.old self.new) }
         ensures waits { self.new.waiting ≡ self.old.waiting }
         ensures clean { Clean S.Store self.new.store.journal → Clean S.Store self.old.store.journal }
@@ -162,9 +174,9 @@ impl<S: Alter> Session<S> {
         request: Request,
     ) -> Result<AnswerLine, JournalError>
         requires { IsDurable S.Store self.old.store }
-        ensures does { IfOk result (λ a. DoesRequest (Clean S.Store self.new.store.journal) (limit_while self.old.waiting self.old.most_events) self.old.life (written S.Store self.old.store.journal) self.old.store.prepared.items line.now self.old.store.store request a self.new.store.store) }
+        ensures does { IfOk result (λ a. DoesRequest (Clean S.Store self.new.store.journal) (begins_until self.old) self.old.names (written S.Store self.old.store.journal) self.old.store.prepared.items line.now self.old.store.store request a self.new.store.store) }
         ensures keys { IfOk result (λ a. Clean S.Store self.new.store.journal → (written S.Store self.new.store.journal).outcomes ≡ outcomes_after (kept_by request a) (written S.Store self.old.store.journal).outcomes) }
-        ensures rows { IfOk result (λ a. Clean S.Store self.new.store.journal → (written S.Store self.new.store.journal).prepared ≡ prepared_after request a (written S.Store self.old.store.journal).prepared) }
+        ensures rows { IfOk result (λ a. Clean S.Store self.new.store.journal → (written S.Store self.new.store.journal).prepared ≡ prepared_after self.old.names request a (written S.Store self.old.store.journal).prepared) }
         ensures stays_in_epoch { OnOk result (StaysInEpoch S.Store self.old self.new) }
         ensures waits { self.new.waiting ≡ self.old.waiting }
         ensures clean { Clean S.Store self.new.store.journal → Clean S.Store self.old.store.journal }
@@ -209,10 +221,10 @@ impl<S: Alter> Session<S> {
         }
     }
 
-    /// Begins a transaction, but for an epoch that is full.
+    /// Begins a transaction, but for an epoch that is full where what is open can't go over.
     pub(crate) fn begin(&mut self) -> Result<AnswerLine, JournalError>
         requires { IsDurable S.Store self.old.store }
-        ensures does { IfOk result (λ a. DoesBegin (limit_while self.old.waiting self.old.most_events) self.old.life self.old.store.store a self.new.store.store) }
+        ensures does { IfOk result (λ a. DoesBegin (begins_until self.old) self.old.names.life self.old.store.store a self.new.store.store) }
         ensures keyless { OnOk result (KeepsAll S.Store self.old.store self.new.store) }
         ensures stays_in_epoch { OnOk result (StaysInEpoch S.Store self.old self.new) }
         ensures waits { self.new.waiting ≡ self.old.waiting }
@@ -226,7 +238,7 @@ impl<S: Alter> Session<S> {
         match self.store.begin()? {
             Ok(number) => {
                 let t = TransactionName {
-                    life: self.life,
+                    life: self.names.life(),
                     number,
                 };
                 Ok(AnswerLine::Begun { t })
@@ -243,51 +255,51 @@ impl<S: Alter> Session<S> {
         name: Name,
     ) -> Result<AnswerLine, JournalError>
         requires { IsDurable S.Store self.old.store }
-        ensures does { IfOk result (λ a. DoesCall self.old.life self.old.store.prepared.items self.old.store.store t x name a self.new.store.store) }
+        ensures does { IfOk result (λ a. DoesCall self.old.names self.old.store.prepared.items self.old.store.store t x name a self.new.store.store) }
         ensures keyless { OnOk result (KeepsAll S.Store self.old.store self.new.store) }
         ensures stays_in_epoch { OnOk result (StaysInEpoch S.Store self.old self.new) }
         ensures waits { self.new.waiting ≡ self.old.waiting }
         ensures clean { Clean S.Store self.new.store.journal → Clean S.Store self.old.store.journal }
         ensures crash { LeavesWritten S.Store self.old.store self.new.store }
     {
-        if t.life != self.life {
-            return Ok(foreign(self.store.prepared(), t));
-        }
-        let answer = self.store.call(t.number, x, name.as_bytes())?;
+        let Some(number) = self.names.number_of(t) else {
+            return Ok(not_open());
+        };
+        let answer = self.store.call(number, x, name.as_bytes())?;
         Ok(self.call_answer(x, &answer))
     }
 
     /// Commits a transaction. It is answered only once it is settled.
     pub(crate) fn commit(&mut self, t: TransactionName) -> Result<AnswerLine, JournalError>
         requires { IsDurable S.Store self.old.store }
-        ensures does { IfOk result (λ a. DoesCommit self.old.life self.old.store.prepared.items self.old.store.store t a self.new.store.store) }
+        ensures does { IfOk result (λ a. DoesCommit self.old.names self.old.store.prepared.items self.old.store.store t a self.new.store.store) }
         ensures keyless { OnOk result (KeepsAll S.Store self.old.store self.new.store) }
         ensures stays_in_epoch { OnOk result (StaysInEpoch S.Store self.old self.new) }
         ensures waits { self.new.waiting ≡ self.old.waiting }
         ensures clean { Clean S.Store self.new.store.journal → Clean S.Store self.old.store.journal }
         ensures crash { LeavesWritten S.Store self.old.store self.new.store }
     {
-        if t.life != self.life {
-            return Ok(foreign(self.store.prepared(), t));
-        }
-        let ended = self.store.commit(t.number)?;
+        let Some(number) = self.names.number_of(t) else {
+            return Ok(not_open());
+        };
+        let ended = self.store.commit(number)?;
         Ok(done_or(AnswerLine::Committed, ended))
     }
 
     /// Aborts a transaction.
     pub(crate) fn abort(&mut self, t: TransactionName) -> Result<AnswerLine, JournalError>
         requires { IsDurable S.Store self.old.store }
-        ensures does { IfOk result (λ a. DoesAbort self.old.life self.old.store.prepared.items self.old.store.store t a self.new.store.store) }
+        ensures does { IfOk result (λ a. DoesAbort self.old.names self.old.store.prepared.items self.old.store.store t a self.new.store.store) }
         ensures keyless { OnOk result (KeepsAll S.Store self.old.store self.new.store) }
         ensures stays_in_epoch { OnOk result (StaysInEpoch S.Store self.old self.new) }
         ensures waits { self.new.waiting ≡ self.old.waiting }
         ensures clean { Clean S.Store self.new.store.journal → Clean S.Store self.old.store.journal }
         ensures crash { LeavesWritten S.Store self.old.store self.new.store }
     {
-        if t.life != self.life {
-            return Ok(foreign(self.store.prepared(), t));
-        }
-        let ended = self.store.abort(t.number)?;
+        let Some(number) = self.names.number_of(t) else {
+            return Ok(not_open());
+        };
+        let ended = self.store.abort(number)?;
         Ok(done_or(AnswerLine::Done, ended))
     }
 
@@ -298,31 +310,31 @@ impl<S: Alter> Session<S> {
         count: u32,
     ) -> Result<AnswerLine, JournalError>
         requires { IsDurable S.Store self.old.store }
-        ensures does { IfOk result (λ a. DoesRollback self.old.life self.old.store.prepared.items self.old.store.store t count a self.new.store.store) }
+        ensures does { IfOk result (λ a. DoesRollback self.old.names self.old.store.prepared.items self.old.store.store t count a self.new.store.store) }
         ensures keyless { OnOk result (KeepsAll S.Store self.old.store self.new.store) }
         ensures stays_in_epoch { OnOk result (StaysInEpoch S.Store self.old self.new) }
         ensures waits { self.new.waiting ≡ self.old.waiting }
         ensures clean { Clean S.Store self.new.store.journal → Clean S.Store self.old.store.journal }
         ensures crash { LeavesWritten S.Store self.old.store self.new.store }
     {
-        if t.life != self.life {
-            return Ok(foreign(self.store.prepared(), t));
-        }
-        let struck = self.store.rollback(t.number, count)?;
+        let Some(number) = self.names.number_of(t) else {
+            return Ok(not_open());
+        };
+        let struck = self.store.rollback(number, count)?;
         Ok(done_or(AnswerLine::Done, struck))
     }
 
     /// What a call would be answered now.
     pub(crate) fn would(&self, t: TransactionName, x: u32, name: Name) -> AnswerLine
-        ensures { DoesWould self.now.life self.now.store.prepared.items self.now.store.store t x name result self.now.store.store }
+        ensures { DoesWould self.now.names self.now.store.prepared.items self.now.store.store t x name result self.now.store.store }
     {
-        if t.life != self.life {
-            return foreign(self.store.prepared(), t);
-        }
-        if self.store.is_prepared(t.number) {
+        let Some(number) = self.names.number_of(t) else {
+            return not_open();
+        };
+        if self.store.is_prepared(number) {
             return AnswerLine::IsPrepared;
         }
-        let answer = self.store.store().would_bytes(t.number, x, name.as_bytes());
+        let answer = self.store.store().would_bytes(number, x, name.as_bytes());
         self.call_answer(x, &unless_refused(answer))
     }
 
@@ -464,8 +476,8 @@ impl<S: Alter> Session<S> {
         self.store.settle()
     }
 
-    /// Aborts what is open, gives the history of the epoch to the archive, and begins another epoch, all of it durable:
-    /// with the objects of what waits, which is answered then.
+    /// Gives the history of the epoch to the archive, and begins another one, all of it durable: with the objects of what waits,
+    /// which is answered then. What is open goes over where each yes is strong, and else is aborted before if it isn't prepared.
     ///
     /// # Errors
     ///
@@ -478,12 +490,14 @@ impl<S: Alter> Session<S> {
         requires { IsDurable S.Store self.store }
         ensures late { IfOk result.1 (λ late. late ≡ late_answer self.waiting self.store.store) }
         ensures sound { OnOk result.1 (IsDurable S.Store result.0.store) }
-        ensures ends { OnOk result.1 (EndsEpoch S.Store self.waiting self.store result.0.store) }
+        ensures ends { OnOk result.1 (EndsEpoch S.Store self.store.strong self.waiting self.store result.0.store) }
         ensures writes { OnOk result.1 (WritesEpochs S.Store self.store result.0.store (A.kept archive.old) (A.kept archive.new)) }
         ensures shows { OnOk result.1 (ShowsCommit S.Store result.0.store.journal) }
         ensures settled { OnOk result.1 (Clean S.Store result.0.store.journal → durable S.Store result.0.store.journal ≡ written S.Store result.0.store.journal) }
-        ensures left { LeavesEnd S.Store self.waiting self.store result.0.store }
-        ensures named { result.0.life ≡ life_of result.0.store }
+        ensures left { LeavesEnd S.Store self.store.strong self.waiting self.store result.0.store }
+        ensures named { result.0.names.life ≡ life_of result.0.store }
+        ensures carried { OnOk result.1 (AreCarriedOver self.names self.store.strong self.store.store.history self.store.prepared.items result.0.names.carried) }
+        ensures counted { OnOk result.1 (result.0.names.begun_with ≡ length result.0.store.store.history) }
         ensures most { result.0.most_events ≡ self.most_events }
         ensures none_waits { result.0.waiting ≡ None }
         ensures clean { Clean S.Store result.0.store.journal → Clean S.Store self.store.journal }
@@ -491,19 +505,55 @@ impl<S: Alter> Session<S> {
     {
         let Session {
             store,
-            life: _,
+            names,
             most_events,
             waiting,
         } = self;
-        let (store, ended) = end_epoch(alloc, store, waiting, archive);
-        let life = store.life();
-        let session = Session {
-            store,
-            life,
-            most_events,
-            waiting: None,
+        let carried = match carried_over(alloc, &store, &names) {
+            Ok(carried) => carried,
+            Err(AllocError) => {
+                let session = begun(store, Vec::new(alloc), most_events);
+                return (session, Err(ServeFault::NoMemory));
+            }
         };
-        (session, ended)
+        let goes = store.is_strong();
+        let (store, ended) = end_epoch(alloc, store, goes, waiting, archive);
+        (begun(store, carried, most_events), ended)
+    }
+}
+
+/// What goes over from this store, each by the name by which it is known.
+///
+/// # Errors
+///
+/// Memory was refused.
+fn carried_over<S: Alter>(
+    alloc: Global,
+    store: &Durable<S>,
+    names: &Names,
+) -> Result<Vec<Carried>, AllocError>
+    ensures { IfOk result (λ carried. AreCarriedOver names.now store.now.strong store.now.store.history store.now.prepared.items carried.items) }
+{
+    let those = store.going_over(alloc)?;
+    names.carried_over(alloc, &those)
+}
+
+/// A session of this store, into whose life these were carried.
+fn begun<S: Alter>(store: Durable<S>, carried: Vec<Carried>, most_events: u32) -> Session<S>
+    ensures store { result.store ≡ store }
+    ensures life { result.names.life ≡ life_of store }
+    ensures carried { result.names.carried ≡ carried.items }
+    ensures counted { result.names.begun_with ≡ length store.store.history }
+    ensures most { result.most_events ≡ most_events }
+    ensures none_waits { result.waiting ≡ None }
+{
+    let life = store.life();
+    let begun_with = store.store().event_count();
+    Session {
+        store,
+        names: Names::new(life, carried, begun_with),
+        most_events,
+        waiting: None,
     }
 }
 

@@ -6,16 +6,15 @@ ghost use Rattle.durable_store.specs.Durable.{IsDurable};
 ghost use Rattle.request_text.specs.declared.request.Request.TheVariants as request;
 ghost use Rattle.serving.specs.Follows.{LeavesWritten};
 ghost use Rattle.serving.specs.Keys.{kept_by, outcomes_after};
-ghost use Rattle.serving.specs.Prepared.{DoesDecide, DoesHeld, DoesPrepare, decision_of, foreign_vote, prepared_after, verdict_answer, vote_answer};
+ghost use Rattle.serving.specs.Prepared.{DoesDecide, DoesPrepare, decision_of, prepared_after, verdict_answer, vote_answer};
 ghost use Rattle.serving.specs.Server.{KeepsAll, StaysInEpoch};
 
 use crate::answer_line::{AnswerLine, KeyRefusal};
-use crate::names::given;
+use crate::names::not_open;
 use crate::session::Session;
 use durable_store::{Decision, Verdict, Vote};
 use journal::{GivenName, JournalError, Outcome, Prepared};
 use request_text::TransactionName;
-use serial_order::Refusal;
 use sqlite_trees::store::Alter;
 use std::alloc::Global;
 use transaction_key::TransactionKey;
@@ -34,17 +33,17 @@ impl<S: Alter> Session<S> {
         until: u32,
     ) -> Result<AnswerLine, JournalError>
         requires { IsDurable S.Store self.old.store }
-        ensures does { IfOk result (λ a. DoesPrepare (Clean S.Store self.new.store.journal) self.old.life (written S.Store self.old.store.journal) self.old.store.prepared.items self.old.store.store t key until a self.new.store.store) }
+        ensures does { IfOk result (λ a. DoesPrepare (Clean S.Store self.new.store.journal) self.old.names (written S.Store self.old.store.journal) self.old.store.store t key until a self.new.store.store) }
         ensures keys { OnOk result (Clean S.Store self.new.store.journal → (written S.Store self.new.store.journal).outcomes ≡ (written S.Store self.old.store.journal).outcomes) }
-        ensures rows { IfOk result (λ a. Clean S.Store self.new.store.journal → (written S.Store self.new.store.journal).prepared ≡ prepared_after (request.Prepare t key until) a (written S.Store self.old.store.journal).prepared) }
+        ensures rows { IfOk result (λ a. Clean S.Store self.new.store.journal → (written S.Store self.new.store.journal).prepared ≡ prepared_after self.old.names (request.Prepare t key until) a (written S.Store self.old.store.journal).prepared) }
         ensures stays_in_epoch { OnOk result (StaysInEpoch S.Store self.old self.new) }
         ensures waits { self.new.waiting ≡ self.old.waiting }
         ensures clean { Clean S.Store self.new.store.journal → Clean S.Store self.old.store.journal }
         ensures crash { LeavesWritten S.Store self.old.store self.new.store }
     {
-        if t.life != self.life {
-            return Ok(foreign_vote(self.store.prepared(), t, &key));
-        }
+        let Some(number) = self.names.number_of(t) else {
+            return Ok(not_open());
+        };
         let given = GivenName {
             life: t.life,
             number: t.number,
@@ -52,7 +51,7 @@ impl<S: Alter> Session<S> {
         let prepared = Prepared {
             key,
             given,
-            number: t.number,
+            number,
             until,
         };
         let vote = self.store.prepare(alloc, prepared)?;
@@ -81,29 +80,6 @@ impl<S: Alter> Session<S> {
     {
         let verdict = self.store.decide(alloc, key, decision_of(decision))?;
         Ok(verdict_answer(verdict))
-    }
-
-    /// The transactions that are prepared. It is answered only once that is settled.
-    ///
-    /// # Errors
-    ///
-    /// Memory was refused.
-    pub(crate) fn held(&self, alloc: Global) -> Result<AnswerLine, JournalError>
-        ensures { IfOk result (λ a. DoesHeld self.now.store.prepared.items self.now.store.store a self.now.store.store) }
-    {
-        let prepared = Vec::from_slice(alloc, self.store.prepared())?;
-        Ok(AnswerLine::Held { prepared })
-    }
-}
-
-/// What one of another life is answered that is to be prepared under this key.
-fn foreign_vote(prepared: &[Prepared], t: TransactionName, key: &TransactionKey) -> AnswerLine
-    ensures { result ≡ foreign_vote prepared.now t key.now }
-{
-    match given(prepared, t) {
-        None => not_open(),
-        Some(p) if p.key == *key => AnswerLine::VotedBefore,
-        Some(_) => AnswerLine::IsPrepared,
     }
 }
 
@@ -142,15 +118,6 @@ fn verdict_answer(verdict: Verdict) -> AnswerLine
         Verdict::Otherwise(_) => key_refused(KeyRefusal::Decided),
         Verdict::Unknown => key_refused(KeyRefusal::Unknown),
         Verdict::Taken => key_refused(KeyRefusal::Taken),
-    }
-}
-
-/// That a transaction isn't open.
-fn not_open() -> AnswerLine
-    ensures { result ≡ AnswerLine.Refused Refusal.NotOpen }
-{
-    AnswerLine::Refused {
-        refusal: Refusal::NotOpen,
     }
 }
 

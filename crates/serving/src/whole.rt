@@ -8,17 +8,15 @@ ghost use Rattle.request_text.specs.Requests.{calls_asked};
 ghost use Rattle.request_text.specs.declared.request.AskedCall.{AskedCall as Asked};
 ghost use Rattle.serving.specs.Does.{is_epoch_full};
 ghost use Rattle.serving.specs.Follows.{LeavesWritten};
-ghost use Rattle.serving.specs.NextEpoch.{limit_while};
-ghost use Rattle.serving.specs.Server.{KeepsAll, StaysInEpoch};
+ghost use Rattle.serving.specs.Server.{KeepsAll, StaysInEpoch, begins_until};
 ghost use Rattle.serving.specs.Several.{DoesDo, InTurn, IsCallAt, TellsAttempt, TellsReplies, ended_answer, found_reply, replies_of};
 
 use crate::answer_line::AnswerLine;
-use crate::names::name_of;
+use crate::names::Names;
 use crate::reads::found_reply;
 use crate::session::{Session, is_full};
 use attempts::{Attempt, AttemptCall, Ending};
-use durable_store::Durable;
-use journal::{JournalError, Prepared};
+use journal::JournalError;
 use objects::Object;
 use request_text::{AskedCall, call_asked, calls_asked};
 use sqlite_trees::store::Alter;
@@ -38,7 +36,7 @@ impl<S: Alter> Session<S> {
         line: &[u8],
     ) -> Result<AnswerLine, JournalError>
         requires { IsDurable S.Store self.old.store }
-        ensures does { IfOk result (λ a. DoesDo (Clean S.Store self.new.store.journal) (limit_while self.old.waiting self.old.most_events) self.old.life self.old.store.prepared.items (written S.Store self.old.store.journal).objects self.old.store.store (calls_asked line.now) a self.new.store.store) }
+        ensures does { IfOk result (λ a. DoesDo (Clean S.Store self.new.store.journal) (begins_until self.old) self.old.names (written S.Store self.old.store.journal).objects self.old.store.store (calls_asked line.now) a self.new.store.store) }
         ensures keyless { OnOk result (KeepsAll S.Store self.old.store self.new.store) }
         ensures stays_in_epoch { OnOk result (StaysInEpoch S.Store self.old self.new) }
         ensures waits { self.new.waiting ≡ self.old.waiting }
@@ -53,7 +51,7 @@ impl<S: Alter> Session<S> {
         self.attempt(alloc, &calls)
     }
 
-    /// Does a whole transaction of these calls, but for an epoch that is full. That it is done is to be answered only once it
+    /// Does a whole transaction of these calls, but for an epoch that is full where what is open can't go over. That it is done is to be answered only once it
     /// is settled.
     ///
     /// # Errors
@@ -65,7 +63,7 @@ impl<S: Alter> Session<S> {
         calls: &[AskedCall],
     ) -> Result<AnswerLine, JournalError>
         requires { IsDurable S.Store self.old.store }
-        ensures does { IfOk result (λ a. DoesDo (Clean S.Store self.new.store.journal) (limit_while self.old.waiting self.old.most_events) self.old.life self.old.store.prepared.items (written S.Store self.old.store.journal).objects self.old.store.store calls.now a self.new.store.store) }
+        ensures does { IfOk result (λ a. DoesDo (Clean S.Store self.new.store.journal) (begins_until self.old) self.old.names (written S.Store self.old.store.journal).objects self.old.store.store calls.now a self.new.store.store) }
         ensures keyless { OnOk result (KeepsAll S.Store self.old.store self.new.store) }
         ensures stays_in_epoch { OnOk result (StaysInEpoch S.Store self.old self.new) }
         ensures waits { self.new.waiting ≡ self.old.waiting }
@@ -96,8 +94,8 @@ impl<S: Alter> Session<S> {
     ) -> Result<AnswerLine, JournalError>
         requires { IsDurable S.Store self.old.store }
         ensures does { IfOk result (λ a. (asked : List Asked) → InTurn (IsCallAt (Clean S.Store self.old.store.journal) (written S.Store self.old.store.journal).objects) asked (asked_calls calls.now)
-            → is_epoch_full (limit_while self.old.waiting self.old.most_events) self.old.store.store ≡ false
-            → DoesDo (Clean S.Store self.new.store.journal) (limit_while self.old.waiting self.old.most_events) self.old.life self.old.store.prepared.items (written S.Store self.old.store.journal).objects self.old.store.store asked a self.new.store.store) }
+            → is_epoch_full (begins_until self.old) self.old.store.store ≡ false
+            → DoesDo (Clean S.Store self.new.store.journal) (begins_until self.old) self.old.names (written S.Store self.old.store.journal).objects self.old.store.store asked a self.new.store.store) }
         ensures keyless { OnOk result (KeepsAll S.Store self.old.store self.new.store) }
         ensures stays_in_epoch { OnOk result (StaysInEpoch S.Store self.old self.new) }
         ensures waits { self.new.waiting ≡ self.old.waiting }
@@ -105,7 +103,7 @@ impl<S: Alter> Session<S> {
         ensures crash { LeavesWritten S.Store self.old.store self.new.store }
     {
         let came = self.store.attempt(alloc, calls)?;
-        let answer = attempt_answer(alloc, &self.store, self.life, calls, &came)?;
+        let answer = attempt_answer(alloc, self.store.store(), &self.names, calls, &came)?;
         Ok(answer)
     }
 
@@ -149,18 +147,18 @@ impl<S: Alter> Session<S> {
 /// # Errors
 ///
 /// Memory was refused.
-fn attempt_answer<S: Alter>(
+fn attempt_answer(
     alloc: Global,
-    store: &Durable<S>,
-    life: u32,
+    store: &Store<Object>,
+    names: &Names,
     calls: &[AttemptCall],
     came: &Attempt,
 ) -> Result<AnswerLine, AllocError>
-    ensures { IfOk result (λ a. TellsAttempt store.now.store life store.now.prepared.items (asked_calls calls.now) came.now a) }
+    ensures { IfOk result (λ a. TellsAttempt store.now names.now (asked_calls calls.now) came.now a) }
 {
     match came {
-        Attempt::Done(operations) => done_answer(alloc, store.store(), calls, operations),
-        Attempt::Ended { at, how } => Ok(ended_answer(life, store.prepared(), *at, *how)),
+        Attempt::Done(operations) => done_answer(alloc, store, calls, operations),
+        Attempt::Ended { at, how } => Ok(ended_answer(names, *at, *how)),
         Attempt::NotBegun(refusal) => Ok(AnswerLine::Refused { refusal: *refusal }),
     }
 }
@@ -221,13 +219,13 @@ fn replies_answer(
 }
 
 /// What is answered where the call at this place ended it.
-pub(crate) fn ended_answer(life: u32, prepared: &[Prepared], at: usize, how: Ending) -> AnswerLine
-    ensures { result ≡ ended_answer life prepared.now at how }
+pub(crate) fn ended_answer(names: &Names, at: usize, how: Ending) -> AnswerLine
+    ensures { result ≡ ended_answer names.now at how }
 {
     match how {
         Ending::Busy(number) => AnswerLine::BusyAt {
             at,
-            blocker: name_of(life, prepared, number),
+            blocker: names.name_of(number),
         },
         Ending::None => AnswerLine::NothingAt { at },
         Ending::Refused(refusal) => AnswerLine::RefusedAt { at, refusal },

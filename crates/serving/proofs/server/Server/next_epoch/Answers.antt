@@ -7,7 +7,8 @@ use Rattle.serving.specs.declared.server.Server.{Server}
 use Rattle.serving.specs.Does.{is_epoch_full}
 use Rattle.serving.specs.Epochs.{LeavesEpochs}
 use Rattle.serving.specs.EpochEnd.{last_answers}
-use Rattle.serving.specs.NextEpoch.{late_answer, limit_while}
+use Rattle.serving.specs.NextEpoch.{late_answer}
+use Rattle.serving.specs.Server.{full_at}
 use Rattle.serving.specs.Told.{AppendsPart, answers_text}
 use Rattle.serving.proofs.Acknowledgements.{stops-begun, stops-epoch, tells-as, tells-epoch}
 use Rattle.serving.proofs.LaterEpochs.{left-nowhere, writes-nowhere}
@@ -24,8 +25,8 @@ returns-in-Ok-tell_last-clause-serves g c began given taken given_now so_far =
     let late = if-value (λ (a : Option Answered). a ≡ late_answer c.is_over.new.self.session.waiting c.is_over.new.self.session.store.store) r c.in-Ok.late c.in-Ok.is of.late in
     tells-epoch (record { session = c.begin_epoch-session.result.0; line = c.is_over.new.self.line; answers = c.is_over.new.self.answers; end = c.is_over.new.self.end; full_since = None })
     (taken_by g.W.Out.taken c.tell_last.new.self.out) (g.A.Archive.kept c.args.archive.now) (g.A.Archive.kept c.begin_epoch-session.new.archive)
-    (ended ∙ c.requires.asked) (subst (λ (s : Session g.row.S.Denot). is_epoch_full (limit_while s.waiting s.most_events) s.store.store ≡ true) (sym session) (c.if-not-is_over.ensures.full refl))
-    (of-ok r c.in-Ok.late c.in-Ok.is of.ends) (of-ok r c.in-Ok.late c.in-Ok.is of.sound) of.named of.most of.none_waits (of-ok r c.in-Ok.late c.in-Ok.is of.shows)
+    (ended ∙ c.requires.asked) (subst (λ (s : Session g.row.S.Denot). is_epoch_full (full_at s) s.store.store ≡ true) (sym session) (c.if-not-is_over.ensures.full refl))
+    (of-ok r c.in-Ok.late c.in-Ok.is of.ends) (of-ok r c.in-Ok.late c.in-Ok.is of.sound) of.named (of-ok r c.in-Ok.late c.in-Ok.is of.carried) (of-ok r c.in-Ok.late c.in-Ok.is of.counted) of.most of.none_waits (of-ok r c.in-Ok.late c.in-Ok.is of.shows)
     (of-ok r c.in-Ok.late c.in-Ok.is of.writes) of.clean of.crash of.left refl refl refl
     (subst (λ (a : Option Answered). Appends (taken_by g.W.Out.taken c.args.client.now.out) (taken_by g.W.Out.taken c.tell_last.new.self.out) (answers_text (last_answers a None))) late c.in-Ok-tell_last.ensures.told)
     (tells-as c.is_over.new.self session (ap (λ (s : Server g.row.S.Denot). s.line) same) (ap (λ (s : Server g.row.S.Denot). s.answers) same) ended so_far)
@@ -40,8 +41,8 @@ returns-in-Err-tell_last-clause-stops g c began given taken given_now so_far =
     let late = if-value (λ (a : Option Answered). a ≡ late_answer c.is_over.new.self.session.waiting c.is_over.new.self.session.store.store) r c.in-Ok.late c.in-Ok.is of.late in
     stops-begun (record { session = c.begin_epoch-session.result.0; line = c.is_over.new.self.line; answers = c.is_over.new.self.answers; end = c.is_over.new.self.end; full_since = None })
     (taken_by g.W.Out.taken c.tell_last.new.self.out) (g.A.Archive.kept c.args.archive.now) (g.A.Archive.kept c.begin_epoch-session.new.archive)
-    (ended ∙ c.requires.asked) (subst (λ (s : Session g.row.S.Denot). is_epoch_full (limit_while s.waiting s.most_events) s.store.store ≡ true) (sym session) (c.if-not-is_over.ensures.full refl))
-    (of-ok r c.in-Ok.late c.in-Ok.is of.ends) (of-ok r c.in-Ok.late c.in-Ok.is of.sound) of.named of.most of.none_waits (of-ok r c.in-Ok.late c.in-Ok.is of.shows)
+    (ended ∙ c.requires.asked) (subst (λ (s : Session g.row.S.Denot). is_epoch_full (full_at s) s.store.store ≡ true) (sym session) (c.if-not-is_over.ensures.full refl))
+    (of-ok r c.in-Ok.late c.in-Ok.is of.ends) (of-ok r c.in-Ok.late c.in-Ok.is of.sound) of.named (of-ok r c.in-Ok.late c.in-Ok.is of.carried) (of-ok r c.in-Ok.late c.in-Ok.is of.counted) of.most of.none_waits (of-ok r c.in-Ok.late c.in-Ok.is of.shows)
     (of-ok r c.in-Ok.late c.in-Ok.is of.writes) of.clean of.crash of.left refl refl refl
     (subst (λ (a : Option Answered). AppendsPart (taken_by g.W.Out.taken c.args.client.now.out) (taken_by g.W.Out.taken c.tell_last.new.self.out) (answers_text (last_answers a None))) late c.in-Err-tell_last.ensures.part)
     (tells-as c.is_over.new.self session (ap (λ (s : Server g.row.S.Denot). s.line) same) (ap (λ (s : Server g.row.S.Denot). s.answers) same) ended so_far)
@@ -51,7 +52,7 @@ returns-in-Err-clause-stops g c began given taken given_now so_far =
     let same = c.is_over.ensures.others in
     let session : c.is_over.new.self.session ≡ c.args.self.session = ap (λ (s : Server g.row.S.Denot). s.session) same in
     let of = c.begin_epoch-session.ensures in
-    stops-epoch c.begin_epoch-session.result.0.store (subst (λ (s : Session g.row.S.Denot). is_epoch_full (limit_while s.waiting s.most_events) s.store.store ≡ true) (sym session) (c.if-not-is_over.ensures.full refl)) of.clean of.left
+    stops-epoch c.begin_epoch-session.result.0.store (subst (λ (s : Session g.row.S.Denot). is_epoch_full (full_at s) s.store.store ≡ true) (sym session) (c.if-not-is_over.ensures.full refl)) of.clean of.left
     (tells-as c.is_over.new.self session (ap (λ (s : Server g.row.S.Denot). s.line) same) (ap (λ (s : Server g.row.S.Denot). s.answers) same) (ap (λ (s : Server g.row.S.Denot). s.end) same) so_far)
 
 pub returns-then-not-is_over-clause-writes : goal.returns-then-not-is_over-clause-writes

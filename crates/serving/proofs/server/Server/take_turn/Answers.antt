@@ -1,6 +1,3 @@
-use Rattle.std.proofs.Common.{rules}
-use Rattle.std.specs.Prelude.{OnOk}
-use Rattle.serving.specs.Epochs.{WritesEpochs}
 use Rattle.std.proofs.lemmas.Result.{on_err_weaker, on_ok_weaker}
 use Rattle.serving.proofs.LaterEpochs.{left-stays, left-more, writes-stays, writes-one}
 use Rattle.serving.proofs.server.Server.take_turn.Goals as goal
@@ -25,12 +22,12 @@ returns-in-Ok-true-clause-crash g c =
     left-stays c.args.self.session c.serve_group.new.self.session c.next_epoch.result.0.session.store (g.A.Archive.kept c.args.archive.now) (g.A.Archive.kept c.next_epoch.new.archive) c.in-Ok-true.ensures.stays_in_epoch
     c.next_epoch.ensures.crash
 
-pub returns-in_default-clause-writes : goal.returns-in_default-clause-writes
-returns-in_default-clause-writes g c =
-    let kept = g.A.Archive.kept c.args.archive.now in
-    let writes : OnOk c.serve_group.result (WritesEpochs g.S.Store c.args.self.session.store c.serve_group.new.self.session.store kept kept) =
-    on_ok_weaker c.serve_group.result (λ stays. writes-one g.S.Store c.args.self.session.store c.serve_group.new.self.session.store kept stays.follows) c.serve_group.ensures.stays_in_epoch in
-    search (rules, writes)
+pub returns-in-Ok-false-clause-writes : goal.returns-in-Ok-false-clause-writes
+returns-in-Ok-false-clause-writes g c =
+    writes-one g.S.Store c.args.self.session.store c.serve_group.new.self.session.store (g.A.Archive.kept c.args.archive.now) c.in-Ok-false.ensures.stays_in_epoch.follows
 
-pub returns-in_default-clause-crash : goal.returns-in_default-clause-crash
-returns-in_default-clause-crash g c = left-more g.S.Store c.args.self.session.store c.serve_group.new.self.session.store (g.A.Archive.kept c.args.archive.now) c.serve_group.ensures.crash
+pub returns-in-Ok-false-clause-crash : goal.returns-in-Ok-false-clause-crash
+returns-in-Ok-false-clause-crash g c = left-more g.S.Store c.args.self.session.store c.serve_group.new.self.session.store (g.A.Archive.kept c.args.archive.now) c.serve_group.ensures.crash
+
+pub returns-in-Err-clause-crash : goal.returns-in-Err-clause-crash
+returns-in-Err-clause-crash g c = left-more g.S.Store c.args.self.session.store c.serve_group.new.self.session.store (g.A.Archive.kept c.args.archive.now) c.serve_group.ensures.crash

@@ -5,5 +5,5 @@ use Rattle.serving.proofs.session.Session.rollback.Goals as goal
 pub returns-clause-stays_in_epoch : goal.returns-clause-stays_in_epoch
 returns-clause-stays_in_epoch g c = stays-by g.S.Store c.args.self.now _ refl refl c.in_ok-struck.ensures.sound c.rollback.ensures.life c.in_ok-struck.ensures.written c.rollback.ensures.clean c.rollback.ensures.crash
 
-pub returns-then-t-self-clause-stays_in_epoch : goal.returns-then-t-self-clause-stays_in_epoch
-returns-then-t-self-clause-stays_in_epoch g c = stays-still g.S.Store c.args.self.now c.requires
+pub returns-in_default-clause-stays_in_epoch : goal.returns-in_default-clause-stays_in_epoch
+returns-in_default-clause-stays_in_epoch g c = stays-still g.S.Store c.args.self.now c.requires
