@@ -1,0 +1,12 @@
+pub mod OwnEvents
+pub mod Commands
+pub mod Carrying
+pub mod SameKinds
+pub mod Rows
+pub mod Outcomes
+pub mod Requests
+pub mod Answers
+pub mod Begun
+pub mod Epochs
+pub mod Files
+pub mod VotesHeld

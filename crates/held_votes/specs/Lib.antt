@@ -1,0 +1,2 @@
+pub mod VotesHeld
+pub mod Examples
