@@ -122,13 +122,15 @@ COMMAND = re.compile(r"^\$ colock\b(.*)\n", re.M)
 
 @dataclasses.dataclass(frozen=True)
 class Step:
-    """A command of a session: its words, its standard input, and what comes of it."""
+    """A command of a session: its words, its standard input, and what comes of it. Before that input it is given pieces, each
+    with what it has told by the time when more is given."""
     words: tuple
     given: bytes
     out: Expected
     err: Expected
     status: int
     says: bool
+    pieces: tuple = ()
 
 
 @dataclasses.dataclass(frozen=True)
@@ -149,10 +151,12 @@ def texts_of(text):
 
 def step_of(words, text):
     """The command with these words, and the parts after it."""
-    parts = dict(texts_of(text))
-    status = next((int(name.split(" ")[1]) for name in parts if name.startswith("status ")), 0)
-    out, err = (Expected(parts.get(name, b"")) for name in ("out", "err"))
-    return Step(tuple(shlex.split(words)), parts.get("in", b""), out, err, status, "err" in parts)
+    parts = list(texts_of(text))
+    status = next((int(name.split(" ")[1]) for name, _ in parts if name.startswith("status ")), 0)
+    given, told, said = ([part for name, part in parts if name == asked] for asked in ("in", "out", "err"))
+    pieces = tuple(zip(given[:-1], told[:-1]))
+    return Step(tuple(shlex.split(words)), b"".join(given[len(pieces) :]), Expected(b"".join(told)), Expected(b"".join(said)), status,
+                bool(said), pieces)
 
 
 def all_sessions():

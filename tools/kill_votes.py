@@ -29,18 +29,17 @@ class Wrong(Exception):
 class Transaction:
     """What was asked of a transaction, and what was answered."""
 
-    def __init__(self, operations=()):
-        self.calls, self.replies, self.asked, self.ended = list(operations), list(operations), None, None
+    def __init__(self):
+        self.calls, self.replies, self.asked, self.ended = [], [], None, None
 
 
 class Vote:
-    """A transaction that was asked to be prepared: its key, its name, its number in this epoch's history, until when its
-    client waits, whether that was answered, whether others may decide it, which decisions were asked in this life, and the
-    one that was answered."""
+    """A transaction that was asked to be prepared: its key, its name, until when its client waits, whether that was answered,
+    whether others may decide it, which decisions were asked in this life, and the one that was answered."""
 
     def __init__(self, key, name, t, until):
         self.key, self.name, self.t, self.until = key, name, t, until
-        self.number, self.is_answered, self.is_offered = int(name.split(".")[1]), False, False
+        self.is_answered, self.is_offered = False, False
         self.asked, self.decided = set(), None
 
 
@@ -57,13 +56,9 @@ def events(lines):
     return there
 
 
-def held_at(lines):
-    """At each object the transactions with an operation there, and the operation, in their order."""
-    there = {x: [] for x in range(len(OBJECTS))}
-    for words in (line.split() for line in lines):
-        if words[0] == "op":
-            there[int(words[3])].append((int(words[2]), int(words[4])))
-    return there
+def objects_of(operations):
+    """The objects of these operations, as a line tells them."""
+    return [str(x) for x in sorted({x for x, _ in operations})]
 
 
 def counted(states, committed):
@@ -154,16 +149,17 @@ class Votes:
 
     # ---- what is found
 
-    def differences(self, service, lines, source):
-        """What a service says otherwise of who is prepared, and of keys that were decided. It comes first in a life."""
+    def differences(self, service, there, source):
+        """What a service says otherwise of who is prepared, and of keys that were decided, where this is in the history. It
+        comes first in a service."""
         told = service.lines("prepared")[:-1]
-        by_key, there = {vote.key: vote for vote in self.open}, events(lines)
+        by_key = {vote.key: vote for vote in self.open}
         for words in told:
             vote = by_key.get(words[0])
-            if vote is None or words != [vote.key, vote.name, str(vote.until)]:
+            if vote is None or words != [vote.key, vote.name, str(vote.until), *objects_of(vote.t.replies)]:
                 yield f"{words} is prepared, which wasn't asked, or is decided"
-            elif there.get(vote.number) != (vote.t.replies, []):
-                yield f"{words} is prepared, and of {vote.t.replies} the history has {there.get(vote.number)}"
+            elif there.get(vote.name) != (vote.t.replies, []):
+                yield f"{words} is prepared, and of {vote.t.replies} the history has {there.get(vote.name)}"
         keys = [words[0] for words in told]
         if (stayed := [key for key in self.order if key in keys]) != keys[: len(stayed)]:
             yield f"{keys} are prepared, and these were in the order {self.order}"
@@ -171,7 +167,7 @@ class Votes:
             if vote.key in keys:
                 vote.is_answered, vote.is_offered, vote.asked = True, True, set()
             else:
-                yield from self.settled(vote, service.ask(f"outcome {vote.key}"), there.get(vote.number))
+                yield from self.settled(vote, service.ask(f"outcome {vote.key}"), there.get(vote.name))
         self.order = keys
         for key in source.sample(sorted(self.ended), min(len(self.ended), MOST)):
             if (answer := service.ask(f"outcome {key}")) != [ENDED[self.ended[key]]]:
@@ -190,43 +186,23 @@ class Votes:
         else:
             self.end(vote, how)
 
-    def may_be_open(self, number):
-        """Whether a transaction of an earlier life may not have ended."""
-        return any(vote.number == number for vote in self.open)
+    def held(self):
+        """The names of those that may be prepared: no restart ends them."""
+        return {vote.name for vote in self.open}
 
     def differences_of_history(self, there):
-        """What the history says otherwise of votes, where a service was killed."""
+        """What the history says otherwise of votes, where a service was killed or has ended."""
         for vote in self.open:
-            done, ends = there.get(vote.number, ([], []))
+            done, ends = there.get(vote.name, ([], []))
             if vote.is_answered and (done != vote.t.replies or ends not in [[], *[[how] for how in vote.asked]]):
                 yield f"{vote.key} is prepared with {vote.t.replies}, {vote.asked} was asked, and it has {done} {ends}"
 
-    def differences_of_epoch(self, lines):
-        """What a new epoch begins with otherwise than with those that are prepared, in the order of their numbers."""
-        with self.lock:
-            self.open = sorted((vote for vote in self.open if vote.is_answered), key=lambda vote: vote.number)
-        begins = [f"begin 0 {number}" for number in range(len(self.open))]
-        there = events(lines)
-        done = [there.get(number, ([], []))[0] for number in range(len(self.open))]
-        wanted = [sorted(vote.t.replies, key=lambda entry: entry[0]) for vote in self.open]
-        count = len(begins) + sum(map(len, wanted))
-        if lines[: len(begins)] != begins or len(lines) != count or [sorted(d, key=lambda entry: entry[0]) for d in done] != wanted:
-            yield f"{[(vote.key, vote.t.replies) for vote in self.open]} are prepared, and a new epoch has {lines}"
-        for number, vote in enumerate(self.open):
-            vote.number, vote.is_offered, vote.asked = number, True, set()
-            vote.t = Transaction(done[number])
-            vote.t.asked = "vote"
-
-    def carried(self):
-        """The transactions with which an epoch begins, by their numbers."""
-        return {vote.number: vote.t for vote in self.open}
-
-    def keep_out(self, service, lines, states, begun):
-        """Who is prepared keeps out whom it kept out, at the first object of each."""
-        votes, there = {vote.number: vote for vote in self.open}, held_at(lines)
+    def keep_out(self, service, there, states, begun):
+        """Who is prepared keeps out whom it kept out, where this was done at each object."""
+        votes = {vote.name: vote for vote in self.open}
         seen = counted(states, [vote.t.replies for vote in self.open])
         for x, kind in enumerate(OBJECTS):
-            held = [(votes[number], k) for number, k in there[x] if number in votes]
+            held = [(votes[name], k) for name, k in there[x] if name in votes]
             for k in EXCLUDED.get(kind, []):
                 state = (seen if kind == "undo" else states)[x] + STEPS[k]
                 first = next((vote for vote, other in held if EXCLUDED[kind][other] == k), None)

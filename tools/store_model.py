@@ -4,7 +4,11 @@ It is written from docs/formats.md and docs/theory.md and shares nothing with th
 from the whole history, anew, who is open, what survives, what a transaction sees and who is in its way. Of a deferred
 object it keeps the serial state; so it is a model of types whose texts relate no two states. Of an object in escrow it
 goes through all fronts of what each transaction did, and through all numbers that such fronts may leave.
+
+Where an epoch ends, all that is open goes over if each yes is strong, and else what is prepared. The next one begins with
+what survives of that, in an order that the model leaves open: whoever looks at a history tells it the one that was found.
 """
+import collections
 import dataclasses
 
 from line_model import Fault, form_of, line_asked
@@ -77,13 +81,15 @@ class Prepared:
 class Model:
     """A store in a file: the states where the epoch began, its whole history, how many of these events are answered as
     durable, and the number of its life; who is prepared, in that order; and of each key the replies of its transaction, or
-    None where it was aborted, and how many events there were when that was decided. An object is its kind, the place of its
-    type, and where it has one its name."""
+    None where it was aborted, and how many events there were when that was decided. Of those that an earlier life began
+    there are the names, by their numbers. The epoch began with the first events, and with all that was open or only with
+    what was prepared. An object is its kind, the place of its type, and where it has one its name."""
 
     def __init__(self, objects, types):
         self.objects, self.types = objects, types
         self.starts, self.events, self.durable = [types[place].initial for _, place, *_ in objects], [], 0
         self.life, self.keys, self.prepared = 0, {}, []
+        self.carried, self.first, self.all_went = {}, 0, True
 
     def type_of(self, x):
         return self.types[self.objects[x][1]]
@@ -93,9 +99,13 @@ class Model:
         names = list(map(name_of, self.objects))
         return x if isinstance(x, int) else names.index(x) if x in names else len(names)
 
+    def is_strong(self):
+        """Whether each yes is strong, so that all that is open goes over where the epoch ends."""
+        return all(self.types[place].is_strong(kind) for kind, place, *_ in self.objects)
+
     def name_of(self, t):
-        """The name by which its client knows an open transaction: one that is prepared keeps that of the life that began it."""
-        return self.held(t).name if self.is_prepared(t) else (self.life, t)
+        """The name by which its client knows an open transaction: one that went over keeps that of the life that began it."""
+        return self.carried.get(t, (self.life, t))
 
     def open_by(self, s, name):
         """The number of the open transaction of this name, or none: a carried one has two."""
@@ -231,7 +241,7 @@ class Model:
             return f"refused {refused}"
         if key in self.keys:
             if verb == "commit" and not self.refusal(Seen(self.events), "abort", rest[0]):
-                self.events.append(("abort", rest[0][1]))
+                self.events.append(("abort", self.open_by(Seen(self.events), rest[0])))
             self.durable = len(self.events)
             return "ok" if verb == "commit" else " ".join(["done", *self.keys[key][0]])
         if verb == "commit":
@@ -295,6 +305,11 @@ class Model:
             return f"reply {self.type_of(event[2]).reply(event[3])}"
         return "busy {}.{}".format(*self.name_of(event[4])) if event[0] == "busy" else "none"
 
+    def line_of_prepared(self, p):
+        """Its key, its name and until when it waits, and the objects at which it holds operations."""
+        there = sorted({x for t, x, _ in Seen(self.events).stands if t == p.number})
+        return " ".join([p.key, "{}.{}".format(*p.name), str(p.until), *map(str, there)])
+
     def listed(self, verb, *rest):
         """The lines of an answer of several."""
         if verb == "objects":
@@ -302,7 +317,7 @@ class Model:
         if verb == "types":
             return [line for type_ in self.types for line in type_.text.split("\n")]
         if verb == "prepared":
-            return ["{0} {1[0]}.{1[1]} {2}".format(p.key, p.name, p.until) for p in self.prepared]
+            return list(map(self.line_of_prepared, self.prepared))
         return [line_of(event) for event in self.events[rest[0] :][: min(rest[1], MOST_TOLD)]]
 
     def done(self, s, verb, *rest):
@@ -332,7 +347,7 @@ class Model:
         if verb == "begin":
             self.events.append(("begin", s.begun))
             return [f"ok {self.life}.{s.begun}"]
-        (_, t), *rest = rest
+        t, *rest = self.open_by(s, rest[0]), *rest[1:]
         event = self.event_of_call(s, t, *rest) if verb in ("call", "would") else (verb, t, *rest)
         if verb != "would":
             self.events.append(event)
@@ -359,23 +374,59 @@ class Model:
         self.events += [("abort", t) for t in self.unprepared()]
 
     def opened(self):
-        """The file is opened by a service."""
+        """The file is opened by a service. Of what is open it knows who is prepared, by the name that was asked for then."""
         self.abort_all()
         self.durable, self.life = len(self.events), self.life + 1
+        self.carried = {p.number: p.name for p in self.prepared}
+
+    def stopped(self):
+        """The input has ended without an end: the epoch goes on where the file is opened again."""
+        self.abort_all()
+        self.durable = len(self.events)
+
+    def ended(self):
+        """The end was asked for: what goes over is what is prepared."""
+        self.abort_all()
+        self.renewed()
 
     def renewed(self):
-        """Another epoch begins, at the committed states. Who is prepared begins there too, and does its operations again,
-        object by object: at each in the order in which they were done."""
-        self.abort_all()
+        """Another epoch begins, at the committed states. What goes over begins there too, and does again what survives of
+        it, in the order in which that was done, as far as one is kept."""
+        self.all_went = self.is_strong()
+        if not self.all_went:
+            self.abort_all()
         s = Seen(self.events)
-        carried = {t: number for number, t in enumerate(s.open_ones())}
+        numbers = {t: number for number, t in enumerate(s.open_ones())}
         self.starts = [self.committed(s, x) for x in range(len(self.objects))]
-        self.events = [("begin", t) for t in carried.values()]
-        again = [entry for entry in s.stands if entry[0] in carried]
-        self.events += [("op", carried[t], x, k) for t, x, k in sorted(again, key=lambda entry: entry[1])]
-        self.prepared = [dataclasses.replace(p, number=carried[p.number]) for p in self.prepared]
-        self.durable, self.life = len(self.events), self.life + 1
+        self.carried = {number: self.name_of(t) for t, number in numbers.items()}
+        self.events = [("begin", number) for number in numbers.values()]
+        self.events += [("op", numbers[t], x, k) for t, x, k in s.stands if t in numbers]
+        self.prepared = [dataclasses.replace(p, number=numbers[p.number]) for p in self.prepared]
+        self.first = self.durable = len(self.events)
+        self.life += 1
         self.keys = {key: (replies, 0) for key, (replies, _) in self.keys.items()}
+
+    def takes_order(self, lines):
+        """Whether these lines are those of the first events, in another order that keeps what is to be kept: from now on
+        the epoch began with that one."""
+        first = self.events[: self.first]
+        events = dict(zip(map(line_of, first), first))
+        told = [events.get(line) for line in lines[: self.first]]
+        if None in told or self.kept_orders(told) != self.kept_orders(first):
+            return False
+        self.events[: self.first] = told
+        return True
+
+    def kept_orders(self, first):
+        """What is kept of the order of these events: the begins come first, in their order; then what is done at each object
+        is in order, and where all that was open went over what each transaction does."""
+        count = sum(word == "begin" for word, *_ in first)
+        orders = collections.defaultdict(list, begins=first[:count])
+        for _, t, *rest in first[count:]:
+            orders["at", *rest[:1]].append((t, rest))
+            if self.all_went:
+                orders["by", t].append(rest)
+        return orders
 
     def extended(self, objects, types):
         """Another epoch begins, with more objects, whose places are those of these types: the types that the file has

@@ -14,6 +14,7 @@ class Type:
         self.ops = [tuple(line) for line in of("op")]
         self.next = {(int(s), int(k)): int(t) for s, k, t in of("step")}
         self.conflicts = {(kind, int(p), int(q)) for kind, p, q in of("conflict")}
+        self.related = {(int(s), int(t)) for s, t in of("equi")}
         self.text = "".join(" ".join(line) + "\n" for line in lines)
 
     def step(self, state, k):
@@ -49,6 +50,17 @@ class Type:
         """Whether an operation changes nothing."""
         return not any(self.moves(k).values())
 
+    def is_strong(self, kind):
+        """Whether the yes of an accepted type is strong: in place, where the end of one operation after another and that in
+        the other order look alike, each like the other one, but for pairs that conflict."""
+        pairs = [(p, q) for p in range(len(self.ops)) for q in range(len(self.ops)) if ("undo", p, q) not in self.conflicts]
+        return kind != "undo" or all(self.looks_back(self.run(s, [p, q]), self.run(s, [q, p]))
+                                     for p, q in pairs for s in range(self.states) if self.run(s, [q, p]) is not None)
+
+    def looks_back(self, end, other):
+        """Whether an end looks like the other one, which looks like it."""
+        return end == other or (end, other) in self.related
+
     def fault(self):
         """The first operation, and its first state, by which the type isn't numeric; or none."""
         for k in range(len(self.ops)):
@@ -77,6 +89,9 @@ class NumberType(Type):
         self.calls = [(word, amount[0] if amount else "any") for word, *amount in self.lines[3:-1]]
         self.ops = [(f"{word}:{amount}", reply) for word, amount in self.calls if amount != "any"
                     for reply in self.REPLIES[word]]
+
+    def is_strong(self, _):
+        return True
 
     def parts(self, k):
         """The word of an operation's call, its amount, and whether it is the first of the two."""

@@ -1,4 +1,5 @@
-//! A durable store of counters over trees in memory: one in place, one deferred, and more in place.
+//! A durable store of counters over trees in memory: one in place, one deferred, and more in place. And one of two objects whose
+//! yes is one-way.
 
 ghost use Rattle.sqlite_trees.specs.View.{IsClean};
 ghost use Rattle.std.specs.Prelude.{IfSome, IsTrue, OnOk};
@@ -15,7 +16,7 @@ use sqlite_trees::store::{Alter, Reopen};
 use std::alloc::Global;
 use std::process::Abort;
 use store_text::ObjectLine;
-use test_support::type_texts::COUNTER;
+use test_support::type_texts::{COUNTER, ONE_WAY};
 use type_table::{Kind, Operation};
 
 /// The texts of types.
@@ -75,6 +76,9 @@ pub const TWO: [ObjectLine; 2] = [
         name: None,
     },
 ];
+
+/// The lines of two objects in place.
+const BOTH_IN_PLACE: [ObjectLine; 2] = [IN_PLACE, IN_PLACE];
 
 /// A new file of the two counters.
 pub fn two_counters(rt: &(impl Abort + AllocGlobal)) -> FileContents {
@@ -150,6 +154,13 @@ pub fn new_store<S: NewTrees + Drop, R: Abort + AllocGlobal>(rt: &R) -> Durable<
     ensures { IsDurable S.Store result }
 {
     new_store_of(rt, &two_counters(rt))
+}
+
+/// A new store of two objects whose yes is one-way: what is open doesn't go over as its epoch ends.
+pub fn one_way_store<S: NewTrees + Drop, R: Abort + AllocGlobal>(rt: &R) -> Durable<S>
+    ensures { IsDurable S.Store result }
+{
+    new_store_of(rt, &contents(rt, ONE_WAY, &BOTH_IN_PLACE, 0))
 }
 
 /// What is done to a store that stays the same.

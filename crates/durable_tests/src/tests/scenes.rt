@@ -238,7 +238,8 @@ static HELD: [Scene; 7] = [
         5,
         0,
     ),
-    // It goes over into another epoch, and another, at the states that had committed; what else was open doesn't.
+    // It goes over into another epoch, and another, at the states that had committed, and so does what else is open, since the
+    // yes of a counter is strong. A restart aborts that.
     (
         &[
             Step::Does(Act::Commits(0)),
@@ -249,26 +250,27 @@ static HELD: [Scene; 7] = [
             Step::Does(Act::Prepare(2, b"a", Voted::Prepared)),
             Step::Does(Act::Settle),
             Step::Renew,
-            Step::Does(Act::Has(3, 2)),
-            Step::Does(Act::Denied(0)),
+            Step::Does(Act::Has(4, 2)),
+            Step::Does(Act::Denied(1)),
             Step::Renew,
+            Step::Does(Act::Has(4, 3)),
             Step::Restart,
-            Step::Does(Act::Has(3, 4)),
-            Step::Does(Act::Denied(0)),
-            Step::Does(Act::Begin(1)),
-            Step::Does(Act::Busy(1, 1, 0)),
+            Step::Does(Act::Has(5, 4)),
+            Step::Does(Act::Denied(1)),
+            Step::Does(Act::Begin(2)),
+            Step::Does(Act::Busy(2, 1, 1)),
             Step::Does(Act::Decide(b"a", Decision::Commit, Judged::Decided)),
             Step::Does(Act::Settle),
             Step::Renew,
-            Step::Does(Act::Has(0, 5)),
+            Step::Does(Act::Has(1, 5)),
             Step::Does(Act::Decide(b"a", Decision::Commit, Judged::Decided)),
             Step::Does(Act::Decide(b"a", Decision::Abort, Judged::Otherwise)),
         ],
         false,
-        0,
+        1,
         2,
     ),
-    // Two go over in the order of their numbers, whichever was prepared first.
+    // Two go over by their places among all that is open, whichever was prepared first. A restart aborts the one that isn't prepared.
     (
         &[
             Step::Does(Act::Begin(0)),
@@ -280,15 +282,15 @@ static HELD: [Scene; 7] = [
             Step::Does(Act::Prepare(2, b"b", Voted::Prepared)),
             Step::Does(Act::Prepare(1, b"a", Voted::Prepared)),
             Step::Renew,
-            Step::Does(Act::Has(5, 2)),
-            Step::Does(Act::Denied(0)),
+            Step::Does(Act::Has(6, 2)),
             Step::Does(Act::Denied(1)),
+            Step::Does(Act::Denied(2)),
             Step::Does(Act::Decide(b"a", Decision::Abort, Judged::Decided)),
-            Step::Does(Act::Denied(1)),
+            Step::Does(Act::Denied(2)),
             Step::Does(Act::Decide(b"b", Decision::Commit, Judged::Decided)),
         ],
         true,
-        7,
+        9,
         1,
     ),
     // An abort under a key that nobody has is kept, and nothing is prepared or commits under it later.

@@ -1,11 +1,11 @@
-//! A client that asks a durable store of two counters by lines.
+//! A client that asks a durable store by lines: of two counters, or of two objects whose yes is one-way.
 
 ghost use Rattle.std.specs.Prelude.{◌≡◌, None, OnOk};
 ghost use Rattle.durable_store.specs.Durable.{IsDurable};
 ghost use Rattle.outputs.specs.Gathered.{under};
 ghost use Rattle.outputs.specs.Out.{sink_fault};
 
-use super::counters::{NewTrees, has, new_store, restarted};
+use super::counters::{NewTrees, has, new_store, one_way_store, restarted};
 use durable_store::Durable;
 use outputs::{Gathered, OutFault, Sink};
 use serving::{Archive, Client, NoAdditions, NoArchive, ServeFault, Server};
@@ -82,8 +82,8 @@ t end
 t \nt ok
 ";
 
-/// What a client asks, how many bytes are read at a time, and how many of the answers its output takes; with how many events an epoch is
-/// full, and how many seconds what is open may go on then.
+/// What a client asks, how many bytes are read at a time, and how many of the answers its output takes; with how many events more than
+/// it began with an epoch is full, and how many seconds what is open may go on then where a yes is one-way.
 #[derive(Clone, Copy)]
 pub struct Service {
     pub lines: &'static [u8],
@@ -116,7 +116,10 @@ pub fn told<S: Alter + Drop, A: Archive>(
 {
     let alloc = rt.alloc();
     let mut client = Client::new(output(rt, how.room));
-    let server = Server::new(alloc, store, how.most_events);
+    let server = match Server::new(alloc, store, how.most_events) {
+        Ok(server) => server,
+        Err(store) => return (Vec::new(alloc), Err(ServeFault::NoMemory), store),
+    };
     let (mut input, mut buffer) = (how.lines, [0; 4096]);
     let piece = how.piece.max(1).min(4096);
     let (server, served) = server.run(
@@ -134,24 +137,34 @@ pub fn told<S: Alter + Drop, A: Archive>(
     (said, served, store)
 }
 
-/// No transaction begins in a full epoch, and where the last one has ended the next epoch begins in another life.
+/// Where a yes is one-way no transaction begins in a full epoch, and where the last one has ended the next epoch begins in another life.
 const DRAINED: &[u8] =
-    b"a begin\nb call 1.0 0 inc:1\nc begin\nd call 1.1 1 inc:1\ne begin\nf stats\ng commit 1.0\n\
+    b"a begin\nb call 1.0 0 p\nc begin\nd call 1.1 1 p\ne begin\nf stats\ng commit 1.0\n\
     h begin\ni commit 1.1\nj begin\nk commit 1.1\nl kept 0\nm stats\n";
 
 const DRAINED_ANSWERS: &[u8] = b"a ok 1.0\nb reply ok\nc ok 1.1\nd reply ok\ne busy drain\n\
-    f ok events 4 begun 2 open 2 prepared 0\ng ok\nh busy drain\ni ok\nj ok 2.0\nk refused NotOpen\nl ok 1\n\
+    f ok events 4 begun 2 open 2 prepared 0\ng ok\nh busy drain\ni ok\nj ok 2.0\nk refused NotOpen\nl ok 2\n\
     m ok events 1 begun 1 open 1 prepared 0\n";
 
 /// What is open longer than it may is aborted.
 const CUT_SHORT: &[u8] =
-    b"a begin\nb call 1.0 0 inc:1\nc begin\nd call 1.1 1 inc:1\ne begin\nf commit 1.0\ng kept 0\n";
+    b"a begin\nb call 1.0 0 p\nc begin\nd call 1.1 1 p\ne begin\nf commit 1.0\ng kept 0\n";
 
 const CUT_SHORT_ANSWERS: &[u8] =
     b"a ok 1.0\nb reply ok\nc ok 1.1\nd reply ok\ne ok 2.0\nf refused NotOpen\ng ok 0\n";
 
+/// Where each yes is strong the next epoch begins as soon as one is full, with all that is open, by its names: here with four events
+/// each time, so that it is full with eight.
+const CARRIED: &[u8] =
+    b"a begin\nb call 1.0 0 inc:1\nc begin\nd call 1.1 1 inc:1\ne begin\nf call 2.2 0 dec:1\ng stats\nh commit 1.0\n\
+    i call 2.2 0 dec:1\nj begin\nk call 3.2 1 inc:1\nl commit 1.1\nm commit 1.0\nn kept 0\no kept 1\np stats\n";
+
+const CARRIED_ANSWERS: &[u8] = b"a ok 1.0\nb reply ok\nc ok 1.1\nd reply ok\ne ok 2.2\nf busy 1.0\n\
+    g ok events 6 begun 3 open 3 prepared 0\nh ok\ni reply ok\nj ok 3.2\nk busy 1.1\nl ok\nm refused NotOpen\n\
+    n ok 0\no ok 1\np ok events 7 begun 3 open 2 prepared 0\n";
+
 /// What is asked of prepared transactions: in an epoch of six events, in the next one, into which two go over, and in the one
-/// after that, which has none.
+/// after that, into which one of them does and one that isn't prepared.
 const HELD: &[u8] =
     b"a begin\nb prepare 1.0 k:1 7\nc prepare 1.0 k:1 8\nd prepare 1.0 k:2 7\ne call 1.0 0 inc:1\n\
     f would 1.0 0 inc:1\ng rollback 1.0 1\nh commit 1.0\ni abort 1.0\nj begin\nk prepare 1.1 k:1 7\n\
@@ -165,19 +178,18 @@ const HELD: &[u8] =
 const HELD_ANSWERS: &[u8] =
     b"a ok 1.0\nb ok\nc ok\nd refused Prepared\ne refused Prepared\nf refused Prepared\n\
     g refused Prepared\nh refused Prepared\ni refused Prepared\nj ok 1.1\nk refused KeyPrepared\n\
-    l refused KeyPrepared\nm reply ok\nn ok\no k:1 1.0 7\no k:3 1.1 9\no ok\np prepared\nq done ok\n\
-    r refused Prepared\ns refused Prepared\nt ok 2.2\nu busy 1.1\nv ok\nw k:1 1.0 7\nw k:3 1.1 9\nw ok\nx busy 0 1.1\n\
+    l refused KeyPrepared\nm reply ok\nn ok\no k:1 1.0 7\no k:3 1.1 9 1\no ok\np prepared\nq done ok\n\
+    r refused Prepared\ns refused Prepared\nt ok 2.2\nu busy 1.1\nv ok\nw k:1 1.0 7\nw k:3 1.1 9 1\nw ok\nx busy 0 1.1\n\
     a ok\nb ok\nc refused Decided\nd refused Unknown\ne ok\nf refused Aborted\ng refused Committed\n\
-    h ok events 9 begun 4 open 2 prepared 1\ni ok\nj aborted\nk committed\nl ok\nm refused Aborted\n\
+    h ok events 3 begun 2 open 2 prepared 1\ni ok\nj aborted\nk committed\nl ok\nm refused Aborted\n\
     n refused NotOpen\no ok\np refused NotOpen\nq committed\nr ok 1\ns ok 0\n";
 
 /// A service; its answers, how it ended, and how many transactions had begun in the last epoch.
 type Row = (Service, &'static [u8], Result<(), ServeFault>, u32);
 
-/// What is asked above in pieces of three sizes; an output that stops after 20 bytes, so that nothing behind `events` is done;
-/// epochs of four events, in which what is open may go on for an hour or not at all; and epochs of six, in which transactions are
-/// prepared.
-static ROWS: [Row; 7] = [
+/// What is asked above of two counters in pieces of three sizes; an output that stops after 20 bytes, so that nothing behind `events`
+/// is done; epochs of four events more than they begin with, and epochs of six, in which transactions are prepared.
+static ROWS: [Row; 6] = [
     (
         Service {
             lines: ASKED,
@@ -228,6 +240,34 @@ static ROWS: [Row; 7] = [
     ),
     (
         Service {
+            lines: CARRIED,
+            piece: 1,
+            room: 1_000,
+            most_events: 4,
+            drain: HOUR,
+        },
+        CARRIED_ANSWERS,
+        Ok(()),
+        3,
+    ),
+    (
+        Service {
+            lines: HELD,
+            piece: 1,
+            room: 2_000,
+            most_events: 6,
+            drain: HOUR,
+        },
+        HELD_ANSWERS,
+        Ok(()),
+        2,
+    ),
+];
+
+/// Where each yes is one-way: epochs of four events, in which what is open may go on for an hour or not at all.
+static ONE_WAY_ROWS: [Row; 2] = [
+    (
+        Service {
             lines: DRAINED,
             piece: 1,
             room: 1_000,
@@ -250,25 +290,19 @@ static ROWS: [Row; 7] = [
         Ok(()),
         1,
     ),
-    (
-        Service {
-            lines: HELD,
-            piece: 1,
-            room: 2_000,
-            most_events: 6,
-            drain: HOUR,
-        },
-        HELD_ANSWERS,
-        Ok(()),
-        0,
-    ),
 ];
 
-/// That a new store is so served. Each line is answered in its order, however many bytes are read at a time, and nothing
+/// That this new store is so served. Each line is answered in its order, however many bytes are read at a time, and nothing
 /// after the end is done. Where the output stops, the client gets a beginning.
-fn is_answered<S: NewTrees + Drop, R: Abort + AllocGlobal + Clock>(rt: &R, row: &Row) {
+fn is_answered<S: NewTrees + Drop, R: Abort + AllocGlobal + Clock>(
+    rt: &R,
+    store: Durable<S>,
+    row: &Row,
+)
+    requires { IsDurable S.Store store }
+{
     let (how, answers, ended, begun) = row;
-    let (said, served, store) = told(rt, new_store::<S, R>(rt), &mut NoArchive, how);
+    let (said, served, store) = told(rt, store, &mut NoArchive, how);
     let count = store.store().begun();
     let _ = store.into_trees();
     assert!(rt; (said.as_slice() == *answers) & (served == *ended) & (count == *begun));
@@ -295,10 +329,18 @@ fn is_found<S: NewTrees + Drop, R: Abort + AllocGlobal + Clock>(rt: &R) {
     }
 }
 
+/// That new stores are so served.
+fn are_answered<S: NewTrees + Drop, R: Abort + AllocGlobal + Clock>(rt: &R) {
+    for row in &ROWS {
+        is_answered::<S, R>(rt, new_store::<S, R>(rt), row);
+    }
+    for row in &ONE_WAY_ROWS {
+        is_answered::<S, R>(rt, one_way_store::<S, R>(rt), row);
+    }
+}
+
 #[test]
 fn lines_are_answered(rt: HostRuntime) {
-    for row in &ROWS {
-        is_answered::<MemStore, HostRuntime>(&rt, row);
-    }
+    are_answered::<MemStore, HostRuntime>(&rt);
     is_found::<MemStore, HostRuntime>(&rt);
 }

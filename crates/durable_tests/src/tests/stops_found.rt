@@ -72,6 +72,10 @@ fn a_stop_in_a_new_epoch_leaves_what_is_prepared(rt: HostRuntime) {
 const LINES: &[u8] =
     b"a begin\nb call 1.0 0 inc:1\ndone commit 1.0\na begin\nb call 1.1 0 inc:1\ndone commit 1.1\ne end\n";
 
+/// The same, and the input ends.
+const STOPPED: &[u8] =
+    b"a begin\nb call 1.0 0 inc:1\ndone commit 1.0\na begin\nb call 1.1 0 inc:1\ndone commit 1.1\n";
+
 /// Two whole transactions count up, each under a key, and the end is asked for.
 const UNDER_KEYS: &[u8] = b"a do =k:1 0 inc:1\nb do =k:2 0 inc:1\ne end\n";
 
@@ -97,8 +101,10 @@ fn states_found<R: Abort + AllocGlobal + Clock>(rt: &R, stops: Stops, trial: Tri
 #[test]
 fn a_commit_that_was_told_is_found(rt: HostRuntime) {
     for stops in [Stops::Log, Stops::Database] {
-        let found = states_found(&rt, stops, Trial::Serves(LINES));
-        assert!(rt; found[0] >= 3 && found[1] >= 3 && found[2] >= 3);
+        for lines in [LINES, STOPPED] {
+            let found = states_found(&rt, stops, Trial::Serves(lines));
+            assert!(rt; found[0] >= 3 && found[1] >= 3 && found[2] >= 3);
+        }
     }
 }
 
