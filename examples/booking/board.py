@@ -33,11 +33,9 @@ class Shown(enum.Enum):
 class Turn(NamedTuple):
     """When a transaction was at a seat: of two turns at one seat the greater one is the later.
 
-    Who sleeps until its transaction was aborted, as the store ended the epoch, comes too late. The life of the
-    store says so: whoever was at the seat since then has a greater one.
+    It stays so where an epoch of the store ends, since what is open goes over: the yes of a seat's type is strong.
     """
 
-    life: int
     count: int
 
 
@@ -72,7 +70,7 @@ class Board:
         self.hold_seconds = hold_seconds
         self._lock = threading.Lock()
         self._states = dict(states)
-        self._shown = dict.fromkeys(states, Turn(0, 0))
+        self._shown = dict.fromkeys(states, Turn(0))
         self._holds: Dict[str, Hold] = {}
         self._sold = sold
 

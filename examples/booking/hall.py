@@ -222,7 +222,7 @@ class Hall:
     def _turn(self, t: colock.Transaction, seat: str, call: str) -> Tuple[str, Turn]:
         """The reply of a seat, after whoever is there; and the turn, drawn while nobody else can change the seat."""
         reply = t.call(seat, call, wait=WAIT).executed().reply
-        return reply, Turn(int(t.id.partition(".")[0]), next(self._turns))
+        return reply, Turn(next(self._turns))
 
     def _own(self, seat: str, guest: str, reply: str) -> Hold:
         """The guest's hold of a seat that replied so to the transaction. Else raises `Denied`, and it is aborted.

@@ -61,38 +61,31 @@ class BoardTest(unittest.TestCase):
 
     def test_what_a_guest_is_shown(self) -> None:
         for count, (seat, guest) in enumerate([("a", "ann"), ("b", "bob")], 1):
-            hold = self.board.put(seat, guest, Turn(1, count))
+            hold = self.board.put(seat, guest, Turn(count))
             self.assertIs(self.board.seen_by(guest).seats[seat], Shown.FREE)
             self.board.show(seat, HELD, hold.turn)
         seen = self.board.seen_by("ann")
         self.assertEqual((seen.seats, list(seen.left), seen.sold), ({"a": Shown.MINE, "b": Shown.HELD, "c": Shown.BOOKED}, ["a"], 1))
         self.assertTrue(55.0 < seen.left["a"] <= 60.0, seen.left)
-        self.board.show("a", BOOKED, Turn(1, 3))
+        self.board.show("a", BOOKED, Turn(3))
         self.assertEqual(self.board.seen_by("ann"), ({"a": Shown.BOOKED, "b": Shown.HELD, "c": Shown.BOOKED}, {}, 2))
 
     def test_the_later_turn_stays(self) -> None:
-        self.board.show("a", BOOKED, Turn(1, 2))
-        self.board.show("a", HELD, Turn(1, 1))
+        self.board.show("a", BOOKED, Turn(2))
+        self.board.show("a", HELD, Turn(1))
         self.assertEqual(self.board.seen_by("ann"), ({"a": Shown.BOOKED, "b": Shown.FREE, "c": Shown.BOOKED}, {}, 2))
 
     def test_a_release_lets_go_of_older_holds_alone(self) -> None:
-        self.board.put("a", "ann", Turn(1, 1))
-        bobs = self.board.put("a", "bob", Turn(1, 3))
-        self.board.show("a", FREE, Turn(1, 2))
+        self.board.put("a", "ann", Turn(1))
+        bobs = self.board.put("a", "bob", Turn(3))
+        self.board.show("a", FREE, Turn(2))
         self.assertIs(self.board.hold_of("a"), bobs)
-        self.board.show("a", FREE, Turn(1, 4))
+        self.board.show("a", FREE, Turn(4))
         self.assertIsNone(self.board.hold_of("a"))
-
-    def test_who_slept_over_the_end_of_an_epoch_holds_nothing(self) -> None:
-        bobs = self.board.put("a", "bob", Turn(2, 1))
-        anns = self.board.put("a", "ann", Turn(1, 2))
-        self.assertIs(self.board.hold_of("a"), bobs)
-        self.board.drop(anns)
-        self.assertIs(self.board.hold_of("a"), bobs)
 
     def test_what_is_overdue(self) -> None:
         board = Board({"a": FREE}, 0, 1e-9)
-        hold = board.put("a", "ann", Turn(1, 1))
+        hold = board.put("a", "ann", Turn(1))
         while hold.left() > 0:
             pass
         self.assertEqual(board.overdue(), [hold])

@@ -1,5 +1,6 @@
 """What is asked of a program that serves a store, and changes nothing."""
 import re
+from abc import abstractmethod
 from typing import Callable, Dict, List, NoReturn, Optional, Sequence, Set, Tuple
 from typing import Type as Class
 
@@ -73,6 +74,10 @@ class Asking(Backend):
 
     def is_lost(self) -> bool:
         return self._is_closed or self._connection.lost is not None
+
+    @abstractmethod
+    def _is_in(self, life: int) -> None:
+        """The store was in this life."""
 
     # ---- requests
 
@@ -176,8 +181,19 @@ class Asking(Backend):
                 break
         return lines if self.life == life else None
 
+    def _lines_of_this_life(self, start: int) -> Steps[Optional[List[bytes]]]:
+        """The lines of the events from a place on; None where the present epoch isn't that of the life that is known.
+
+        In another one the same numbers are others'.
+        """
+        life = self.life
+        lines = yield from self._event_lines(start)
+        return lines if (yield from self.moment()).epoch == life else None
+
     def committed(self, life: int, number: int) -> Steps[Optional[bool]]:
         self._check_connection()
+        # by which the present life is known
+        yield from self.moment()
         if life == self.life:
             return (yield from self._of_this_life(number))
         if life + 1 == self._first_life:
@@ -190,8 +206,8 @@ class Asking(Backend):
     def _of_this_life(self, number: int) -> Steps[Optional[bool]]:
         """By the events of this life: those after what was found and aborted as the store was opened."""
         if self.life != self._first_life:
-            return outcome_in((yield from self._event_lines(0)), number)
-        return None if self._found is None else outcome_in((yield from self._event_lines(sum(self._found))), number)
+            return outcome_in((yield from self._lines_of_this_life(0)), number)
+        return None if self._found is None else outcome_in((yield from self._lines_of_this_life(sum(self._found))), number)
 
     def _of_the_life_before(self, number: int) -> Steps[Optional[bool]]:
         """By the events that were found when this opening began, in the life that followed.
@@ -208,7 +224,7 @@ class Asking(Backend):
         """The lines of the events of the epoch in which the store was opened, where they are still to be had."""
         if self._found == (0, 0):
             return []
-        return (yield from self._event_lines(0)) if self.life == self._first_life else self._archived(self._first_life)
+        return (yield from self._lines_of_this_life(0)) if self.life == self._first_life else self._archived(self._first_life)
 
     def _archived(self, life: int) -> Optional[List[bytes]]:
         """The lines of the events of the epoch whose last life this was, by the archive, if there is one."""
@@ -291,6 +307,7 @@ class Asking(Backend):
             words: List[str] = []
             for slot, part in zip(slots, parts):
                 at, told = self._seen_in((yield from self.answer_to(slot)), len(words), len(part))
+                self._is_in(at.epoch)
                 moments.add(at)
                 words += told
             if len(moments) == 1:

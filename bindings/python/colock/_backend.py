@@ -48,11 +48,11 @@ class CallAt(NamedTuple):
 
 
 class Holder(ref["Transaction"]):
-    """Who has an open transaction, as long as anybody does, and the number of it, as soon as that is noted."""
+    """Who has an open transaction, as long as anybody does, and by which number that is known, as soon as that is noted."""
 
-    __slots__ = ("number",)
+    __slots__ = ("known",)
 
-    number: int
+    known: int
 
 
 # Several requests, one after another: each is put and given out, and then has its answer.
@@ -98,7 +98,7 @@ class Backend(ABC):
         self.ends = 0
         # what puts right what was begun under the lock and isn't through; it may be done twice
         self.doing: Optional[Callable[[], None]] = None
-        # who has each open transaction, by its number, and those that are gone. A deque notes that, and so no bytecode,
+        # who has each open transaction, by the number by which it is known, and those that are gone. A deque notes that, and so no bytecode,
         # in which a handler might raise what Python would drop.
         self.holders: Dict[int, Holder] = {}
         self.gone: Deque[Holder] = deque()
@@ -124,25 +124,37 @@ class Backend(ABC):
             self.doing()
             self.doing = None
         while self.gone:
-            number = getattr(self.gone[0], "number", -1)
-            # it may be that of another one by now
-            if self.holders.get(number) is self.gone[0]:
-                is_open = self.is_open(self.life, number)
-                self.abort_forsaken(number)
-                self.holders.pop(number, None)
+            known = getattr(self.gone[0], "known", -1)
+            # in memory it may be that of another one by now
+            if self.holders.get(known) is self.gone[0]:
+                life, number = self.named(known)
+                is_open = self.is_open(life, number)
+                self.abort_forsaken(known)
+                self.holders.pop(known, None)
                 if is_open:
-                    warn_of_transaction(self.life, number)
+                    warn_of_transaction(life, number)
             self.gone.popleft()
 
-    def hold(self, t: "Transaction") -> None:
+    def known(self, life: int, number: int) -> int:
+        """The number by which a transaction is known here, to those that wait, too.
+
+        In memory it is its own: who is open or waits is of the present life.
+        """
+        return number
+
+    def named(self, known: int) -> Tuple[int, int]:
+        """The life and the number of the transaction that is known by a number."""
+        return self.life, known
+
+    def hold(self, t: "Transaction", known: int) -> None:
         """A transaction is aborted where it is open and nobody has it any more."""
         holder = Holder(t, self._goes)
-        holder.number = t._number
-        self.holders[t._number] = holder
+        holder.known = known
+        self.holders[known] = holder
 
     @abstractmethod
-    def abort_forsaken(self, number: int) -> None:
-        """Aborts a transaction of this life that nobody has, where it is open. It may be done twice."""
+    def abort_forsaken(self, known: int) -> None:
+        """Aborts a transaction that nobody has, where it is open. It may be done twice."""
 
     def interrupted(self, error: BaseException, under_key: "Optional[Transaction]" = None) -> None:
         """A call ends with this exception, which may have come at any place: the lock may be held, or something half done.
@@ -358,7 +370,11 @@ class Backend(ABC):
 
     @abstractmethod
     def is_open(self, life: int, number: int) -> bool:
-        """Whether a transaction is open."""
+        """Whether a transaction is open, in a file as far as is known."""
+
+    def may_be_open(self, life: int, number: int) -> bool:
+        """Whether a transaction may be open, also one of which isn't known here."""
+        return self.is_open(life, number)
 
     def is_lost(self) -> bool:
         """Whether no end will come any more."""
@@ -405,9 +421,10 @@ class Backend(ABC):
         """What follows from a prepare. It may be done twice."""
         t._key = key
         self.undecided[key] = Undecided(t._life, t._number, t._worker, until, objects, ref(t))
-        self.holders.pop(t._number, None)
+        known = self.known(t._life, t._number)
+        self.holders.pop(known, None)
         # a call of its own may wait, in another thread, and is refused now
-        if t._number in self.sleepers.calls:
+        if known in self.sleepers.calls:
             self.sleepers.begin_anew()
 
     def has_decided(self, key: str) -> None:

@@ -31,11 +31,13 @@ from ._keys import refusal_of
 from ._object_files import room_for_words, write_objects
 from ._objects import Given
 from ._outcomes import Archive
-from ._replies import LIVES, Busy, Illegal, Operation, Reply
+from ._replies import Busy, Illegal, Operation, Reply
 
 if TYPE_CHECKING:
     from ._transaction import Transaction
 
+# The numbers of the transactions of a life are below.
+LIVES = 1 << 32
 # The most bytes of a request, and how long it is waited before one is made again that was answered `busy drain`.
 LONGEST_REQUEST = 4_096
 SECONDS_OF_DRAIN = 0.01
@@ -54,10 +56,10 @@ class Child(Asking):
         super().__init__(connection, life, archive)
         # one extension goes on at a time, in a thread of its own, which no signal handler interrupts
         self._extending, self._one_extension = extending, threading.Lock()
-        # the open transactions of this life, each with the number of the request by which it last rolled back
+        # who is open, of whatever life, as far as is known, each with the number of the request by which it last rolled back
         self._open: Dict[int, int] = {}
-        # the number of the last end or rollback, for each object of the last one that let go there, and of the last one of
-        # which isn't known where it let go
+        # the number of the last end or rollback, for each object of the last one that let go there, and of the last request
+        # up to which somebody may have let go anywhere
         self._last_end = self._let_go_anywhere = 0
         self._let_go: Dict[int, int] = {}
         self.know(0, objects)
@@ -121,10 +123,7 @@ class Child(Asking):
         if answer != b"ok %d" % first:
             self._refuse(answer)
         self.know(first, added)
-        # where a transaction has begun since then, the life is known
-        if self.life == life:
-            self._end_life()
-            self.life = life + 1
+        self._is_in(life + 1)
         return first
 
     # ---- transactions
@@ -144,7 +143,7 @@ class Child(Asking):
         if not answer.startswith(b"ok "):
             self._refuse(answer)
         t._life, t._number = self._begun(answer)
-        self.hold(t)
+        self.hold(t, self.known(t._life, t._number))
         return True
 
     def _leave(self, t: "Transaction", slot: Slot) -> None:
@@ -156,9 +155,7 @@ class Child(Asking):
         """The life and the number of a transaction that has begun."""
         life, number = self._named(answer, answer[3:])
         self._is_in(life)
-        # where another answer was of a later life meanwhile, this one has ended already
-        if life == self.life:
-            self._open[number] = 0
+        self._open[self.known(life, number)] = 0
         return life, number
 
     def end_left(self) -> None:
@@ -172,36 +169,52 @@ class Child(Asking):
                     continue  # another thread was here
                 self.put_right()
                 if answer.startswith(b"ok "):
-                    life, number = self._begun(answer)
-                    if life == self.life:
-                        self.abort_forsaken(number)
+                    self.abort_forsaken(self.known(*self._begun(answer)))
                 self.left.remove(slot)
 
-    def abort_forsaken(self, number: int) -> None:
-        if self.is_open(self.life, number):
-            slot, aborts = self._connection.made(f"abort {self.life}.{number}"), self.counts.aborts + 1
+    def known(self, life: int, number: int) -> int:
+        """No other transaction of whatever life is known by it."""
+        return life * LIVES + number
+
+    def named(self, known: int) -> Tuple[int, int]:
+        return divmod(known, LIVES)
+
+    def abort_forsaken(self, known: int) -> None:
+        life, number = self.named(known)
+        if self.is_open(life, number):
+            slot, aborts = self._connection.made(f"abort {life}.{number}"), self.counts.aborts + 1
             # at which objects it let go isn't known
-            self._put_with(slot, lambda: self._has_ended(slot, number, range(len(self.types)), aborts))
+            self._put_with(slot, lambda: self._has_ended(slot, known, range(len(self.types)), aborts))
 
     def _is_in(self, life: int) -> None:
-        """The store was in this life."""
+        """The store was in this life. Where it is a new one, an epoch has ended, and it isn't known whether that aborted what was open."""
         if life > self.life:
-            self._end_life()
-            self.life = life
+            self._together(lambda: self._begins_life(life))
 
-    def _end_life(self) -> None:
-        """Another epoch has begun: what was open is aborted, but for what is prepared."""
-        prepared = {one.number for one in self.undecided.values() if one.life == self.life}
-        aborts = self.counts.aborts + len(self._open.keys() - prepared)
-        self._together(lambda: self._forget_open(aborts))
+    def _begins_life(self, life: int) -> None:
+        """Another epoch has begun. It may be done twice."""
+        self._let_go_until(self._connection.count)
+        self.life = life
 
-    def _forget_open(self, aborts: int) -> None:
-        """What is open is no more, and this many aborts are counted. It may be done twice."""
+    def _epoch_ended(self, t: "Transaction") -> None:
+        """The end of an epoch has aborted a transaction, which hasn't ended here, and maybe others."""
+        known = self.known(t._life, t._number)
+        aborts = self.counts.aborts + (known in self._open)
+        self._together(lambda: self._was_aborted(known, aborts))
+
+    def _was_aborted(self, known: int, aborts: int) -> None:
+        """A transaction is open no more, and this many aborts are counted. It may be done twice."""
         self.counts.aborts = aborts
+        self._open.pop(known, None)
+        self.holders.pop(known, None)
+        self._let_go_until(self._connection.count)
+
+    def _let_go_until(self, number: int) -> None:
+        """Somebody may have let go at whatever object, when this request was answered: who sleeps looks again. It may be done twice."""
+        self._last_end = self._let_go_anywhere = number
         self.ends += 1
-        self.sleepers.all_ended()
-        self._open.clear()
-        self.holders.clear()
+        if not self.sleepers.is_empty():
+            self.sleepers.begin_anew()
 
     def _put_with(self, slot: Slot, book: Callable[[], None]) -> None:
         """Puts a request, and books where it was written what it does. That may be done twice."""
@@ -224,15 +237,20 @@ class Child(Asking):
             raise PreparedError(t._key)
         if t._ended:
             raise NotOpenError(NotOpenError.__doc__)
-        if t._life != self.life or t._number not in self._open:
+        if self.known(t._life, t._number) not in self._open:
             raise EpochEndedError(EpochEndedError.__doc__)
 
     def is_open(self, life: int, number: int) -> bool:
-        return not self.is_lost() and life == self.life and number in self._open
+        return not self.is_lost() and self.known(life, number) in self._open
+
+    def may_be_open(self, life: int, number: int) -> bool:
+        # one of an earlier opening is prepared, as far as is known
+        return self.is_open(life, number) or (life < self._first_life and not self.is_lost())
 
     def is_stale(self, x: int, blocker: int) -> bool:
-        # an end or a rollback that was asked after the call, while its answer was awaited; of one of an earlier life only a decision
-        rolled_back = self._open.get(blocker) if blocker < LIVES else self._let_go_anywhere
+        # an end or a rollback that was asked after the call, while its answer was awaited; of one of an earlier opening only a decision
+        is_own = blocker >= self.known(self._first_life, 0)
+        rolled_back = self._open.get(blocker) if is_own else self._let_go_anywhere
         return rolled_back is None or max(rolled_back, self._let_go.get(x, 0), self._let_go_anywhere) > self.answered
 
     def call(self, t: "Transaction", x: int, name: str) -> Slot:
@@ -279,9 +297,10 @@ class Child(Asking):
     def _touches(self, t: "Transaction", x: int) -> None:
         """The transaction has touched an object. Another thread may have asked it to let go, while the answer was awaited."""
         t._touched.add(x)
-        if self._open.get(t._number, self._last_end) > self.answered:
+        known = self.known(t._life, t._number)
+        if self._open.get(known, self._last_end) > self.answered:
             self._let_go[x] = self._last_end
-            self.sleepers.took_back(t._number, (x,))
+            self.sleepers.took_back(known, (x,))
 
     def _asked(self, t: "Transaction", x: int, call: int, name: str) -> Slot:
         """What a call would be answered."""
@@ -303,12 +322,13 @@ class Child(Asking):
         return Busy(number) if of == life else Busy(number, of)
 
     def _refuse_transaction(self, t: "Transaction", answer: bytes) -> NoReturn:
-        """As `_refuse`. A transaction that hasn't ended here and isn't open there is of an epoch that is over."""
+        """As `_refuse`. The end of an epoch has aborted a transaction that hasn't ended here and isn't open there."""
         if answer == b"refused NotOpen":
-            if t._life == self.life:
-                self._end_life()
-            # it may have been ended by another thread, while this one waited for the answer
-            raise NotOpenError(NotOpenError.__doc__) if t._ended else EpochEndedError(EpochEndedError.__doc__)
+            # another thread may have ended it, while this one waited for the answer
+            if t._ended:
+                raise NotOpenError(NotOpenError.__doc__)
+            self._epoch_ended(t)
+            raise EpochEndedError(EpochEndedError.__doc__)
         self._refuse(answer)
 
     def rollback(self, t: "Transaction", operations: int) -> Finish:
@@ -317,17 +337,17 @@ class Child(Asking):
         if operations >= MOST_EVENTS:
             raise BadRollback(BadRollback.__doc__)
         slot = self._connection.made(f"rollback {t._life}.{t._number} {operations}")
-        self._put_with(slot, lambda: self._has_rolled_back(slot, t._number, t._touched))
+        self._put_with(slot, lambda: self._has_rolled_back(slot, self.known(t._life, t._number), t._touched))
         return lambda: self._finish(t, slot)
 
-    def _has_rolled_back(self, slot: Slot, number: int, touched: Collection[int]) -> None:
+    def _has_rolled_back(self, slot: Slot, known: int, touched: Collection[int]) -> None:
         """A rollback was asked for, where it was written."""
         if not slot.written:
             return
-        self._open[number] = self._last_end = slot.number
+        self._open[known] = self._last_end = slot.number
         for x in touched:
             self._let_go[x] = slot.number
-        self.sleepers.took_back(number, touched)
+        self.sleepers.took_back(known, touched)
 
     def commit(self, t: "Transaction", key: Optional[str] = None) -> Finish:
         if key is not None:
@@ -370,20 +390,20 @@ class Child(Asking):
     def _ends(self, t: "Transaction", slot: Slot, aborts: int) -> None:
         if slot.written:
             t._ended = True
-            self._has_ended(slot, t._number, t._touched, aborts)
+            self._has_ended(slot, self.known(t._life, t._number), t._touched, aborts)
 
-    def _has_ended(self, slot: Slot, number: int, touched: Collection[int], aborts: int) -> None:
+    def _has_ended(self, slot: Slot, known: int, touched: Collection[int], aborts: int) -> None:
         """An end was asked for, where it was written."""
         if not slot.written:
             return
-        self._open.pop(number, None)
-        self.holders.pop(number, None)
+        self._open.pop(known, None)
+        self.holders.pop(known, None)
         self._last_end = slot.number
         for x in touched:
             self._let_go[x] = slot.number
         self.ends += 1
         if self.sleepers.calls or self.sleepers.bells:
-            self.sleepers.ended(number, touched)
+            self.sleepers.ended(known, touched)
         self.counts.aborts = aborts
 
     def _finish(self, t: "Transaction", slot: Slot) -> None:
@@ -416,14 +436,15 @@ class Child(Asking):
         if refusal is None:
             return
         with self.lock:
-            if was_open and t._life == self.life:
+            if was_open:
                 self._together(partial(self._opens_again, t, slot))
         raise refusal
 
     def _opens_again(self, t: "Transaction", slot: Slot) -> None:
         """A transaction that counted as ended from this request on is open. It may be done twice."""
-        self._open[t._number] = slot.number
-        self.hold(t)
+        known = self.known(t._life, t._number)
+        self._open[known] = slot.number
+        self.hold(t, known)
         t._ended = False
 
     def _refuse_end(self, t: "Transaction", answer: bytes, was_open: bool = True) -> NoReturn:
@@ -432,8 +453,7 @@ class Child(Asking):
             if answer == b"refused NotOpen":
                 if t._ended and not was_open:
                     raise NotOpenError(NotOpenError.__doc__)
-                if t._life == self.life:
-                    self._end_life()
+                self._epoch_ended(t)
                 raise EpochEndedError(EpochEndedError.__doc__)
             self._refuse(answer)
 

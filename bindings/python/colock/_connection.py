@@ -133,7 +133,8 @@ class Connection:
         self.lost: Optional[str] = None
         # whether its end was asked for, nothing is written any more, and nothing is answered any more
         self._is_ending = self._is_cut = self._is_over = False
-        self._count = 0
+        # how many requests were made
+        self.count = 0
         # what is in flight, and what was put last, which may not be written
         self._requests: Deque[Slot] = deque()
         self._last: Optional[Slot] = None
@@ -162,13 +163,13 @@ class Connection:
 
     def made(self, words: str, is_list: bool = False) -> Slot:
         """A request that isn't put yet."""
-        self._count += 1
-        return Slot(self._count, words, is_list)
+        self.count += 1
+        return Slot(self.count, words, is_list)
 
     def made_late(self, words: str, meanwhile: Callable[[], None]) -> Slot:
         """A request that isn't put yet, whose answer may be late."""
-        self._count += 1
-        slot = LateSlot(self._count, words, False)
+        self.count += 1
+        slot = LateSlot(self.count, words, False)
         slot.meanwhile = meanwhile
         return slot
 

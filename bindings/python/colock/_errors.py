@@ -12,6 +12,11 @@ class Error(Exception):
     """What the others are."""
 
 
+def _named(number: int, life: Optional[int]) -> str:
+    """A transaction in words, with its life where that is another one's."""
+    return str(number) if life is None else f"{life}.{number}"
+
+
 class Retryable(Error):
     """What `Store.retry` tries again: another transaction was in the way, or an epoch ended."""
 
@@ -196,21 +201,23 @@ class ClosedError(Error):
 
 
 class EpochEndedError(NotOpenError, Retryable):
-    """The store behind a child began a new epoch, and aborted the transaction."""
+    """The end of an epoch aborted the transaction, which it does only where the checker's yes to some object's type is one-way."""
 
 
 class DeadlockError(Retryable):
     """Transactions waited for each other in a circle, and this one, the youngest, was aborted.
 
-    `blocker` is the number of the transaction for which it waited.
+    `blocker` is the number of the transaction for which it waited. `life` is None, but where that one began in another life
+    than this one: then it is that life.
     """
 
-    def __init__(self, blocker: int) -> None:
+    def __init__(self, blocker: int, life: Optional[int] = None) -> None:
         super().__init__(blocker)
         self.blocker = blocker
+        self.life = life
 
     def __str__(self) -> str:
-        return f"it waited for transaction {self.blocker} in a circle, and was aborted as the youngest"
+        return f"it waited for transaction {_named(self.blocker, self.life)} in a circle, and was aborted as the youngest"
 
 
 class TimedOut(Retryable, TimeoutError):
@@ -220,7 +227,7 @@ class TimedOut(Retryable, TimeoutError):
 class BusyError(Retryable):
     """What `executed` says of a `Busy`: `blocker` is the number of the transaction that is in the way.
 
-    `life` is None, but where that one is prepared and began in an earlier life: then it is that life.
+    `life` is None, but where that one began in another life than the transaction that asked: then it is that life.
     """
 
     def __init__(self, blocker: int, life: Optional[int] = None) -> None:
@@ -229,8 +236,7 @@ class BusyError(Retryable):
         self.life = life
 
     def __str__(self) -> str:
-        who = str(self.blocker) if self.life is None else f"{self.life}.{self.blocker}, which is prepared,"
-        return f"transaction {who} is in the way"
+        return f"transaction {_named(self.blocker, self.life)} is in the way"
 
 
 class IllegalError(Error):

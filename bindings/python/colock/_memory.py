@@ -69,7 +69,7 @@ class Memory(Renewing):
             return self.begin(t)
         t._in_library = epoch.begun.value
         t._life, t._number, t._epoch = self.life, t._in_library + epoch.shift, epoch
-        self.hold(t)
+        self.hold(t, t._number)
         self._half = None
         return True
 
@@ -90,14 +90,14 @@ class Memory(Renewing):
             self._half = None
         super().put_right()
 
-    def abort_forsaken(self, number: int) -> None:
-        if self.is_open(self.life, number):
+    def abort_forsaken(self, known: int) -> None:
+        if self.is_open(self.life, known):
             self.counts.aborts += 1
             self.doing = self.sleepers.begin_anew
-            ABORT(self._handle, 0, self.epoch.in_library(number))
+            ABORT(self._handle, 0, self.epoch.in_library(known))
             self.ends += 1
             # at which objects it let go isn't known
-            self.sleepers.ended(number, range(len(self.types)))
+            self.sleepers.ended(known, range(len(self.types)))
             self.doing = None
 
     def _refuse(self, t: "Transaction") -> NoReturn:

@@ -21,7 +21,7 @@ class PreparedTransaction(NamedTuple):
     until: int
     """The number that its `prepare` was given, which the store only keeps."""
     objects: Tuple[ObjectRef, ...]
-    """The objects at which it holds operations, ascending, in a store in memory: each by its name, where it has one, else by its number. A store in a file lists none."""
+    """The objects at which it holds operations, ascending: each by its name, where it has one, else by its number."""
 
 
 class Undecided(NamedTuple):

@@ -69,8 +69,7 @@ class PreparingChild(Child):
         one = self.undecided.get(key)
         if one is not None and one.holder() is t:
             self.undecided.pop(key)
-        if t._life == self.life:
-            self._opens_again(t, slot)
+        self._opens_again(t, slot)
 
     def abort_behind(self, t: "Transaction") -> None:
         if t._key is None or self.is_lost():
@@ -86,31 +85,27 @@ class PreparingChild(Child):
         self.put_right()
         self._check_connection()
         one = self.undecided.get(key)
-        # one of an earlier life has a name there, by which nobody sleeps here
-        number = None if one is None or one.life != self.life else one.number
+        # of one of an earlier opening isn't known here what it holds
+        known = None if one is None else self.known(one.life, one.number)
         slot = self._connection.made(f"decide {key} {decision.value}")
-        self._put_with(slot, partial(self._decides, slot, key, number))
+        self._put_with(slot, partial(self._decides, slot, key, known))
         return lambda: self._finish_decision(slot, key, decision)
 
-    def _decides(self, slot: Slot, key: str, number: Optional[int]) -> None:
+    def _decides(self, slot: Slot, key: str, known: Optional[int]) -> None:
         """A decision was asked for, where it was written: who sleeps may be free behind it."""
         if not slot.written:
             return
         one = self.undecided.get(key)
-        if number is None:
+        if known is None:
             self._lets_go_anywhere(slot)
         elif one is not None:
-            self._has_ended(slot, number, one.objects, self.counts.aborts)
+            self._has_ended(slot, known, one.objects, self.counts.aborts)
         self.has_decided(key)
 
     def _lets_go_anywhere(self, slot: Slot) -> None:
         """A transaction was asked to end, where that was written, of which isn't known at which objects it let go."""
-        if not slot.written:
-            return
-        self._last_end = self._let_go_anywhere = slot.number
-        self.ends += 1
-        if not self.sleepers.is_empty():
-            self.sleepers.begin_anew()
+        if slot.written:
+            self._let_go_until(slot.number)
 
     def _finish_decision(self, slot: Slot, key: str, decision: Decision) -> None:
         """The end of a decision, outside the lock. From when it was written it isn't known what becomes of it."""

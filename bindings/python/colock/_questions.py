@@ -45,7 +45,7 @@ class Questions:
         True where it is committed, False where it never will be, and None where it is open or prepared, or where it isn't
         certain any more: of a store in memory after `renew` or `forget`, and of one in a file where neither the
         events nor the archive say. The life before this opening is always known until an epoch ends, and then
-        by the archive. Of what is prepared and outlives its epoch `outcome` says it. Raises `ValueError` where it isn't an id,
+        by the archive. Of what outlives its epoch only `outcome` of its key says it, where it has one. Raises `ValueError` where it isn't an id,
         and `ClosedError`, `ConnectionLost` or `OSError`.
         """
         life, number = read_id(id)

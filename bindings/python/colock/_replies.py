@@ -5,9 +5,6 @@ from typing import Optional, Union
 from ._errors import BusyError, IllegalError, UnexpectedError
 from ._operations import number_of
 
-# The numbers of the transactions of a life are below.
-LIVES = 1 << 32
-
 
 @dataclass(frozen=True, repr=False)
 class Operation:
@@ -50,18 +47,13 @@ class Busy:
     """What another transaction, the blocker, did is in its way. Nothing was executed.
 
     Where somebody older waits at the object the blocker may be that one, who is first in turn. `life` is None, but where the
-    blocker is prepared and began in an earlier life: then it is that life.
+    blocker began in another life than the transaction that asks, of an attempt than the present one: then it is that life.
     """
 
     __match_args__ = ("blocker", "life")
 
     blocker: int
     life: Optional[int] = None
-
-    @property
-    def waited_for(self) -> int:
-        """The number by which those that wait know the blocker: no transaction of this life has that of an earlier one."""
-        return self.blocker if self.life is None else self.blocker + LIVES * self.life
 
     def executed(self) -> Operation:
         """Raises `BusyError`."""

@@ -155,7 +155,7 @@ class Sleepers:
     def leave(self, sleeper: Sleeper) -> None:
         """A call waits no more: it was answered, or is given up. A second time does nothing."""
         number = sleeper.asker.number
-        # its number may be that of another one of a later epoch by now
+        # in memory its number may be that of another one of a later life by now
         if self.calls.get(number) is sleeper:
             self.calls.pop(number, None)
             self._engine.leave(number)
@@ -181,7 +181,7 @@ class Sleepers:
 
     @event
     def all_ended(self) -> None:
-        """Each transaction has ended, with its epoch or the store."""
+        """Each transaction has ended, with the store."""
         self._engine.epoch_ended()
         for number in list(self.calls):
             self._end(number)

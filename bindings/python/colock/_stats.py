@@ -8,7 +8,7 @@ class Stats(NamedTuple):
     commits: int
     """Commits, attempts and decisions to commit that came through, those under a key that had committed before among them."""
     aborts: int
-    """Aborts, those of victims, of epochs that ended and of decisions among them."""
+    """Aborts, those of victims, of decisions, and of what the end of an epoch aborted among them: of each when something is asked of it."""
     busy: Tuple[int, ...]
     """By object: how often a call was answered `Busy`, and how often one went to sleep."""
     waits: int

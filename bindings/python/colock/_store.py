@@ -86,7 +86,8 @@ class Store(Questions):
 
         `archive` is a folder that keeps the history of each epoch, made where it isn't there; several stores may
         share it. `fast` supposes that the disk tears no write apart. `drain` is how many seconds what is open may go
-        on in a full epoch, 5 where it isn't given. `program` is the program; else `COLOCK` of the environment names
+        on where an epoch has to end and a yes of the checker is one-way, 5 where it isn't given: where each is strong, it goes on in
+        the next epoch. `program` is the program; else `COLOCK` of the environment names
         it, or it is a file `colock` beside the package, or on PATH. `limit` is how many seconds an answer may take.
 
         Raises `CannotOpen`, `OtherObjects`, `BadName`, `NameTaken`, `TooManyObjects`, `ValueError` where `create` comes without
@@ -125,8 +126,8 @@ class Store(Questions):
     def begin(self, worker: int = 0) -> Transaction:
         """Begins a transaction, as a worker, which is a number below 256 that its events have.
 
-        It is open until it commits or aborts, nobody has it any more, or the store is closed, unless it is prepared. In a file, where an epoch
-        is full or objects are added, it waits for the next one. Raises `TooManyOpenError`, `HistoryFullError` where events are kept (`forget_when_full`),
+        It is open until it commits or aborts, nobody has it any more, or the store is closed, unless it is prepared. In a file in which
+        a yes of the checker is one-way, where an epoch is full or objects are added, it waits for the next one. Raises `TooManyOpenError`, `HistoryFullError` where events are kept (`forget_when_full`),
         `NoMemory` or `ClosedError`; of a store in a file `ConnectionLost`, `TimedOut` where the next epoch doesn't come, or `InMemoryOnly` of a worker other than 0.
         """
         t = Transaction(self, unsigned("the worker", worker, 8), next(self._ages))
@@ -406,6 +407,8 @@ class Store(Questions):
     def events(self, start: int = 0) -> List[Event]:
         """The events from a place on, oldest first. Events count from 0; those of a file are of the present epoch.
 
+        Its first ones are those of what went over into it, by other numbers.
+
         Raises `Forgotten`, `ClosedError` or `ConnectionLost`.
         """
         first = unsigned("the place", start, 64)
@@ -479,9 +482,10 @@ class Store(Questions):
     def extend(self, types: Objects) -> int:
         """Begins anew, as `renew` while nobody is open, with more objects, and returns the number of the first of them.
 
-        They come after those that there are, each in its initial state, and are given as to `Store`. In a file it waits, and
-        no transaction begins meanwhile, until all that are open have ended or the `drain` of `open` is over, which aborts them;
-        it is durable then. Where it is interrupted, the objects may still be added.
+        They come after those that there are, each in its initial state, and are given as to `Store`. In a file it is durable then, and
+        what is open goes on, where each yes of the checker is strong. Where one is one-way, it waits, and no transaction begins
+        meanwhile, until all that are open have ended or the `drain` of `open` is over, which aborts them. Where it is interrupted,
+        the objects may still be added.
 
         Raises `BadName`, `NameTaken`, `TooManyObjects`, `NoMemory`, or `ClosedError` of the store or a type; in memory
         `StillOpenError`; of a store in a file `NoObjects`, `CannotExtend`, `TimedOut` where others go on adding objects, or

@@ -1,7 +1,7 @@
 """Calls that wait, at a store of either backend."""
 import random
 import time
-from typing import TYPE_CHECKING, Callable, NamedTuple, NoReturn, Optional, Union, cast
+from typing import TYPE_CHECKING, Callable, NamedTuple, NoReturn, Optional, Tuple, Union, cast
 
 from ._backend import Asked, Backend, Finish, Steps
 from ._decisions import Asker
@@ -48,23 +48,33 @@ class Waiting:
         """A call that has passed the gate, where somebody sleeps, under the lock."""
         self._backend.check(t)
         ahead = self._at_gate(t, x, call)
-        return self._backend.call_op(t, x, call) if ahead is None else Busy(ahead)
+        return self._backend.call_op(t, x, call) if ahead is None else ahead
 
     def would_now(self, t: "Transaction", x: int, call: int) -> Asked[Reply]:
         """What the call would be answered, where somebody sleeps, under the lock."""
         self._backend.check(t)
         ahead = self._at_gate(t, x, call)
-        return self._backend.would_op(t, x, call) if ahead is None else Busy(ahead)
+        return self._backend.would_op(t, x, call) if ahead is None else ahead
 
-    def _at_gate(self, t: "Transaction", x: int, call: int) -> Optional[int]:
-        return self._sleepers.at_gate(Asker(t._number, t._age, x, call % PLACES))
+    def _at_gate(self, t: "Transaction", x: int, call: int) -> Optional[Busy]:
+        ahead = self._sleepers.at_gate(Asker(self._known(t), t._age, x, call % PLACES))
+        return None if ahead is None else Busy(*self._seen(t, ahead))
+
+    def _known(self, t: "Transaction") -> int:
+        """The number by which those that wait know a transaction."""
+        return self._backend.known(t._life, t._number)
+
+    def _seen(self, t: "Transaction", known: int) -> Tuple[int, Optional[int]]:
+        """The number of the transaction that is known by a number, and its life where that isn't this one's."""
+        life, number = self._backend.named(known)
+        return number, None if life == t._life else life
 
     # ---- calls that wait
 
     def call(self, t: "Transaction", x: int, call: int, wait: float) -> Reply:
         """A call that waits this many seconds at most. The lock isn't held."""
         deadline = deadline_of(wait)
-        sleeper = Sleeper(t._number, t._age, x, call)
+        sleeper = Sleeper(self._known(t), t._age, x, call)
         try:
             try:
                 return self._waited(t, sleeper, deadline)
@@ -136,7 +146,8 @@ class Waiting:
             return reply
         # or while the answer was awaited
         self._backend.check(t)
-        return None if self._backend.is_stale(x, reply.waited_for) else Ahead(reply.waited_for, False)
+        blocker = self._backend.known(t._life if reply.life is None else reply.life, reply.blocker)
+        return None if self._backend.is_stale(x, blocker) else Ahead(blocker, False)
 
     def _check_alone(self, sleeper: Sleeper) -> None:
         """Raises `ValueError` where the transaction waits in another thread."""
@@ -170,7 +181,7 @@ class Waiting:
                 return
             self._counts.deadlocks += 1
             finish = self._backend.abort(t)
-            t._deadlock = DeadlockError(sleeper.waited_for)
+            t._deadlock = DeadlockError(*self._seen(t, sleeper.waited_for))
         finished(finish)
         raise t._deadlock
 
@@ -182,17 +193,18 @@ class Waiting:
 
     # ---- waiting for an end
 
-    def await_end(self, life: int, number: int, seconds: float) -> None:
-        """Waits until a transaction has ended, this many seconds at most. The lock isn't held."""
-        self._watch(number, seconds, lambda: self._backend.is_open(life, number))
-
     def before_next(self, t: "Transaction", reason: Exception, behind: int, backoff: float) -> None:
         """What comes between two tries, when this many are over. The lock isn't held."""
         if isinstance(reason, DeadlockError):
             # a victim that began at once would take again what it gave up, before the other one wakes
-            self.await_end(t._life, reason.blocker, SECONDS_FOR_BLOCKER)
+            self._await_end(t, t._life if reason.life is None else reason.life, reason.blocker)
         else:
             time.sleep(random.uniform(0, min(backoff * 2.0 ** min(behind - 1, 60), LONGEST_BACKOFF)))
+
+    def _await_end(self, t: "Transaction", life: int, number: int) -> None:
+        """Waits until the transaction has ended for which another one waited. Where an epoch has ended since, that may have aborted it."""
+        backend = self._backend
+        self._watch(backend.known(life, number), SECONDS_FOR_BLOCKER, lambda: t._life == backend.life and backend.is_open(life, number))
 
     def out_of_the_way(self, busy: Busy, deadline: float) -> None:
         """Sleeps until the transaction that was in the way of an attempt has ended, or for a nap. The lock isn't held.
@@ -204,12 +216,9 @@ class Waiting:
             with self._backend.lock:
                 self._counts.timeouts += 1
             raise TimedOut("the limit of a wait is over, and nothing was executed")
-        life, seconds = self._backend.life, min(deadline - start, SECONDS_OF_NAP)
-        if busy.life is None:
-            self.await_end(life, busy.blocker, seconds)
-        else:
-            # it is prepared, and wakes all where it is decided
-            self._watch(busy.waited_for, seconds, lambda: not self._backend.is_lost())
+        backend, seconds = self._backend, min(deadline - start, SECONDS_OF_NAP)
+        life, number = backend.life if busy.life is None else busy.life, busy.blocker
+        self._watch(backend.known(life, number), seconds, lambda: backend.may_be_open(life, number))
         with self._backend.lock:
             self._counts.waits += 1
             self._counts.waited += time.monotonic() - start

@@ -59,8 +59,31 @@ reach 0
 end
 """
 
+# The text of a type whose yes is one-way in place, as the checker says (cases/verdicts.cases).
+ONE_WAY = """type oneway
+states 5
+initial 0
+op p ok
+op q ok
+op r ok
+step 0 0 2
+step 0 1 1
+step 1 0 3
+step 2 1 4
+step 4 2 4
+equi 3 4
+conflict undo 1 0
+conflict undo 2 1
+end
+"""
+
 # A purse, of which any amount is taken and given, 100 by a line of its own, and what is in it is told.
 PURSE = "number purse\nmax 10000\ninitial 500\ntake 100\ntake any\ngive any\nvalue\nend\n"
+
+
+def one_way():
+    """A type of which a store in a file may have an object, and then aborts what is open where an epoch ends."""
+    return colock.Type(ONE_WAY)
 
 
 def program():
@@ -159,9 +182,14 @@ def asleep(store, count):
     until(lambda: sum(store.stats().busy) >= count, f"sleep {count}")
 
 
+def known(store, t):
+    """The number by which a store knows a transaction."""
+    return store._backend.known(t._life, t.number)
+
+
 def behind(store, t, other):
     """Waits until a transaction waits for another one."""
-    until(lambda: store._backend.sleepers.waits_for(t.number) == other.number, "the wait")
+    until(lambda: store._backend.sleepers.waits_for(known(store, t)) == known(store, other), "the wait")
 
 
 class Timed:

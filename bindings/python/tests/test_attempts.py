@@ -6,6 +6,7 @@ import time
 import typing
 import unittest
 
+import support
 from support import LONG, PURSE, QUICK, SOON, TWO, Fakes, InMemory, OverChild, Run, Timed, asleep, until
 
 import colock
@@ -168,7 +169,7 @@ class Attempts:
         asleep(store, 1)
         # it doesn't go behind who sleeps, and where it aborts nobody can go
         self.assertEqual(store.attempt([(0, "inc:1"), (0, "dec:2")]), Ended(1, Busy(holder.number)))
-        self.assertEqual(store._backend.sleepers.calls.keys(), {t.number})
+        self.assertEqual(store._backend.sleepers.calls.keys(), {support.known(store, t)})
         self.assertIsInstance(store.attempt([(0, "inc:2")]), Done)
         self.assertEqual(sleeping.result().executed().reply, "ok")
         holder.abort()
@@ -324,7 +325,7 @@ class AttemptsOverAChild(OverChild, Attempts, unittest.TestCase):
         self.assertEqual(store.moment().commits, 1)
 
     def test_it_waits_for_the_next_epoch(self):
-        store = self.make([COUNTER], drain=600)
+        store = self.make([COUNTER, support.one_way()], drain=600)
         t = store.begin()
         t.call(0, "inc:1").executed()
         # until that has ended no transaction begins
@@ -334,8 +335,8 @@ class AttemptsOverAChild(OverChild, Attempts, unittest.TestCase):
         time.sleep(0.1)
         self.assertTrue(attempting.is_alive())
         t.commit()
-        self.assertEqual((extending.result(), attempting.result()), (1, Done((UP,))))
-        self.assertEqual((store.snapshot().states, store.moment().commits), ((2, 0), 1))
+        self.assertEqual((extending.result(), attempting.result()), (2, Done((UP,))))
+        self.assertEqual((store.snapshot().states, store.moment().commits), ((2, 0, 0), 1))
 
 
 ANSWERS = """
@@ -343,6 +344,8 @@ answers = {answers!r}
 for tag, words in opened():
     if words[0] == "begin":
         say(f"{{tag}} ok 5.7\\n")
+    elif words[0] == "call":
+        say(f"{{tag}} refused NotOpen\\n")
     elif words[0] == "do":
         answer = answers.pop(0)
         if answer == "die":
@@ -392,7 +395,7 @@ class Answers(Fakes):
         self.assertLess(timed.seconds, 0.9)
 
     def test_a_blocker_of_another_epoch(self):
-        """What was open before it is no more."""
+        """What was open before it may be no more."""
         store = self.answering("busy 0 6.7", "done ok ok")
         t = store.begin()
         self.assertIsInstance(store.attempt(self.CALLS, wait=LONG), Done)

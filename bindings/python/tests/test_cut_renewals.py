@@ -57,7 +57,7 @@ class CutRenewals(support.InMemory, unittest.TestCase):
             self.assertEqual((store.event_count(), store.moment()), (count, moment))
             seen.add((was_raised, store.forgotten_count() == count))
             with store.begin() as u:
-                self.assertEqual((u.call(0, "dec:1").waited_for, u.id), (prepared.number, f"0.{prepared.number + 1}"))
+                self.assertEqual((u.call(0, "dec:1").blocker, u.id), (prepared.number, f"0.{prepared.number + 1}"))
             store.decide(key, colock.Decision.ABORT)
             self.assertEqual((held.call(1, "inc:1").executed().place, held.number), (UP, 0))
             held.rollback(1)

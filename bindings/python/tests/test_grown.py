@@ -163,7 +163,8 @@ class Extended(Files):
         self.assertEqual((waiting.result(), store.kept(1)), ("ok", 0))
 
     def test_it_waits_until_what_is_open_has_ended(self):
-        store = self.open([COUNTER], create=True, drain=600)
+        """Where a yes is one-way, as in the tests after this."""
+        store = self.open([COUNTER, support.one_way()], create=True, drain=600)
         first, second = store.begin(), store.begin()
         extending = Run(store.extend, {"b": COUNTER})
         until(lambda: store._backend._connection._late, "the wait")
@@ -174,14 +175,14 @@ class Extended(Files):
             self.assertTrue(extending.is_alive() and beginning.is_alive())
             self.assertRaises(colock.NoObject, store.kept, "b")
             t.commit()
-        self.assertEqual((extending.result(), store.kept(0), store.kept("b")), (1, 2, 0))
+        self.assertEqual((extending.result(), store.kept(0), store.kept("b")), (2, 2, 0))
         with beginning.result() as t:
             t.expect("b", "inc:1", "ok")
         self.assertEqual((t.id, store.stats().aborts, store.stats().commits), ("2.0", 0, 3))
 
     def test_a_wait_beyond_the_limit(self):
         """The limit is of answers, and not of what an extension waits for."""
-        store = self.open([COUNTER], create=True, drain=600, limit=LIMIT)
+        store = self.open([COUNTER, support.one_way()], create=True, drain=600, limit=LIMIT)
         t = store.begin()
         t.expect(0, "inc:1", "ok")
         extending = Run(store.extend, {"b": COUNTER})
@@ -189,54 +190,54 @@ class Extended(Files):
         self.assertTrue(extending.is_alive())
         self.assertRaises(colock.TimedOut, store.begin)
         t.commit()
-        self.assertEqual((extending.result(), store.kept("b"), store.kept(0)), (1, 0, 1))
+        self.assertEqual((extending.result(), store.kept("b"), store.kept(0)), (2, 0, 1))
 
     def test_who_is_gone_isnt_waited_for(self):
-        store = self.open([COUNTER], create=True, drain=600)
+        store = self.open([COUNTER, support.one_way()], create=True, drain=600)
         store.begin().call(0, "inc:1")
-        self.assertEqual((store.extend([COUNTER]), store.kept(0)), (1, 0))
+        self.assertEqual((store.extend([COUNTER]), store.kept(0)), (2, 0))
         # and who goes while it waits
         t = store.begin()
         t.expect(0, "inc:1", "ok")
         extending = Run(store.extend, [COUNTER])
         until(lambda: store._backend._connection._late, "the wait")
         del t
-        self.assertEqual((extending.result(), store.kept(0), store.stats().aborts), (2, 0, 2))
+        self.assertEqual((extending.result(), store.kept(0), store.stats().aborts), (3, 0, 2))
 
     def test_no_time_for_what_is_open(self):
-        store = self.open([COUNTER], create=True, drain=0)
+        store = self.open([COUNTER, support.one_way()], create=True, drain=0)
         t = store.begin()
         t.expect(0, "inc:1", "ok")
-        self.assertEqual(store.extend({"b": COUNTER}), 1)
+        self.assertEqual(store.extend({"b": COUNTER}), 2)
         self.assertRaises(colock.EpochEndedError, t.commit)
 
     def test_who_stays_open_is_aborted(self):
         """Nobody asks anything meanwhile, and who sleeps is woken."""
-        store = self.open([COUNTER], create=True, drain=1)
+        store = self.open([COUNTER, support.one_way()], create=True, drain=1)
         holder, sleeper = store.begin(), store.begin()
         holder.expect(0, "inc:1", "ok")
         sleeping = Run(sleeper.call, 0, "dec:1", LONG)
         support.asleep(store, 1)
         with Timed() as timed:
-            self.assertEqual(store.extend([COUNTER]), 1)
+            self.assertEqual(store.extend([COUNTER]), 2)
         self.assertTrue(0.5 < timed.seconds < 10, timed.seconds)
         self.assertRaises(colock.EpochEndedError, sleeping.result)
         self.assertRaises(colock.EpochEndedError, holder.commit)
         self.assertEqual((store.kept(0), store.stats().aborts, store.open_count()), (0, 2, 0))
 
     def test_two_at_once(self):
-        store = self.open([COUNTER], create=True, drain=600)
+        store = self.open([COUNTER, support.one_way()], create=True, drain=600)
         t = store.begin()
         runs = [Run(store.extend, {name: SEAT, name + "2": COUNTER}) for name in "abc"]
         until(lambda: store._backend._connection._late, "the wait")
         t.expect(0, "inc:1", "ok")
         t.commit()
         firsts = [run.result() for run in runs]
-        self.assertEqual(sorted(firsts), [1, 3, 5])
+        self.assertEqual(sorted(firsts), [2, 4, 6])
         for first, name in zip(firsts, "abc"):
             self.assertEqual((store.find(name), store.find(name + "2")), (first, first + 1))
             up(store, name + "2")
-        self.assertEqual([store.kept(x) for x in range(7)], [1, 0, 1, 0, 1, 0, 1])
+        self.assertEqual([store.kept(x) for x in range(8)], [1, 0, 0, 1, 0, 1, 0, 1])
 
     def test_others_work_meanwhile(self):
         wide, objects = Type.counter(1000, [1]), 12
@@ -323,16 +324,16 @@ class Extended(Files):
         self.assertEqual(str(store.events()[0]), "begin 0 0")
 
     def test_a_store_that_is_closed_meanwhile(self):
-        store = self.open([COUNTER], create=True, drain=600)
+        store = self.open([COUNTER, support.one_way()], create=True, drain=600)
         t = store.begin()
         t.expect(0, "inc:1", "ok")
         extending = Run(store.extend, {"b": COUNTER})
         until(lambda: store._backend._connection._late, "the wait")
         store.close()
-        self.assertEqual(extending.result(), 1)
+        self.assertEqual(extending.result(), 2)
         self.assertRaises(colock.ClosedError, t.commit)
         with self.open() as store:
-            self.assertEqual((names(store), store.kept(0)), ([None, "b"], 0))
+            self.assertEqual((names(store), store.kept(0)), ([None, None, "b"], 0))
 
     def test_folders_with_spaces(self):
         spaced = os.path.join(self.folder, "a b")
@@ -366,7 +367,7 @@ class Extended(Files):
 
     def test_a_handler_that_raises(self):
         """What was asked goes on, and nothing is held."""
-        store = self.open([COUNTER], create=True, drain=600)
+        store = self.open([COUNTER, support.one_way()], create=True, drain=600)
         t = store.begin()
 
         def interrupt(*_):
@@ -379,8 +380,8 @@ class Extended(Files):
             self.assertRaises(KeyboardInterrupt, store.extend, [COUNTER])
             t.expect(0, "inc:1", "ok")
         t.commit()
-        until(lambda: len(store.stats().busy) == 4, "the objects")
-        self.assertEqual((store.extend({"b": COUNTER}), [store.kept(x) for x in range(5)]), (4, [3, 0, 0, 0, 0]))
+        until(lambda: len(store.stats().busy) == 5, "the objects")
+        self.assertEqual((store.extend({"b": COUNTER}), [store.kept(x) for x in range(6)]), (5, [3, 0, 0, 0, 0, 0]))
 
     @unittest.skipIf(support.QUICK, "it takes seconds")
     def test_handlers_that_raise_at_any_moment(self):
@@ -409,7 +410,7 @@ class Extended(Files):
             self.assertEqual(names(store)[1:], found)
 
     def test_a_kill_while_one_waits(self):
-        store = self.open([COUNTER], create=True, drain=600)
+        store = self.open([COUNTER, support.one_way()], create=True, drain=600)
         up(store, 0)
         t = store.begin()
         extending = Run(store.extend, {"b": COUNTER, "c": COUNTER})
@@ -418,7 +419,7 @@ class Extended(Files):
         os.kill(pid_of(store), signal.SIGKILL)
         self.assertRaises(colock.ConnectionLost, extending.result)
         with self.open() as store:
-            self.assertEqual((names(store), store.kept(0)), ([None], 1))
+            self.assertEqual((names(store), store.kept(0)), ([None, None], 1))
 
     @unittest.skipIf(support.QUICK, "it takes seconds")
     def test_kills_at_any_moment(self):

@@ -184,9 +184,10 @@ class Refused(Fakes):
     def test_one_of_an_epoch_that_is_over(self):
         store = self.refusing("NotOpen")
         t, u = store.begin(), store.begin()
-        self.assertRaises(colock.EpochEndedError, t.commit, key="a")
-        for _ in range(2):
-            self.assertRaises(colock.EpochEndedError, u.commit, key="a")
+        for one in (t, u):
+            self.assertRaises(colock.EpochEndedError, one.commit, key="a")
+        for one in (t, u):
+            self.assertRaises(colock.NotOpenError, one.commit, key="a")
         self.assertEqual((store.stats().commits, store.stats().aborts), (0, 2))
 
     def test_interrupted_at_each_place(self):

@@ -82,9 +82,9 @@ class Transactions:
         # its number may be that of another one by now, or it wasn't noted yet
         store = self.make([Type.counter(5, [1])])
         t = store.begin()
-        former, unnumbered = Holder(t, print), Holder(t, print)
-        former.number = t.number
-        store._backend.gone.extend([former, unnumbered])
+        former, unknown = Holder(t, print), Holder(t, print)
+        former.known = store._backend.known(0, t.number)
+        store._backend.gone.extend([former, unknown])
         self.assertEqual((store.open_count(), len(store._backend.gone)), (1, 0))
         t.commit()
 

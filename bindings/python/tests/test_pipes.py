@@ -198,7 +198,7 @@ class Pipes(support.Fakes):
 
     def test_a_new_epoch(self):
         body = (
-            "answers = ['ok 5.0', 'ok 5.1', 'reply ok', 'busy 5.0', 'busy 5.0', 'ok 6.0', 'reply ok', 'ok', 'ok']\n"
+            "answers = ['ok 5.0', 'ok 5.1', 'reply ok', 'busy 5.0', 'busy 5.0', 'ok 6.0', 'refused NotOpen', 'refused NotOpen', 'reply ok', 'ok', 'ok']\n"
             "for tag, words in opened():\n    say(f'{tag} {answers.pop(0)}\\n')"
         )
         store = self.open(body)
@@ -210,7 +210,7 @@ class Pipes(support.Fakes):
         v = store.begin()
         self.assertRaises(colock.EpochEndedError, waiting.result)
         for old in (t, u):
-            for act in (old.commit, old.abort, lambda: old.call(0, "take"), lambda: old.rollback(1)):
+            for act in (lambda: old.call(0, "take"), old.commit, old.abort, lambda: old.rollback(1)):
                 self.assertRaises(colock.EpochEndedError, act)
         self.assertEqual((v.id, v.call(0, "take")), ("6.0", Executed(0, "ok")))
         v.commit()
@@ -223,11 +223,12 @@ class Pipes(support.Fakes):
         found = ["begin 0 0", "commit 0 0", "begin 0 1", "op 0 1 0 0", "begin 0 2"]
         more = ["abort 0 1", "abort 0 2", "begin 0 3", "commit 0 3", "begin 0 4", "abort 0 4", "begin 0 5"]
         body = (
-            f"events = {found + more}\n"
+            f"events, life = {found + more}, 5\n"
             "sys.stderr.write('colock: nothing.db: 5 events, 2 aborted, 3 ms\\n')\nsys.stderr.flush()\n"
             "for tag, words in opened():\n"
             "    if words[0] == 'events':\n        say(''.join(f'{tag} {event}\\n' for event in events[int(words[1]):]) + f'{tag} ok\\n')\n"
-            "    else:\n        events = []\n        say(f'{tag} ok 6.0\\n')\n"
+            "    elif words[0] == 'committed':\n        say(f'{tag} seen {life}.0 0\\n')\n"
+            "    else:\n        events, life = [], 6\n        say(f'{tag} ok 6.0\\n')\n"
         )
         archive = support.folder_of(self)
         path, id = os.path.join(archive, "nothing.db"), "00" * 15 + "ab"
@@ -262,12 +263,12 @@ class Pipes(support.Fakes):
         self.assertIn("the store has no id", str(raised.exception))
 
     def test_outcomes_without_the_line_of_what_was_found(self):
-        store = self.open("for tag, words in opened():\n    say(f'{tag} begin 0 0\\n{tag} commit 0 0\\n{tag} ok\\n')")
+        store = self.open("for tag, words in opened():\n    say(f'{tag} begin 0 0\\n{tag} commit 0 0\\n{tag} ok\\n' if words[0] == 'events' else f'{tag} seen 5.0 0\\n')")
         self.assertEqual(self.outcomes(store, "4.0", "5.0"), [None, None])
 
     def test_an_epoch_that_ended_unseen(self):
         for verb, act in [("call", lambda t: t.call(0, "take")), ("commit", lambda t: t.commit()), ("rollback", lambda t: t.rollback(1)), ("abort", lambda t: t.abort())]:
-            body = f"count = 0\nfor tag, words in opened():\n    say(f'{{tag}} refused NotOpen\\n' if words[0] == '{verb}' else f'{{tag}} ok 5.{{count}}\\n')\n    count += 1"
+            body = f"count = 0\nfor tag, words in opened():\n    say(f'{{tag}} refused NotOpen\\n' if words[0] in ('{verb}', 'call') else f'{{tag}} ok 5.{{count}}\\n')\n    count += 1"
             store = self.open(body)
             t, u = store.begin(), store.begin()
             self.assertRaises(colock.EpochEndedError, act, t)

@@ -55,10 +55,6 @@ class Words(unittest.TestCase):
 class Preparing:
     """At stores of both backends."""
 
-    def listed(self, *objects):
-        """How a store lists these objects."""
-        return objects
-
     def ready(self, store, key="a", until=0, x=0):
         """A transaction that has counted an object up and is prepared."""
         t = store.begin()
@@ -74,7 +70,7 @@ class Preparing:
                 t.call(0, "inc:1").executed()
                 t.prepare(key, until=1_800_000_000)
             t.prepare(key, until=7)
-            self.assertEqual(store.prepared(), [PreparedTransaction(key, t.id, 1_800_000_000, self.listed(0))])
+            self.assertEqual(store.prepared(), [PreparedTransaction(key, t.id, 1_800_000_000, (0,))])
             self.assertEqual((store.outcome(key), store.open_count(), store.committed(t.id)), (Prepared(), 1, None))
             with store.begin() as u:
                 self.assertEqual((u.call(0, "dec:1"), u.call(0, "inc:1")), (Busy(t.number), UP))
@@ -203,7 +199,7 @@ class Preparing:
         id = t.id
         del t
         gc.collect()
-        self.assertEqual((store.open_count(), store.prepared()), (1, [PreparedTransaction("a", id, 0, self.listed(0))]))
+        self.assertEqual((store.open_count(), store.prepared()), (1, [PreparedTransaction("a", id, 0, (0,))]))
         store.decide("a", COMMIT)
         self.assertEqual((store.kept(0), store.open_count()), (1, 0))
 
@@ -243,7 +239,7 @@ class Preparing:
         t.rollback(2)
         t.prepare("a")
         store.begin().prepare("nothing")
-        self.assertEqual([one.objects for one in store.prepared()], [self.listed("seats", "till", 3), ()])
+        self.assertEqual([one.objects for one in store.prepared()], [("seats", "till", 3), ()])
 
     def test_inside_of_a_turn(self):
         store = self.make([COUNTER])
@@ -386,10 +382,6 @@ class PreparingOverAChild(support.OverChild, Preparing, unittest.TestCase):
         self.addCleanup(support.closed, store)
         return store
 
-    def listed(self, *objects):
-        """A store in a file lists none."""
-        return ()
-
     def killed(self, store):
         """The program is killed, and the store closed."""
         os.kill(pid_of(store), signal.SIGKILL)
@@ -403,7 +395,7 @@ class PreparingOverAChild(support.OverChild, Preparing, unittest.TestCase):
             self.ready(store, key, 7 + x, x)
         store.begin().call(0, "inc:1")
         told = store.prepared()
-        self.assertEqual([(one.key, one.until, one.objects) for one in told], [("a", 7, ()), ("b", 8, ())])
+        self.assertEqual([(one.key, one.until, one.objects) for one in told], [("a", 7, ("seats",)), ("b", 8, (1,))])
         self.killed(store)
         for end in (self.killed, Store.close, self.killed):
             store = self.open()
@@ -469,7 +461,7 @@ class PreparingOverAChild(support.OverChild, Preparing, unittest.TestCase):
         t.prepare("a")
         self.assertEqual(store.extend([("more", Type(TWO))]), 1)
         life, u = int(t.id.split(".")[0]), store.begin()
-        self.assertEqual((store.prepared(), u.call(0, "give")), ([PreparedTransaction("a", t.id, 0, ())], Busy(t.number, life)))
+        self.assertEqual((store.prepared(), u.call(0, "give")), ([PreparedTransaction("a", t.id, 0, (0,))], Busy(t.number, life)))
         self.assertRaises(colock.PreparedError, t.commit)
         store.decide("a", COMMIT)
         self.assertRaises(colock.NotOpenError, t.commit)

@@ -91,7 +91,7 @@ class Lines(Fakes):
 
     def test_nothing_is_asked_of_one_that_is_prepared(self):
         store, t = self.ready(("decide a abort", "ok"))
-        requests = store._backend._connection._count
+        requests = store._backend._connection.count
         for act in (
             lambda: t.call(0, "take"), lambda: t.call(0, "take", wait=LONG), lambda: t.call_op(0, 0), lambda: t.would(0, "take"), lambda: t.would_op(0, 0), lambda: t.rollback(1),
             t.commit, lambda: t.commit(key="a"), lambda: t.commit(key="b"), t.abort, lambda: t.prepare("b"),
@@ -103,7 +103,7 @@ class Lines(Fakes):
             pass
         with self.assertRaises(ZeroDivisionError), t:
             1 // 0
-        self.assertEqual(store._backend._connection._count, requests)
+        self.assertEqual(store._backend._connection.count, requests)
         store.decide("a", Decision.ABORT)
 
     def test_nobody_has_it_any_more(self):
@@ -151,10 +151,10 @@ class Lines(Fakes):
         self.assertRaises(colock.NotOpenError, u.abort)
 
     def test_a_prepare_behind_the_end_of_the_epoch(self):
-        store = self.asked(BEGUN, ("begin", "ok 5.1"), ("prepare 5.0 a 0", "refused NotOpen"))
-        t, u = store.begin(), store.begin()
-        self.assertRaises(colock.EpochEndedError, t.prepare, "a")
-        self.assertRaises(colock.EpochEndedError, u.prepare, "a")
+        store = self.asked(BEGUN, ("begin", "ok 5.1"), ("prepare 5.0 a 0", "refused NotOpen"), ("prepare 5.1 a 0", "refused NotOpen"))
+        for t in store.begin(), store.begin():
+            for act in (lambda: t.prepare("a"), lambda: t.prepare("a"), lambda: t.call(0, "take")):
+                self.assertRaises(colock.EpochEndedError, act)
         self.assertEqual((store.stats().aborts, store._backend.undecided), (2, {}))
 
     def test_a_decision_that_is_refused(self):
@@ -219,7 +219,7 @@ class Lines(Fakes):
 
     def test_an_epoch_that_ends(self):
         """It isn't aborted by that, and goes on under its name."""
-        store, t = self.ready(("begin", "ok 5.1"), ("begin", "ok 6.0"), ("call 6.0 0 give", "busy 5.0"), ("prepare 5.0 a 0", "ok"), ("decide a commit", "ok"), ("call 6.0 0 give", "reply ok"), ("abort 6.0", "ok"))
+        store, t = self.ready(("begin", "ok 5.1"), ("begin", "ok 6.0"), ("abort 5.1", "refused NotOpen"), ("call 6.0 0 give", "busy 5.0"), ("prepare 5.0 a 0", "ok"), ("decide a commit", "ok"), ("call 6.0 0 give", "reply ok"), ("abort 6.0", "ok"))
         u, v = store.begin(), store.begin()
         self.assertRaises(colock.EpochEndedError, u.abort)
         self.assertRaises(colock.PreparedError, t.abort)
@@ -242,7 +242,7 @@ class InTheWay(Fakes):
         with self.assertRaises(colock.BusyError) as raised:
             store.attempt([(0, "take"), (0, "give")]).executed()
         self.assertEqual((raised.exception.blocker, raised.exception.life), (0, 3))
-        self.assertEqual(str(raised.exception), "transaction 3.0, which is prepared, is in the way")
+        self.assertEqual(str(raised.exception), "transaction 3.0 is in the way")
         t.abort()
 
     def test_a_call_that_sleeps_behind_it(self):

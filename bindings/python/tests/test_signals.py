@@ -236,7 +236,7 @@ class Calls:
         def turn(handler):
             holder, t, is_over = self.store.begin(), self.store.begin(), threading.Event()
             holder.call(0, "dec:1").executed()
-            ending = Run(self.ends_when_asleep, holder, t.number, is_over)
+            ending = Run(self.ends_when_asleep, holder, support.known(self.store, t), is_over)
             was_raised = handler.during(lambda: t.call(0, "inc:1", wait=LONG).executed())
             is_over.set()
             ending.result()

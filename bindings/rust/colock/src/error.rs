@@ -111,7 +111,8 @@ pub enum Error {
     },
     /// The limit of a wait is over. Nothing was executed, and the transaction is open.
     TimedOut,
-    /// The store behind a child began a new epoch, and aborted the transaction.
+    /// The end of an epoch aborted the transaction. It comes over a child alone, and only where the checker's yes to some object's type is
+    /// one-way: else what is open goes on in the next epoch. A child that is lost is [`Error::ConnectionLost`].
     EpochEnded,
     /// The child is lost, in words. Nothing that was asked since the last answer is known to be done.
     ConnectionLost(String),

@@ -33,7 +33,6 @@ pub struct Prepared {
     pub id: TransactionId,
     /// The number that [`SharedTransaction::prepare`](crate::SharedTransaction::prepare) was given, at which the store doesn't look.
     pub until: u32,
-    /// The objects at which it holds operations, ascending, in a store in memory; [`SharedStore::name_of`](crate::SharedStore::name_of) gives their names.
-    /// A store in a file doesn't list them: here there are none.
+    /// The objects at which it holds operations, ascending; [`SharedStore::name_of`](crate::SharedStore::name_of) gives their names.
     pub objects: Vec<u32>,
 }

@@ -251,7 +251,8 @@ impl SharedStore {
     /// # Errors
     ///
     /// [`Error::TooManyOpen`], [`Error::HistoryFull`] or [`Error::NoMemory`]. Over a child [`Error::ConnectionLost`],
-    /// and [`Error::TimedOut`] where its epoch is full or objects are added, and no other one begins within the limit.
+    /// and [`Error::TimedOut`] where a yes of the checker is one-way, its epoch is full or objects are added, and no other one begins
+    /// within the limit.
     pub fn begin(&self) -> Result<SharedTransaction<'_>, Error> {
         self.begin_aged(0, None)
     }

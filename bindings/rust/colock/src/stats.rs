@@ -17,8 +17,8 @@ use std::time::Duration;
 pub struct Stats {
     /// Transactions that committed. Over a child some count that were done before under their keys, where the answer doesn't tell.
     pub commits: u64,
-    /// Transactions of this client that were aborted: by a call, a drop, an error, as victims, or by the end of their
-    /// epoch.
+    /// Transactions of this client that were aborted: by a call, a drop, an error, as victims, or by the end of an epoch, which is known
+    /// of each when something is asked of it.
     pub aborts: u64,
     /// For each object, how many calls there were answered busy, and how many sleeps were begun there.
     pub busy: Vec<u64>,

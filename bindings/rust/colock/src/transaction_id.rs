@@ -11,7 +11,7 @@ pub(crate) const ATTEMPTS: u64 = 1 << 63;
 /// The name of a transaction: the life of the store in which it began, and its number there. It is displayed as `S.N`, and
 /// read of that.
 ///
-/// In a file each opening is a life, and each epoch. In memory a life ends where the store begins anew while nobody is open, and they
+/// In a file each opening is a life, and each epoch. One that goes on in a later epoch keeps its name. In memory a life ends where the store begins anew while nobody is open, and they
 /// count from 0; where it begins anew by itself, or others go on, they count on.
 ///
 /// ```
@@ -30,7 +30,8 @@ pub(crate) const ATTEMPTS: u64 = 1 << 63;
 pub struct TransactionId {
     /// The life of the store in which it began.
     pub life: u64,
-    /// How many transactions began before it in the life, or in its epoch, by which events tell it.
+    /// How many transactions began before it in the life, or in its epoch, those that went over into that among them. The events of that
+    /// epoch tell it by this number, and those of a later one by another.
     pub number: u64,
 }
 
@@ -40,36 +41,25 @@ impl TransactionId {
         TransactionId { life, number }
     }
 
-    /// It in one number, as it is seen in a life over a child: its own number there, and one that nobody has there of another life.
+    /// It in one number, as it is seen over a child, which no other transaction of whatever life has.
     #[inline]
-    pub(crate) fn seen_in(self, life: u64) -> u64 {
-        if self.life == life {
-            return self.number;
-        }
-        (self.life.wrapping_add(1) % (ATTEMPTS / NUMBERS)) * NUMBERS + self.number % NUMBERS
+    pub(crate) fn seen(self) -> u64 {
+        (self.life % (ATTEMPTS / NUMBERS)) * NUMBERS + self.number % NUMBERS
     }
 
-    /// That of a number as it is seen in a life over a child, or of the number of an attempt.
+    /// That of a number as it is seen over a child.
     #[inline]
-    pub(crate) fn of_seen(seen: u64, life: u64) -> TransactionId {
-        match seen {
-            NUMBERS..ATTEMPTS => TransactionId { life: seen / NUMBERS - 1, number: seen % NUMBERS },
-            number => TransactionId { life, number },
-        }
-    }
-
-    /// Whether a number as it is seen in a life is that of a transaction of it.
-    pub(crate) fn is_own(seen: u64) -> bool {
-        seen < NUMBERS
+    pub(crate) fn of_seen(seen: u64) -> TransactionId {
+        TransactionId { life: seen / NUMBERS, number: seen % NUMBERS }
     }
 }
 
-/// How the transactions are seen that answers of a life tell by their numbers.
+/// How the transactions are seen that are told to one of a life by their numbers.
 #[derive(Clone, Copy, Debug)]
 pub(crate) enum Sight {
     /// All are of this life, which has as many numbers as it needs.
     InMemory(u64),
-    /// As of [`TransactionId::seen_in`] this life.
+    /// Each is seen as of [`TransactionId::seen`], and an attempt as one of this life.
     OverChild(u64),
 }
 
@@ -78,8 +68,8 @@ impl Sight {
     #[inline]
     pub(crate) fn id(self, seen: u64) -> TransactionId {
         match self {
-            Sight::InMemory(life) => TransactionId { life, number: seen },
-            Sight::OverChild(life) => TransactionId::of_seen(seen, life),
+            Sight::OverChild(_) if seen < ATTEMPTS => TransactionId::of_seen(seen),
+            Sight::InMemory(life) | Sight::OverChild(life) => TransactionId { life, number: seen },
         }
     }
 }
@@ -117,27 +107,24 @@ mod tests {
     use super::{Sight, TransactionId, ATTEMPTS};
     use crate::Error;
 
-    /// Of a life its own numbers, and of all others such as nobody has there.
+    /// Each by a number that no other one has, whatever its life is, and no attempt.
     #[test]
-    fn ids_are_seen_in_a_life() {
+    fn ids_are_seen_by_one_number() {
         let ids = [(0, 0), (0, 7), (4, 7), (5, 0), (5, u32::MAX.into()), (6, 7), (2_000_000_000, u32::MAX.into())]
             .map(|(life, number)| TransactionId::new(life, number));
-        for life in [0, 5, 6] {
-            let mut seen = ids.map(|id| id.seen_in(life));
-            assert_eq!(seen.map(|seen| TransactionId::of_seen(seen, life)), ids);
-            assert!(seen.iter().zip(ids).all(|(seen, id)| *seen < ATTEMPTS && TransactionId::is_own(*seen) == (id.life == life)));
-            seen.sort_unstable();
-            assert!(seen.windows(2).all(|two| two[0] < two[1]), "{seen:?}");
-        }
-        assert_eq!(TransactionId::of_seen(ATTEMPTS + 3, 5), TransactionId::new(5, ATTEMPTS + 3));
+        let seen = ids.map(TransactionId::seen);
+        assert_eq!(seen.map(TransactionId::of_seen), ids);
+        assert!(seen.windows(2).all(|two| two[0] < two[1]) && seen[seen.len() - 1] < ATTEMPTS, "{seen:?}");
     }
 
     /// In memory a life may have more numbers than over a child.
     #[test]
-    fn sights_differ_beyond_a_life_of_a_child() {
+    fn sights_differ() {
         let seen = 9 * (1 << 32) + 7;
-        assert_eq!((Sight::InMemory(5).id(seen), Sight::OverChild(5).id(seen)), (TransactionId::new(5, seen), TransactionId::new(8, 7)));
-        assert_eq!((Sight::InMemory(5).id(7), Sight::OverChild(5).id(7)), (TransactionId::new(5, 7), TransactionId::new(5, 7)));
+        assert_eq!((Sight::InMemory(5).id(seen), Sight::OverChild(5).id(seen)), (TransactionId::new(5, seen), TransactionId::new(9, 7)));
+        for sight in [Sight::InMemory(5), Sight::OverChild(5)] {
+            assert_eq!(sight.id(ATTEMPTS + 3), TransactionId::new(5, ATTEMPTS + 3));
+        }
     }
 
     #[test]

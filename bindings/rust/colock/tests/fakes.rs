@@ -302,9 +302,9 @@ fn a_blocker_that_let_go_meanwhile_isnt_waited_for() {
     }
 }
 
-/// A program that ends its epoch before the third transaction begins.
-const RENEWED: &str = r#"begin) case "$n" in '') echo "$tag ok 1.0"; n=1 ;; 1) echo "$tag ok 1.1"; n=2 ;; *) echo "$tag ok 2.0" ;; esac ;;
-    call) case "$rest" in 1.1*) echo "$tag busy 1.0" ;; *) echo "$tag reply ok" ;; esac ;;
+/// A program that ends its epoch before the third transaction begins, which aborts the first two.
+const RENEWED: &str = r#"begin) case "$n" in '') echo "$tag ok 1.0"; n=1 ;; 1) echo "$tag ok 1.1"; n=2 ;; *) echo "$tag ok 2.0"; n=3 ;; esac ;;
+    call | would) case "$n $rest" in 3" 1."*) echo "$tag refused NotOpen" ;; *" 1.1"*) echo "$tag busy 1.0" ;; *) echo "$tag reply ok" ;; esac ;;
     commit) case "$rest" in 1.*) echo "$tag refused NotOpen" ;; *) echo "$tag ok" ;; esac ;;
     end) echo "$tag ok"; exit 0 ;;"#;
 
@@ -505,9 +505,9 @@ fn what_is_lost_under_a_key_is_told() {
     assert_eq!(retried, Err(Error::OutcomeUnknown(common::id("1.0"))));
 }
 
-/// A program that ends its epoch before the third transaction begins, and knows a key.
-const RENEWED_WITH_A_KEY: &str = r#"begin) case "$n" in '') echo "$tag ok 1.0"; n=1 ;; 1) echo "$tag ok 1.1"; n=2 ;; *) echo "$tag ok 2.0" ;; esac ;;
-    call) echo "$tag reply ok" ;;
+/// A program that ends its epoch before the third transaction begins, which aborts the first two, and knows a key.
+const RENEWED_WITH_A_KEY: &str = r#"begin) case "$n" in '') echo "$tag ok 1.0"; n=1 ;; 1) echo "$tag ok 1.1"; n=2 ;; *) echo "$tag ok 2.0"; n=3 ;; esac ;;
+    call) case "$n $rest" in 3" 1."*) echo "$tag refused NotOpen" ;; *) echo "$tag reply ok" ;; esac ;;
     commit) case "$rest" in "1.0 known" | 2.*) echo "$tag ok" ;; *) echo "$tag refused NotOpen" ;; esac ;;
     end) echo "$tag ok"; exit 0 ;;"#;
 
@@ -520,6 +520,7 @@ fn a_key_is_asked_for_though_the_epoch_has_ended() {
     assert_eq!(second.begun(), Ok(common::id("1.1")));
     let third = store.begin().unwrap();
     assert_eq!(third.begun(), Ok(common::id("2.0")));
+    assert_eq!(first.call(0, "inc:1"), Err(Error::EpochEnded));
     assert_eq!((first.commit_under("known"), second.commit_under("free")), (Ok(()), Err(Error::EpochEnded)));
     assert_eq!((store.stats().commits, store.stats().aborts), (0, 2));
     assert_eq!((third.commit_under("free"), store.stats().commits), (Ok(()), 1));

@@ -61,9 +61,9 @@ fn a_full_epoch_is_waited_for_by_the_first_call() {
 
 #[test]
 fn an_epoch_may_end_between_the_begin_and_the_call() {
-    let (told, id, asked) = first_call(&["ok 1.1", "refused NotOpen", "refused NotOpen"]);
+    let (told, id, asked) = first_call(&["ok 1.1", "refused NotOpen"]);
     assert_eq!((told, id), (Err(Error::EpochEnded), Ok(common::id("1.1"))));
-    assert_eq!(asked, ["begin", "call 1.1 0 inc:1", "abort 1.1", "end"]);
+    assert_eq!(asked, ["begin", "call 1.1 0 inc:1", "end"]);
 }
 
 #[test]

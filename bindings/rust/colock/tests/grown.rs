@@ -3,7 +3,7 @@
 mod common;
 
 use colock::{CheckRefusal, Error, Kind, NewObject, OpenOptions, SharedStore, Type};
-use common::{counter, id, program, until, until_asleep, write_program, Drawn, Folder, COUNTER_ARMS, LONG};
+use common::{counter, id, one_way, program, until, until_asleep, write_program, Drawn, Folder, COUNTER_ARMS, LONG};
 use std::fs;
 use std::process::Command;
 use std::thread;
@@ -23,9 +23,10 @@ fn options<'t>() -> OpenOptions<'t> {
     OpenOptions::new().create(true).program(program())
 }
 
-/// A store in a file, in which an open transaction keeps a further epoch from beginning for long.
-fn patient(folder: &Folder, objects: &[(&str, &Type)]) -> SharedStore {
-    options().objects(objects).drain(600).open(folder.file("a.db")).unwrap()
+/// A store in a file of an object of this name, and of one whose yes is one-way: so an open transaction keeps a further epoch from
+/// beginning for long.
+fn patient(folder: &Folder, name: &str, of: &Type) -> SharedStore {
+    options().objects([(name, of), ("one-way", &one_way())]).drain(600).open(folder.file("a.db")).unwrap()
 }
 
 /// The store in the file once more, with whatever objects it has.
@@ -170,11 +171,11 @@ fn old_objects_keep_their_states_and_new_ones_begin() {
     assert_eq!(store.types()[4].name(), "set");
 }
 
-/// It waits until what is open has ended, and others are answered meanwhile.
+/// Where a yes is one-way, it waits until what is open has ended, and others are answered meanwhile.
 #[test]
 fn an_extension_waits() {
     let (folder, counter) = (Folder::new(), counter());
-    let store = patient(&folder, &[("a", &counter)]);
+    let store = patient(&folder, "a", &counter);
     let (mut first, mut second) = (store.begin().unwrap(), store.begin().unwrap());
     for t in [&mut first, &mut second] {
         t.expect("a", "inc:1", "ok").unwrap();
@@ -194,7 +195,7 @@ fn an_extension_waits() {
             t.expect("a", "inc:1", "ok").unwrap();
             assert_eq!((store.kept("b"), t.commit()), (Err(nobody("b")), Ok(())));
         }
-        assert_eq!((extending.join().unwrap(), beginning.join().unwrap()), (Ok(1), Ok(id("2.0"))));
+        assert_eq!((extending.join().unwrap(), beginning.join().unwrap()), (Ok(2), Ok(id("2.0"))));
     });
     assert_eq!((store.kept("a"), store.kept("b"), store.stats().aborts, store.stats().commits), (Ok(4), Ok(1), 0, 3));
 }
@@ -203,7 +204,7 @@ fn an_extension_waits() {
 #[test]
 fn a_wait_goes_beyond_the_limit() {
     let (folder, counter) = (Folder::new(), counter());
-    let store = options().objects([&counter]).drain(600).limit(Duration::from_secs(1)).open(folder.file("a.db")).unwrap();
+    let store = options().objects([&counter, &one_way()]).drain(600).limit(Duration::from_secs(1)).open(folder.file("a.db")).unwrap();
     let mut t = store.begin().unwrap();
     t.expect(0, "inc:1", "ok").unwrap();
     thread::scope(|scope| {
@@ -213,7 +214,7 @@ fn a_wait_goes_beyond_the_limit() {
         thread::sleep(Duration::from_millis(500));
         assert!(!extending.is_finished());
         t.commit().unwrap();
-        assert_eq!(extending.join().unwrap(), Ok(1));
+        assert_eq!(extending.join().unwrap(), Ok(2));
     });
     assert_eq!((store.kept("b"), store.kept(0)), (Ok(0), Ok(1)));
 }
@@ -221,14 +222,14 @@ fn a_wait_goes_beyond_the_limit() {
 #[test]
 fn who_is_dropped_isnt_waited_for() {
     let (folder, counter) = (Folder::new(), counter());
-    let store = patient(&folder, &[("a", &counter)]);
+    let store = patient(&folder, "a", &counter);
     let mut t = store.begin().unwrap();
     t.expect("a", "inc:1", "ok").unwrap();
     thread::scope(|scope| {
         let extending = scope.spawn(|| store.extend([("b", &counter)]));
         until(|| store.waits_to_extend());
         drop(t);
-        assert_eq!(extending.join().unwrap(), Ok(1));
+        assert_eq!(extending.join().unwrap(), Ok(2));
     });
     assert_eq!((store.kept("a"), store.stats().aborts), (Ok(0), 1));
 }
@@ -237,14 +238,14 @@ fn who_is_dropped_isnt_waited_for() {
 #[test]
 fn who_stays_open_is_aborted() {
     let (folder, counter) = (Folder::new(), counter());
-    let store = options().objects([&counter]).drain(1).open(folder.file("a.db")).unwrap();
+    let store = options().objects([&counter, &one_way()]).drain(1).open(folder.file("a.db")).unwrap();
     let mut holder = store.begin().unwrap();
     holder.expect(0, "inc:1", "ok").unwrap();
     thread::scope(|scope| {
         let sleeping = scope.spawn(|| store.begin().unwrap().expect_within(0, "dec:1", "ok", LONG).err());
         until_asleep(&store, 1);
         let start = Instant::now();
-        assert_eq!(store.extend([&counter]), Ok(1));
+        assert_eq!(store.extend([&counter]), Ok(2));
         assert!((Duration::from_millis(500)..Duration::from_secs(20)).contains(&start.elapsed()), "{:?}", start.elapsed());
         assert_eq!((sleeping.join().unwrap(), holder.commit()), (Some(Error::EpochEnded), Err(Error::EpochEnded)));
     });
@@ -254,7 +255,7 @@ fn who_stays_open_is_aborted() {
 #[test]
 fn extensions_come_one_after_another() {
     let (folder, counter) = (Folder::new(), counter());
-    let store = patient(&folder, &[("0", &counter)]);
+    let store = patient(&folder, "0", &counter);
     let mut t = store.begin().unwrap();
     t.expect("0", "inc:1", "ok").unwrap();
     thread::scope(|scope| {
@@ -264,7 +265,7 @@ fn extensions_come_one_after_another() {
         t.commit().unwrap();
         let mut firsts = all.map(|extending| extending.join().unwrap().unwrap());
         firsts.sort_unstable();
-        assert_eq!(firsts.map(|(first, _)| first), [1, 3, 5]);
+        assert_eq!(firsts.map(|(first, _)| first), [2, 4, 6]);
         for (first, name) in firsts {
             assert_eq!((store.find(name), store.find(&format!("{name}2"))), (Ok(first), Ok(first + 1)));
         }
@@ -272,7 +273,7 @@ fn extensions_come_one_after_another() {
     for name in ["a2", "b2", "c2"] {
         up(&store, name);
     }
-    assert!((0..7).all(|x| store.kept(x) == Ok(u64::from(["0", "a2", "b2", "c2"].contains(&store.name_of(x).unwrap())))));
+    assert!((0..8).all(|x| store.kept(x) == Ok(u64::from(["0", "a2", "b2", "c2"].contains(&store.name_of(x).unwrap())))));
 }
 
 /// Threads use what is there, while one adds to it.
@@ -308,7 +309,7 @@ fn others_work_meanwhile() {
 #[test]
 fn what_isnt_added() {
     let (folder, counter) = (Folder::new(), counter());
-    let store = patient(&folder, &[("a", &counter)]);
+    let store = patient(&folder, "a", &counter);
     let taken = |name: &str| Err(Error::NameTaken(name.to_string()));
     assert_eq!(store.extend([("b", &counter), ("a", &counter)]), taken("a"));
     assert_eq!(store.extend([("b", &counter), ("b", &counter)]), taken("b"));
@@ -317,7 +318,7 @@ fn what_isnt_added() {
     let many: Vec<Type> = (1..=300).map(|most| Type::counter(most, &[1], Kind::Undo).unwrap()).collect();
     assert_eq!(store.extend(&many), Err(Error::CannotExtend("a request has no room for 300 types".to_string().into())));
     assert_eq!(store.transact(|_| store.extend([&counter])), Err(Error::InTurn));
-    assert_eq!((store.types().len(), store.extend([("b", &counter)])), (1, Ok(1)));
+    assert_eq!((store.types().len(), store.extend([("b", &counter)])), (2, Ok(2)));
     store.close().unwrap();
     assert_eq!(store.extend([&counter]), Err(Error::Closed));
 }
@@ -325,23 +326,23 @@ fn what_isnt_added() {
 #[test]
 fn a_store_is_closed_while_one_waits() {
     let (folder, counter) = (Folder::new(), counter());
-    let store = patient(&folder, &[("a", &counter)]);
+    let store = patient(&folder, "a", &counter);
     let mut t = store.begin().unwrap();
     t.expect("a", "inc:1", "ok").unwrap();
     thread::scope(|scope| {
         let extending = scope.spawn(|| store.extend([("b", &counter)]));
         until(|| store.waits_to_extend());
         store.close().unwrap();
-        assert_eq!(extending.join().unwrap(), Ok(1));
+        assert_eq!(extending.join().unwrap(), Ok(2));
     });
     let store = again(&folder);
-    assert_eq!((names(&store), store.kept("a")), (vec![Some("a"), Some("b")], Ok(0)));
+    assert_eq!((names(&store), store.kept("a")), (vec![Some("a"), Some("one-way"), Some("b")], Ok(0)));
 }
 
 #[test]
 fn a_child_is_killed_while_one_waits() {
     let (folder, counter) = (Folder::new(), counter());
-    let store = patient(&folder, &[("a", &counter)]);
+    let store = patient(&folder, "a", &counter);
     up(&store, "a");
     let mut t = store.begin().unwrap();
     t.expect("a", "inc:1", "ok").unwrap();
@@ -354,7 +355,7 @@ fn a_child_is_killed_while_one_waits() {
     drop(t);
     drop(store);
     let store = again(&folder);
-    assert_eq!((names(&store), store.kept("a")), (vec![Some("a")], Ok(1)));
+    assert_eq!((names(&store), store.kept("a")), (vec![Some("a"), Some("one-way")], Ok(1)));
 }
 
 /// All of the objects are there, or none of them; and all where that was answered.

@@ -186,15 +186,21 @@ fn a_long_read_is_of_one_moment() {
     assert_eq!(told, Err(Error::IllegalAt(64)));
 }
 
-/// A read of a later life says that what was open has been aborted.
+/// What is open may go on in a later life, of which a read tells. That it doesn't is told by a refusal, after which nothing is asked.
 #[test]
 fn a_read_tells_a_life() {
-    let (told, lines) = asked(&["ok 1.1", "reply ok", "seen 2.0 0"], |store| {
-        let mut t = store.begin().unwrap();
-        t.expect(0, "inc:1", "ok").unwrap();
-        let moment = store.moment();
-        (moment, t.call(0, "inc:1"), t.commit(), store.stats().aborts)
-    });
+    let goes_on = |answers: &[&str]| {
+        asked(&[&["ok 1.1", "reply ok", "seen 2.0 0"], answers].concat(), |store| {
+            let mut t = store.begin().unwrap();
+            t.expect(0, "inc:1", "ok").unwrap();
+            let moment = store.moment();
+            (moment, t.call(0, "inc:1").map(|reply| reply.is("ok")), t.commit(), store.stats().aborts)
+        })
+    };
+    let (told, lines) = goes_on(&["reply ok", "ok"]);
+    assert_eq!(told, (Ok(Moment::new(2, 0)), Ok(true), Ok(()), 1));
+    assert_eq!(lines, ["begin", "call 1.1 0 inc:1", "committed 0", "call 1.1 0 inc:1", "commit 1.1", "end"]);
+    let (told, lines) = goes_on(&["refused NotOpen"]);
     assert_eq!(told, (Ok(Moment::new(2, 0)), Err(Error::EpochEnded), Err(Error::EpochEnded), 2));
-    assert_eq!(lines, ["begin", "call 1.1 0 inc:1", "committed 0", "end"]);
+    assert_eq!(lines, ["begin", "call 1.1 0 inc:1", "committed 0", "call 1.1 0 inc:1", "end"]);
 }

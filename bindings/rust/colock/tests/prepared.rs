@@ -6,7 +6,7 @@ mod common;
 use colock::{
     Attempt, Decision, Ending, Error, Event, KeyOutcome, Keyed, Kind, NotFollowed, OpenOptions, Prepared, Reply, Retry, SharedStore, TransactionId, Type,
 };
-use common::{counter, filled, in_memory, lines, over_a_child, program, until_asleep, Drawn, Folder, Make, LONG};
+use common::{counter, filled, in_memory, lines, program, until_asleep, Drawn, Folder, Make, LONG};
 use std::path::Path;
 use std::process::Command;
 use std::sync::{Barrier, Mutex};
@@ -30,6 +30,7 @@ over_both![
     what_is_no_key_is_asked_nothing,
     what_isnt_open_isnt_prepared,
     nothing_commits_under_its_key,
+    its_objects_are_listed,
     what_is_prepared_is_listed,
     who_is_kept_out_waits_for_the_decision,
     an_attempt_waits_for_the_decision,
@@ -219,19 +220,11 @@ fn prepare_four(store: &SharedStore) -> Vec<TransactionId> {
     ids
 }
 
-#[test]
-fn its_objects_are_listed_in_memory() {
-    let store = in_memory(&[&counter(); 20]);
+fn its_objects_are_listed(make: Make) {
+    let store = make(&[&counter(); 20]);
     prepare_four(&store);
     let told: Vec<(String, Vec<u32>)> = store.prepared().unwrap().into_iter().map(|prepared| (prepared.key, prepared.objects)).collect();
     assert_eq!(told, HOLDING.map(|(key, objects)| (key.to_string(), objects.to_vec())));
-}
-
-#[test]
-fn a_child_lists_no_objects() {
-    let store = over_a_child(&[&counter(); 20]);
-    prepare_four(&store);
-    assert!(store.prepared().unwrap().into_iter().all(|prepared| prepared.objects.is_empty()));
 }
 
 fn what_is_prepared_is_listed(make: Make) {
@@ -524,18 +517,18 @@ fn one_of_an_earlier_life_is_waited_for() {
 fn it_goes_on_where_an_epoch_ends() {
     let folder = Folder::new();
     let of = counter();
-    let store = OpenOptions::new().objects([&of]).create(true).drain(1).program(program()).open(folder.file("a.db")).unwrap();
+    let store = OpenOptions::new().objects([&of]).create(true).program(program()).open(folder.file("a.db")).unwrap();
     let (mut t, open) = (store.begin().unwrap(), store.begin().unwrap());
     t.expect(0, "inc:1", "ok").unwrap();
     t.prepare("a", 0).unwrap();
     let life = open.begun().unwrap().life;
     assert_eq!(store.extend([&of]), Ok(1));
-    assert_eq!((open.commit(), t.call(0, "inc:1"), store.stats().aborts), (Err(Error::EpochEnded), Err(Error::Prepared), 1));
+    assert_eq!((open.commit(), t.call(0, "inc:1")), (Ok(()), Err(Error::Prepared)));
     let mut later = store.begin().unwrap();
     assert!(later.begun().unwrap().life > life);
     assert_eq!((later.call(0, "dec:500"), store.prepared().unwrap()[0].id), (Ok(Reply::Illegal), t.id().unwrap()));
     assert_eq!((store.decide("a", Decision::Commit), t.call(0, "inc:1"), store.kept(0)), (Ok(()), Err(Error::NotOpen), Ok(1)));
-    assert_eq!((store.stats().commits, store.stats().aborts), (1, 1));
+    assert_eq!((store.stats().commits, store.stats().aborts), (2, 0));
     later.abort().unwrap();
     store.close().unwrap();
 }

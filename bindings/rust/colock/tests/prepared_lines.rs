@@ -70,7 +70,6 @@ fn what_is_refused_stays_open() {
         ("refused Aborted", Error::KeyAborted),
         ("refused KeyTaken", Error::KeyTaken),
         ("refused NoMemory", Error::NoMemory),
-        ("refused NotOpen", Error::EpochEnded),
     ];
     for (answer, error) in rows {
         let (told, lines) = asked(&["ok 1.0", answer, "reply ok", "ok"], |store| {
@@ -84,6 +83,18 @@ fn what_is_refused_stays_open() {
         let (told, _) = asked(&["ok 1.0", answer], |store| store.begin().unwrap().prepare("order:1", 0));
         assert!(is_broken(&told), "{answer}: {told:?}");
     }
+}
+
+/// The end of an epoch has aborted it, so that nothing more is asked.
+#[test]
+fn what_isnt_open_isnt_prepared() {
+    let (told, lines) = asked(&["ok 1.0", "refused NotOpen"], |store| {
+        let mut t = store.begin().unwrap();
+        let told = (t.prepare("order:1", 0), t.call(0, "inc:1"), t.prepare("order:1", 0));
+        (told, store.stats().aborts)
+    });
+    assert_eq!(told, ((Err(Error::EpochEnded), Err(Error::EpochEnded), Err(Error::EpochEnded)), 1));
+    assert_eq!(lines, ["begin", "prepare 1.0 order:1 0", "end"]);
 }
 
 /// Where no answer comes it isn't known, and the outcome of the key says it with the file open again.

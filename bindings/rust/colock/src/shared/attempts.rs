@@ -16,15 +16,7 @@ use colock_waiting::{ObjectIndex, Touched};
 pub(crate) struct Tried<'s> {
     pub(crate) guard: Guard<'s>,
     pub(crate) came: Came,
-    pub(crate) asked_at: AskedAt,
-}
-
-/// When a child was asked for something; in memory nothing of it is looked at.
-#[derive(Clone, Copy, Debug, Default)]
-pub(crate) struct AskedAt {
-    /// The life, as far as it was known.
-    pub(crate) life: u64,
-    /// Since when others may have let go, as of [`Remote::since`](crate::wire::remote::Remote::since).
+    /// Since when others may have let go, as of [`Remote::since`](crate::wire::remote::Remote::since); in memory nobody looks at it.
     pub(crate) since: u64,
 }
 
@@ -57,8 +49,7 @@ impl SharedStore {
     /// # Errors
     ///
     /// As of [`Store::attempt`](crate::Store::attempt), by which it isn't begun. Over a child [`Error::TooManyCalls`] of more
-    /// than 64 calls; [`Error::TimedOut`] where its epoch is full or objects are added, and no other one begins within the limit;
-    /// [`Error::ConnectionLost`], or [`Error::AttemptUnknown`] where the child was lost before it answered.
+    /// than 64 calls; [`Error::TimedOut`] as of [`SharedStore::begin`]; [`Error::ConnectionLost`], or [`Error::AttemptUnknown`] where the child was lost before it answered.
     #[inline]
     pub fn attempt(&self, calls: impl IntoIterator<Item = (impl ObjectRef, impl AsRef<str>)>) -> Result<Attempt, Error> {
         let asked = Asked::of(calls, |object| self.number_of(object));
@@ -143,7 +134,7 @@ impl SharedStore {
         let mut guard = self.enter()?;
         let came = guard.memory()?.attempt_in_numbers(0, asked)?;
         guard.has_tried(asked, &came);
-        Ok(Tried { guard, came, asked_at: AskedAt::default() })
+        Ok(Tried { guard, came, since: 0 })
     }
 }
 

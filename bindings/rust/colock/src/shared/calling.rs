@@ -84,8 +84,8 @@ impl SharedStore {
     /// Whom the gate of an object puts before a call.
     pub(crate) fn at_gate(&self, state: &State, ticket: Ticket, object: u32, call: Call<'_>) -> Option<u64> {
         let (call, _) = self.resolved(object, call).ok()?;
-        state.is_of_life(ticket).ok()?;
-        state.waiters.at_gate(Caller { number: ticket.id.number, age: ticket.age, object, call })
+        state.can_be_open(ticket).ok()?;
+        state.waiters.at_gate(Caller { number: state.held.number(ticket.id), age: ticket.age, object, call })
     }
 
     /// The number and the name of a call.
@@ -100,7 +100,7 @@ impl SharedStore {
 
     /// What the store itself answers.
     pub(crate) fn executed<'s>(&'s self, guard: Guard<'s>, ticket: Ticket, question: Question<'_>, lock: Lock) -> Guarded<'s, Told> {
-        if let Err(error) = guard.is_of_life(ticket) {
+        if let Err(error) = guard.can_be_open(ticket) {
             return (guard, Err(error));
         }
         let reply = match (&guard.held, self.remote()) {
@@ -108,15 +108,15 @@ impl SharedStore {
             (Held::Remote(_), None) => Err(Error::NotOpen),
             (Held::Remote(remote_state), Some(remote)) => {
                 let since = remote.since(remote_state, question.object);
-                return self.executed_by_child(guard, ticket.id, question, lock, since);
+                return self.executed_by_child(guard, ticket, question, lock, since);
             }
         };
         (guard, reply.map(|reply| Told { reply, has_let_go: false }))
     }
 
     /// The same, where a child is asked. `since` is as of [`Remote::since`].
-    fn executed_by_child<'s>(&'s self, guard: Guard<'s>, id: TransactionId, question: Question<'_>, lock: Lock, since: u64) -> Guarded<'s, Told> {
-        let Question { verb, object, call } = question;
+    fn executed_by_child<'s>(&'s self, guard: Guard<'s>, ticket: Ticket, question: Question<'_>, lock: Lock, since: u64) -> Guarded<'s, Told> {
+        let (id, Question { verb, object, call }) = (ticket.id, question);
         let (number, name) = match self.resolved(object, call) {
             Ok(resolved) => resolved,
             Err(error) => return (guard, Err(error)),
@@ -126,20 +126,21 @@ impl SharedStore {
             Verb::Would => Request::Would(id, object, &name),
         };
         let (mut guard, text) = self.ask(guard, request, lock);
-        let reply = text.and_then(|text| self.reply_of(&text, object, number, id.life));
+        let reply = text.and_then(|text| self.reply_of(&text, object, number));
+        guard.sees_answer(ticket, &reply);
         let told = reply.and_then(|reply| {
             let remote_state = guard.remote_state()?;
-            let has_let_go = matches!(reply, Outcome::Busy { blocker } if remote_state.has_let_go(blocker, object, since));
+            let has_let_go = matches!(reply, Outcome::Busy { blocker } if remote_state.has_let_go(TransactionId::of_seen(blocker), object, since));
             Ok(Told { reply, has_let_go })
         });
         (guard, told)
     }
 
-    /// The reply of a line that answers a call of a transaction of this life.
-    pub(crate) fn reply_of(&self, text: &str, object: u32, call: OperationId, life: u64) -> Result<Outcome, Error> {
+    /// The reply of a line that answers a call.
+    pub(crate) fn reply_of(&self, text: &str, object: u32, call: OperationId) -> Result<Outcome, Error> {
         let reply = match answer(text) {
             Some(Answer::Reply(name)) => self.calls_at(object)?.operation(call, name).map(Outcome::Operation),
-            Some(Answer::Busy(id)) => Some(Outcome::Busy { blocker: id.seen_in(life) }),
+            Some(Answer::Busy(id)) => Some(Outcome::Busy { blocker: id.seen() }),
             Some(Answer::None) => Some(Outcome::Illegal),
             Some(Answer::Refused(error)) => return Err(of_open(error)),
             _ => None,

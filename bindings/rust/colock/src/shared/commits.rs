@@ -30,7 +30,7 @@ pub(crate) struct EndTold {
 impl SharedStore {
     /// Takes back the last operations of a transaction, and wakes who waits for it or where it executed something.
     pub(crate) fn take_back<'s>(&'s self, mut guard: Guard<'s>, ticket: Ticket, operations: u64, lock: Lock) -> Guarded<'s, ()> {
-        if let Err(error) = guard.is_of_life(ticket) {
+        if let Err(error) = guard.can_be_open(ticket) {
             return (guard, Err(error));
         }
         if let Held::Memory(store) = &guard.held {
@@ -46,8 +46,10 @@ impl SharedStore {
         }
         // what they ask next comes after this request
         guard.took_back(ticket);
-        let (guard, text) = self.ask(guard, Request::Rollback(ticket.id, count), lock);
-        (guard, text.and_then(|text| self.done(&text)))
+        let (mut guard, text) = self.ask(guard, Request::Rollback(ticket.id, count), lock);
+        let told = text.and_then(|text| self.done(&text));
+        guard.sees_answer(ticket, &told);
+        (guard, told)
     }
 
     /// Whether something was done.
@@ -77,15 +79,19 @@ impl SharedStore {
 
     /// Has a child end a transaction.
     fn end_remote(&self, remote: &Remote, guard: Guard<'_>, ticket: Ticket, request: Request<'_>, when: When) -> Result<(), Error> {
-        guard.is_of_life(ticket)?;
+        guard.can_be_open(ticket)?;
         let told = self.end_by_child(remote, guard, ticket, request, when)?;
-        self.done(&told.text)?;
-        remote.commits.fetch_add(u64::from(request.commits() != Commits::Nothing), Ordering::Relaxed);
+        let (is_commit, done) = (request.commits() != Commits::Nothing, self.done(&told.text));
+        if let Err(Error::EpochEnded) = done {
+            self.lock().epoch_ended(is_commit); // an abort was counted when it was asked for
+        }
+        done?;
+        remote.commits.fetch_add(u64::from(is_commit), Ordering::Relaxed);
         Ok(())
     }
 
     /// Asks a child for the end of a transaction. As soon as it is asked for it counts as ended: the child takes the
-    /// lines in their order, and who was let go first and is kept out looks again. One of a life that is over has ended before.
+    /// lines in their order, and who was let go first and is kept out looks again. One that an epoch aborted has ended before.
     pub(crate) fn end_by_child(&self, remote: &Remote, mut guard: Guard<'_>, ticket: Ticket, request: Request<'_>, when: When) -> Result<EndTold, Error> {
         let is_abort = request.commits() == Commits::Nothing;
         // who waits is woken now, and is to find that it has ended
@@ -93,7 +99,7 @@ impl SharedStore {
         let slot = if goes_last { guard.remote_state()?.send_last(request)? } else { guard.send(request)? };
         let underway = if goes_last { ticket.touched } else { Touched::default() };
         remote.underway.starts(underway);
-        if guard.is_of_life(ticket).is_ok() {
+        if guard.can_be_open(ticket).is_ok() {
             counts_as_ended(&mut guard, ticket, is_abort);
         }
         drop(guard);
@@ -108,7 +114,7 @@ impl SharedStore {
 
 /// Aborts a transaction, where nobody asks whether that succeeds: it fails only where it has ended, or the child is lost.
 pub(crate) fn abort_at_once(state: &mut State, ticket: Ticket) {
-    if state.is_of_life(ticket).is_err() {
+    if state.can_be_open(ticket).is_err() {
         return;
     }
     match &mut state.held {
@@ -135,7 +141,7 @@ pub(crate) fn counts_as_ended(state: &mut State, ticket: Ticket, is_abort: bool)
 /// Commits a transaction in memory.
 #[inline]
 pub(crate) fn commit_in_memory(state: &mut State, ticket: Ticket) -> Result<(), Error> {
-    state.is_of_life(ticket)?;
+    state.can_be_open(ticket)?;
     ManuallyDrop::into_inner(resumed(state.memory()?, ticket.worker, ticket.id.number)).commit()?;
     state.stats.commits += 1;
     state.ended(ticket);
@@ -143,7 +149,7 @@ pub(crate) fn commit_in_memory(state: &mut State, ticket: Ticket) -> Result<(), 
 }
 
 pub(crate) fn abort_in_memory(state: &mut State, ticket: Ticket) -> Result<(), Error> {
-    state.is_of_life(ticket)?;
+    state.can_be_open(ticket)?;
     ManuallyDrop::into_inner(resumed(state.memory()?, ticket.worker, ticket.id.number)).abort()?;
     state.stats.aborts += 1;
     state.ended(ticket);

@@ -150,9 +150,9 @@ impl SharedStore {
     /// Begins anew, as [`SharedStore::renew`] while nobody is open, with more objects: they come after those that there are, each in the initial
     /// state of its type. It gives the number of the first of them. They are given as to [`SharedStore::new`].
     ///
-    /// Over a child it waits, and no transaction begins meanwhile, until all that are open have ended, or the
-    /// [`drain`](crate::OpenOptions::drain) is over, which aborts them but for what is prepared. It is durable then. Where another
-    /// thread adds objects, it comes after that.
+    /// Over a child it is durable then. Where each yes of the checker is strong, what is open goes on. Where one is one-way, it waits, and no
+    /// transaction begins meanwhile, until all that are open have ended, or the [`drain`](crate::OpenOptions::drain) is over, which aborts
+    /// them but for what is prepared. Where another thread adds objects, it comes after that.
     ///
     /// ```
     /// # use colock::{Error, Kind, SharedStore, Type};

@@ -152,16 +152,18 @@ impl SharedStore {
         }
     }
 
-    /// One of a life that is over is asked for too: the key may be known.
+    /// One that the end of an epoch aborted is asked for too: the key may be known.
     fn commit_by_child_under(&self, remote: &Remote, guard: Guard<'_>, ticket: Ticket, key: Key<'_>) -> Result<Doer, Error> {
-        let is_over = guard.is_of_life(ticket).is_err();
+        let is_over = guard.can_be_open(ticket).is_err();
         let told = self.end_by_child(remote, guard, ticket, Request::CommitUnder(ticket.id, key), When::OthersFirst)?;
         if let Err(error) = self.done(&told.text) {
-            self.abort_refused(ticket, &error);
+            if !is_over {
+                self.refused_under(ticket, &error);
+            }
             return Err(error);
         }
         if is_over || told.was_done {
-            // it was counted with its life, or was aborted by this answer
+            // it was counted before, or was aborted by this answer
             self.lock().stats.aborts += u64::from(!is_over);
             return Ok(Doer::Another);
         }
@@ -169,14 +171,18 @@ impl SharedStore {
         Ok(Doer::This)
     }
 
-    /// Aborts a transaction whose commit under a key a child refused, since it stays as it was.
-    fn abort_refused(&self, ticket: Ticket, error: &Error) {
-        if let Error::EpochEnded | Error::ConnectionLost(_) = error {
-            return;
-        }
+    /// A child refused the commit of a transaction under a key, which counts as ended here. Where it is open there, it is aborted.
+    fn refused_under(&self, ticket: Ticket, error: &Error) {
         let mut guard = self.lock();
-        abort_at_once(&mut guard, ticket);
-        self.leave(guard);
+        match error {
+            Error::EpochEnded => guard.epoch_ended(true),
+            Error::ConnectionLost(_) => {}
+            _ => {
+                guard.began(ticket.id); // it is open again
+                abort_at_once(&mut guard, ticket);
+                self.leave(guard);
+            }
+        }
     }
 }
 

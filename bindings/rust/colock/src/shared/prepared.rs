@@ -5,7 +5,7 @@ use crate::key::Key;
 use crate::memory::keys::Preparation;
 use crate::prepared::{Decision, Prepared};
 use crate::shared::commits::{abort_in_memory, commit_in_memory};
-use crate::shared::state::{Held, State, Ticket};
+use crate::shared::state::{Held, State};
 use crate::shared::transaction::SharedTransaction;
 use crate::shared::SharedStore;
 use crate::transaction_id::TransactionId;
@@ -142,8 +142,7 @@ impl State {
     }
 
     fn prepare_in_memory(&mut self, key: Key<'_>, preparation: Preparation) -> Result<(), Error> {
-        let Ticket { id, .. } = preparation.ticket;
-        let is_open = id.life == self.life && self.is_open(id.number);
+        let is_open = self.is_open(preparation.ticket.id);
         self.keys.prepare(key, preparation, is_open)
     }
 

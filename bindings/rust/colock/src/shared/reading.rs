@@ -161,7 +161,7 @@ impl SharedStore {
     }
 
     /// The events from a place on, oldest first, which count from 0. Over a child they are those of the present
-    /// epoch, and all that happened becomes durable before.
+    /// epoch, and all that happened becomes durable before. Those of what went over into it are its first ones, by other numbers.
     ///
     /// ```
     /// # use colock::{Event, Kind, SharedStore, Type};

@@ -24,6 +24,17 @@ pub(crate) enum Held {
     Remote(RemoteState),
 }
 
+impl Held {
+    /// The number by which those that wait know a transaction.
+    #[inline]
+    pub(crate) fn number(&self, id: TransactionId) -> u64 {
+        match self {
+            Held::Memory(_) => id.number,
+            Held::Remote(_) => id.seen(),
+        }
+    }
+}
+
 /// A transaction, by what every call of it needs.
 #[derive(Clone, Copy, Debug)]
 pub(crate) struct Ticket {
@@ -48,7 +59,7 @@ pub(crate) struct State {
     pub(crate) held: Held,
     pub(crate) waiters: Waiters,
     pub(crate) stats: Stats,
-    /// Of a child the life that was answered last, in memory how often the store began anew while nobody was open.
+    /// Of a child the greatest life that was answered, in memory how often the store began anew while nobody was open.
     pub(crate) life: u64,
     /// How often a transaction has ended, or all of them.
     pub(crate) ends: u64,
@@ -86,14 +97,14 @@ impl State {
     pub(crate) fn ended(&mut self, ticket: Ticket) {
         self.ends += 1;
         if !self.waiters.is_empty() {
-            self.waiters.ended(ticket.id.number, ticket.touched);
+            self.waiters.ended(self.held.number(ticket.id), ticket.touched);
             self.settle();
         }
     }
 
     /// A transaction has taken back operations.
     pub(crate) fn took_back(&mut self, ticket: Ticket) {
-        self.waiters.took_back(ticket.id.number, ticket.touched);
+        self.waiters.took_back(self.held.number(ticket.id), ticket.touched);
         self.settle();
     }
 
@@ -103,10 +114,20 @@ impl State {
         self.settle();
     }
 
-    /// All transactions have ended with their epoch.
+    /// All transactions of a store in memory have ended.
     pub(crate) fn all_ended(&mut self) {
         self.ends += 1;
         self.waiters.epoch_ended();
+        self.settle();
+    }
+
+    /// Any transaction over a child may have ended, which may have held anything: whoever waits asks once more.
+    pub(crate) fn all_let_go(&mut self) {
+        if let Ok(remote_state) = self.remote_state() {
+            remote_state.let_go.all_let_go();
+        }
+        self.ends += 1;
+        self.waiters.all_again();
         self.settle();
     }
 
@@ -138,40 +159,58 @@ impl State {
         }
     }
 
-    /// A transaction has begun over a child. Where a later life was answered meanwhile, it has been aborted.
+    /// A transaction has begun over a child.
     pub(crate) fn began(&mut self, id: TransactionId) {
         self.told_life(id.life);
-        if let (Held::Remote(remote_state), true) = (&mut self.held, id.life == self.life) {
-            remote_state.open.insert(id.number, 0);
+        if let Held::Remote(remote_state) = &mut self.held {
+            remote_state.open.insert(id, 0);
         }
     }
 
-    /// Whether the transaction can still be open: why not, if not.
+    /// Whether the transaction can still be open: why not, if not. Over a child its end or a refusal says that it isn't.
     #[inline]
-    pub(crate) fn is_of_life(&self, ticket: Ticket) -> Result<(), Error> {
-        match self.held {
-            _ if ticket.id.life == self.life => Ok(()),
+    pub(crate) fn can_be_open(&self, ticket: Ticket) -> Result<(), Error> {
+        match &self.held {
+            Held::Memory(_) if ticket.id.life == self.life => Ok(()),
             Held::Memory(_) => Err(Error::NotOpen),
+            Held::Remote(remote_state) if remote_state.open.contains_key(&ticket.id) => Ok(()),
             Held::Remote(_) => Err(Error::EpochEnded),
         }
     }
 
-    /// Whether a transaction of the present life is open.
-    pub(crate) fn is_open(&self, number: u64) -> bool {
+    /// Whether those that wait know nobody else by the number of a transaction. In memory each life has the same numbers.
+    pub(crate) fn has_own_number(&self, ticket: Ticket) -> bool {
+        matches!(self.held, Held::Remote(_)) || ticket.id.life == self.life
+    }
+
+    /// Whether a transaction is open, over a child as far as is known.
+    pub(crate) fn is_open(&self, id: TransactionId) -> bool {
         match &self.held {
-            Held::Memory(store) => store.is_open(number),
-            Held::Remote(remote_state) => remote_state.open.contains_key(&number),
+            Held::Memory(store) => id.life == self.life && store.is_open(id.number),
+            Held::Remote(remote_state) => remote_state.open.contains_key(&id),
         }
     }
 
-    /// A life was answered. Where it is a new one, what was open and not prepared has been aborted.
+    /// A child answered a life. Where it is a new one an epoch has ended. Whether that aborted what was open isn't known.
     pub(crate) fn told_life(&mut self, life: u64) {
-        if let (Held::Remote(remote_state), true) = (&mut self.held, life > self.life) {
-            self.stats.aborts += remote_state.unprepared_count(self.life) as u64;
+        if matches!(self.held, Held::Remote(_)) && life > self.life {
             self.life = life;
-            remote_state.open.clear();
-            self.all_ended();
+            self.all_let_go();
         }
+    }
+
+    /// A child answered a line of a transaction. One that isn't open there, and hasn't ended here, was aborted by the end of an epoch.
+    pub(crate) fn sees_answer<T>(&mut self, ticket: Ticket, told: &Result<T, Error>) {
+        if let (Held::Remote(remote_state), Err(Error::EpochEnded)) = (&mut self.held, told) {
+            let was_open = remote_state.open.remove(&ticket.id).is_some();
+            self.epoch_ended(was_open);
+        }
+    }
+
+    /// The end of an epoch has aborted a transaction, which is counted if it wasn't before. It may have aborted others too.
+    pub(crate) fn epoch_ended(&mut self, is_new: bool) {
+        self.stats.aborts += u64::from(is_new);
+        self.all_let_go();
     }
 }
 

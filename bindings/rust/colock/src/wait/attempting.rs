@@ -6,7 +6,7 @@ use crate::attempt::{Attempt, Came, Ending};
 use crate::error::Error;
 use crate::object::ObjectRef;
 use crate::operation_id::OperationId;
-use crate::shared::attempts::{AskedAt, Tried};
+use crate::shared::attempts::Tried;
 use crate::shared::state::{Held, State};
 use crate::shared::SharedStore;
 use crate::transaction_id::TransactionId;
@@ -27,8 +27,8 @@ struct Obstacle {
     object: u32,
     call: OperationId,
     blocker: TransactionId,
-    /// When it was tried.
-    asked_at: AskedAt,
+    /// As of [`Tried`].
+    since: u64,
 }
 
 impl SharedStore {
@@ -111,7 +111,7 @@ impl SharedStore {
         let Came::Ended { at, how: Ending::Busy { blocker } } = tried.came else { return Ok(None) };
         let (object, name) = asked.calls().nth(at).ok_or(Error::NoCall)?;
         let call = self.calls_at(object)?.number(name).ok_or(Error::NoCall)?;
-        Ok(Some(Obstacle { object, call, blocker, asked_at: tried.asked_at }))
+        Ok(Some(Obstacle { object, call, blocker, since: tried.since }))
     }
 
     /// Sleeps after a try until the call that was busy may be free.
@@ -127,7 +127,7 @@ impl SharedStore {
             return Ok(());
         }
         let caller = waits.caller_at(&mut guard, obstacle);
-        let blocker = Blocker { number: obstacle.blocker.seen_in(guard.life), by_gate: false };
+        let blocker = Blocker { number: guard.held.number(obstacle.blocker), by_gate: false };
         let (mut guard, woken) = self.rest(guard, caller, blocker, waits.deadline);
         match woken {
             Some(Woken::Again) => Ok(()),
@@ -142,13 +142,10 @@ impl SharedStore {
 }
 
 impl Obstacle {
-    /// Whether who was in the way has let go since the try, or another one at the object. One of an earlier life than that of the try
-    /// is prepared, and any other one has ended with its epoch, or is asked for again.
+    /// Whether who was in the way has let go since the try, or another one at the object.
     fn has_let_go(&self, state: &State) -> bool {
         let Held::Remote(remote_state) = &state.held else { return false };
-        let AskedAt { life, since } = self.asked_at;
-        let is_earlier = self.blocker.life < life;
-        (!is_earlier && self.blocker.life != state.life) || remote_state.has_let_go(self.blocker.seen_in(state.life), self.object, since)
+        remote_state.has_let_go(self.blocker, self.object, self.since)
     }
 }
 

@@ -30,7 +30,7 @@ impl InTheWay {
     /// Whom to wait for at an object, where nobody has let go there since.
     fn look(self, state: &State, object: u32) -> Look {
         match &state.held {
-            Held::Remote(remote_state) if remote_state.has_let_go(self.blocker, object, self.since) => Look::Again,
+            Held::Remote(remote_state) if remote_state.has_let_go(TransactionId::of_seen(self.blocker), object, self.since) => Look::Again,
             _ => Look::Behind(Blocker { number: self.blocker, by_gate: false }),
         }
     }
@@ -58,10 +58,11 @@ impl SharedStore {
         let Ok((number, _)) = self.resolved(object, call) else {
             return self.call_now(ticket, object, call); // which says what is wrong
         };
-        let caller = Caller { number: ticket.id.number, age: ticket.age, object, call: number };
+        let guard = self.enter()?;
+        let caller = Caller { number: guard.held.number(ticket.id), age: ticket.age, object, call: number };
         let wait = Wait { ticket, caller, deadline };
-        let (mut guard, done) = self.waited(self.enter()?, wait, first);
-        if guard.is_of_life(ticket).is_ok() {
+        let (mut guard, done) = self.waited(guard, wait, first);
+        if guard.has_own_number(ticket) {
             guard.leaves(caller.number);
         }
         match done {
@@ -134,8 +135,8 @@ impl SharedStore {
 
     /// Sleeps until the call may be free.
     fn sleep<'s>(&'s self, guard: Guard<'s>, wait: Wait, blocker: Blocker) -> Guarded<'s, ()> {
-        // the number of a transaction of an epoch that has ended may be another one's
-        if let Some(error) = guard.is_of_life(wait.ticket).err().or_else(|| self.lost()) {
+        // in memory the number of a transaction of a life that has ended may be another one's
+        if let Some(error) = guard.can_be_open(wait.ticket).err().or_else(|| self.lost()) {
             return (guard, Err(error));
         }
         if is_over(wait.deadline) {
@@ -144,7 +145,7 @@ impl SharedStore {
         let (guard, woken) = self.rest(guard, wait.caller, blocker, wait.deadline);
         let woken = match woken {
             Some(Woken::Again) => Ok(()),
-            Some(Woken::Victim { waited_for }) => Err(Error::Deadlock { waited_for: TransactionId::new(wait.ticket.id.life, waited_for) }),
+            Some(Woken::Victim { waited_for }) => Err(Error::Deadlock { waited_for: self.sight(wait.ticket.id.life).id(waited_for) }),
             Some(Woken::Over(Verdict::Lost)) => Err(self.lost().unwrap_or_else(|| Error::ConnectionLost(String::new()))),
             Some(Woken::Over(Verdict::Gone | Verdict::EpochEnded)) => Err(self.ended_epoch()),
             None => Err(Error::TimedOut),
@@ -164,11 +165,13 @@ impl SharedStore {
         (guard, bell.woken())
     }
 
-    /// Waits for the end of a transaction, at most this long, and holds nothing meanwhile.
-    pub(crate) fn wait_for_end(&self, life: Option<u64>, number: u64, limit: Duration) {
+    /// Waits for the end of a transaction, at most this long, and holds nothing meanwhile. It doesn't wait where another life has
+    /// begun since this one: the end of the epoch may have aborted it.
+    pub(crate) fn wait_for_end(&self, life: Option<u64>, id: TransactionId, limit: Duration) {
         let deadline = Instant::now().checked_add(limit);
         let Ok(guard) = self.enter() else { return };
-        if life == Some(guard.life) && guard.is_open(number) && self.lost().is_none() {
+        if life == Some(guard.life) && guard.is_open(id) && self.lost().is_none() {
+            let number = guard.held.number(id);
             drop(watched(guard, Some(number), deadline));
         }
     }
@@ -189,7 +192,7 @@ impl SharedStore {
 
 /// Who looks again goes on waiting: younger ones go after it, and no commit lets it go first.
 fn enter(state: &mut State, wait: Wait) {
-    if state.is_of_life(wait.ticket).is_ok() {
+    if state.has_own_number(wait.ticket) {
         state.waiters.look_again(wait.caller);
         state.settle();
     }

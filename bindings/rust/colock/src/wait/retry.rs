@@ -256,7 +256,7 @@ impl SharedStore {
             };
             match error.cause_in_store() {
                 Some(_) if attempt >= how.tries => return Err(error),
-                Some(Error::Deadlock { waited_for }) => self.wait_for_end(life, waited_for.number, LONGEST_LOOK),
+                Some(Error::Deadlock { waited_for }) => self.wait_for_end(life, *waited_for, LONGEST_LOOK),
                 Some(cause) if cause.is_retryable() => thread::sleep(drawn(how.backoff, attempt)),
                 _ => return Err(error),
             }

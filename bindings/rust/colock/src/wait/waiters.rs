@@ -145,7 +145,7 @@ impl Waiters {
         }
     }
 
-    /// A thread doesn't sleep any more. Its number may be that of another one of a later epoch by now.
+    /// A thread doesn't sleep any more. In memory its number may be that of another one of a later life by now.
     pub(crate) fn stop(&mut self, number: u64, bell: &Arc<Bell>) {
         if self.asleep.get(&number).is_some_and(|waiter| Arc::ptr_eq(&waiter.bell, bell)) {
             self.asleep.remove(&number);
@@ -187,7 +187,7 @@ impl Waiters {
         self.waiting.all_again();
     }
 
-    /// All transactions have ended with their epoch.
+    /// All transactions have ended.
     pub(crate) fn epoch_ended(&mut self) {
         self.waiting.epoch_ended();
     }

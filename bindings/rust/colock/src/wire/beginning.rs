@@ -335,9 +335,11 @@ impl SharedStore {
         // it is answered after the begin
         let told = remote.link.answered(&both.next);
         let begun = remote.link.answered(&both.begin.slot)?;
-        let begun = self.lock().sees_begin(remote, both.begin.place, &begun);
+        let mut guard = self.lock();
+        let begun = guard.sees_begin(remote, both.begin.place, &begun);
         if begun == Ok(Some(both.foretold)) {
-            let reply = told.and_then(|text| self.reply_of(&text, object, number, both.foretold.life));
+            let reply = told.and_then(|text| self.reply_of(&text, object, number));
+            guard.sees_answer(Ticket::new(both.foretold, age, 0), &reply);
             return Ok(Some(First { id: both.foretold, told: Some(FirstTold { reply, since }) }));
         }
         // nobody had the name that was foretold

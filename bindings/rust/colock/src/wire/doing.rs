@@ -6,7 +6,7 @@ use crate::error::Error;
 use crate::few::Few;
 use crate::key::Key;
 use crate::operation_id::OperationId;
-use crate::shared::attempts::{AskedAt, Tried};
+use crate::shared::attempts::Tried;
 use crate::shared::{Guard, Lock, SharedStore};
 use crate::wire::beginning::WHILE_FULL;
 use crate::wire::reads::MOST_IN_LINE;
@@ -25,15 +25,15 @@ impl SharedStore {
         let calls = match asked.numbers(self.objects()) {
             Ok(calls) if calls.is_empty() => return self.tried_without_calls(key),
             Ok(calls) => calls,
-            Err(unasked) => return Ok(Tried { guard: self.enter()?, came: unasked.ended()?, asked_at: AskedAt::default() }),
+            Err(unasked) => return Ok(Tried { guard: self.enter()?, came: unasked.ended()?, since: 0 }),
         };
         let (start, words) = (Instant::now(), asked.lines(MOST_IN_LINE).concat());
         let request = key.map_or(Request::Do(&words), |key| Request::DoUnder(key, &words));
         loop {
-            let (mut guard, asked_at, text) = self.asked_to_do(remote, asked, request)?;
+            let (mut guard, since, text) = self.asked_to_do(remote, asked, request)?;
             if let Some(came) = self.came_of(remote, request, &text, asked, &calls)? {
                 guard.has_tried(asked, &came);
-                return Ok(Tried { guard, came, asked_at });
+                return Ok(Tried { guard, came, since });
             }
             drop(guard);
             if start.elapsed() >= remote.link.limit() {
@@ -49,14 +49,13 @@ impl SharedStore {
             None => self.begin()?.commit()?,
             Some(key) => self.commit_nothing_under(key)?,
         }
-        Ok(Tried { guard: self.enter()?, came: Came::Done(Few::default()), asked_at: AskedAt::default() })
+        Ok(Tried { guard: self.enter()?, came: Came::Done(Few::default()), since: 0 })
     }
 
-    /// What a child answers to these calls, and when it was asked.
-    fn asked_to_do(&self, remote: &Remote, asked: &Asked, request: Request<'_>) -> Result<(Guard<'_>, AskedAt, String), Error> {
+    /// What a child answers to these calls, and since when others may have let go.
+    fn asked_to_do(&self, remote: &Remote, asked: &Asked, request: Request<'_>) -> Result<(Guard<'_>, u64, String), Error> {
         let mut guard = self.enter()?;
         self.settle_dropped(&mut guard);
-        let life = guard.life;
         let remote_state = guard.remote_state()?;
         let since = asked.objects().iter().map(|object| remote.since(remote_state, *object)).min().unwrap_or(0);
         let slot = remote_state.send_attempt(request)?;
@@ -65,7 +64,7 @@ impl SharedStore {
         if let Some(Answer::BusyAt(_, blocker)) = answer(&text) {
             guard.told_life(blocker.life);
         }
-        Ok((guard, AskedAt { life, since }, text))
+        Ok((guard, since, text))
     }
 
     /// What an answer says that came of an attempt; nothing where the epoch is full.

@@ -104,7 +104,8 @@ impl<'t> OpenOptions<'t> {
         self
     }
 
-    /// How many seconds what is open may go on in an epoch that is full; 5 where it isn't said.
+    /// How many seconds what is open may go on where an epoch has to end and a yes of the checker is one-way; 5 where it isn't said. Where
+    /// each yes is strong, all that is open goes on in the next epoch.
     pub fn drain(mut self, seconds: u32) -> OpenOptions<'t> {
         self.drain = Some(seconds);
         self
@@ -190,7 +191,7 @@ fn greeted(link: &Arc<Link>, greeting: &Slot, path: &Path, folder: Option<PathBu
     }
     let past = Past { greeted: life, found: link.found(), archive };
     let remote = Remote::new(Arc::clone(link), past, FileId::of(path), Extending::by(program));
-    Ok(SharedStore::of_remote(RemoteState::new(conversation), found, life, remote))
+    Ok(SharedStore::of_remote(RemoteState::new(conversation, life), found, life, remote))
 }
 
 /// A path that doesn't begin with a hyphen, and means the same whatever the working folder becomes.

@@ -46,8 +46,8 @@ impl SharedStore {
     ///
     /// An archived history is of the store by whose id it is named, and of the life in which its epoch ended. Of an
     /// earlier life of that epoch, which crashed, it says nothing: what such a life lost left its number to a later
-    /// transaction. What became of one that was [prepared](crate::SharedTransaction::prepare) and decided in a later epoch is told by
-    /// [`SharedStore::outcome`] of its key, and not by this.
+    /// transaction. Nor does it say what became of one that ended in a later epoch than that in which it began. That is told by
+    /// [`SharedStore::outcome`] of its key, where it committed under one, or was [prepared](crate::SharedTransaction::prepare).
     ///
     /// ```
     /// # use colock::{Kind, SharedStore, Type};
@@ -65,7 +65,10 @@ impl SharedStore {
     ///
     /// [`Error::CannotOpen`] where the archive can't be read, and over a child [`Error::ConnectionLost`].
     pub fn committed(&self, id: TransactionId) -> Result<Option<bool>, Error> {
-        let life = self.enter()?.life;
+        let life = match self.remote() {
+            Some(remote) => self.moment_over_child(remote)?.epoch,
+            None => self.enter()?.life,
+        };
         if id.life > life {
             return Ok(None);
         }
@@ -84,29 +87,30 @@ impl SharedStore {
     fn committed_remote(&self, remote: &Remote, id: TransactionId, life: u64) -> Result<Option<bool>, Error> {
         let past = &remote.past;
         if id.life == life {
-            let events = self.events_of(life)?;
+            let events = self.events_of(remote, life)?;
             return Ok(events.and_then(|events| outcome(past.of_life(&events, life)?, id.number)));
         }
         if id.life + 1 == past.greeted {
-            let events = self.first_events(past, life)?;
+            let events = self.first_events(remote, life)?;
             return Ok(events.and_then(|events| past.before_this_opening(&events, id.number)));
         }
         Ok(past.archived(id.life)?.and_then(|events| outcome(&events, id.number)))
     }
 
     /// The events of the epoch in which the store was opened, where they are still to be had.
-    fn first_events(&self, past: &Past, life: u64) -> Result<Option<Vec<Event>>, Error> {
+    fn first_events(&self, remote: &Remote, life: u64) -> Result<Option<Vec<Event>>, Error> {
+        let past = &remote.past;
         match past.found {
             Some(Found { events: 0, .. }) => Ok(Some(Vec::new())), // none of them are asked for
-            _ if past.greeted == life => self.events_of(life),
+            _ if past.greeted == life => self.events_of(remote, life),
             _ => past.archived(past.greeted),
         }
     }
 
-    /// The events of the present epoch, where it is still that of this life.
-    fn events_of(&self, life: u64) -> Result<Option<Vec<Event>>, Error> {
+    /// The events of the present epoch, where it is still that of this life. In another one the same numbers are others'.
+    fn events_of(&self, remote: &Remote, life: u64) -> Result<Option<Vec<Event>>, Error> {
         let events = self.events(0)?;
-        Ok((self.enter()?.life == life).then_some(events))
+        Ok((self.moment_over_child(remote)?.epoch == life).then_some(events))
     }
 }
 

@@ -21,13 +21,14 @@ impl SharedStore {
     /// before the client comes to look at the answer to this.
     pub(crate) fn prepare_by_child(&self, mut guard: Guard<'_>, key: Key<'_>, preparation: &Preparation) -> Result<(), Error> {
         let Preparation { ticket, until, .. } = *preparation;
-        guard.is_of_life(ticket)?;
+        guard.can_be_open(ticket)?;
         let is_first = guard.remote_state()?.prepares(key, ticket);
         let (mut guard, told) = self.ask(guard, Request::Prepare(ticket.id, key, until), Lock::GivenUp);
         let told = told.and_then(|text| self.done(&text));
         if told.is_err() && is_first {
-            guard.prepares_not(key, ticket);
+            guard.remote_state()?.prepared.remove(key.as_str());
         }
+        guard.sees_answer(ticket, &told);
         told
     }
 
@@ -59,24 +60,9 @@ impl RemoteState {
         }
         is_first
     }
-
-    /// How many are open in the present life and not prepared. The end of an epoch aborts them.
-    pub(crate) fn unprepared_count(&self, life: u64) -> usize {
-        let prepared = self.prepared.values().filter(|ticket| ticket.id.life == life && self.open.contains_key(&ticket.id.number));
-        self.open.len() - prepared.count()
-    }
 }
 
 impl State {
-    /// A transaction that was to be prepared isn't. Where its epoch has ended meanwhile, it was aborted.
-    fn prepares_not(&mut self, key: Key<'_>, ticket: Ticket) {
-        let is_over = self.is_of_life(ticket).is_err();
-        if let Ok(remote_state) = self.remote_state() {
-            remote_state.prepared.remove(key.as_str());
-        }
-        self.stats.aborts += u64::from(is_over);
-    }
-
     /// A decision was answered. It ended this transaction, where it was one of this client that nobody decided before; else one
     /// that may have held anything. Whether it was one of this client.
     fn has_decided(&mut self, key: Key<'_>, meant: Option<Ticket>, decision: Decision) -> bool {
@@ -86,24 +72,10 @@ impl State {
         if ended.is_some() {
             remote_state.prepared.remove(key.as_str());
         }
-        let is_abort = decision == Decision::Abort;
         match ended {
-            Some(ticket) if self.is_of_life(ticket).is_ok() => counts_as_ended(self, ticket, is_abort),
-            _ => {
-                self.stats.aborts += u64::from(is_abort && ended.is_some());
-                self.all_let_go();
-            }
+            Some(ticket) => counts_as_ended(self, ticket, decision == Decision::Abort),
+            None => self.all_let_go(),
         }
         ended.is_some()
-    }
-
-    /// Somebody of another life has ended, who may have held anything.
-    fn all_let_go(&mut self) {
-        if let Ok(remote_state) = self.remote_state() {
-            remote_state.let_go.all_let_go();
-        }
-        self.ends += 1;
-        self.waiters.all_again();
-        self.settle();
     }
 }

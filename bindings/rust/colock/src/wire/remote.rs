@@ -52,8 +52,10 @@ pub(crate) struct RemoteState {
     pub(crate) conversation: Conversation,
     pub(crate) begins: Begins,
     pub(crate) dropped: Vec<Dropped>,
-    /// Who is open, and the last moment at which operations were taken back.
-    pub(crate) open: BTreeMap<u64, u64>,
+    /// The life with which it greeted.
+    first_life: u64,
+    /// Who is open, of whatever life, as far as is known, and the last moment at which operations were taken back.
+    pub(crate) open: BTreeMap<TransactionId, u64>,
     /// When transactions let go.
     pub(crate) let_go: LetGo,
     /// The transactions of this client that are prepared, or are asked to be, by their keys.
@@ -61,9 +63,9 @@ pub(crate) struct RemoteState {
 }
 
 impl RemoteState {
-    pub(crate) fn new(conversation: Conversation) -> RemoteState {
+    pub(crate) fn new(conversation: Conversation, first_life: u64) -> RemoteState {
         let (open, prepared) = (BTreeMap::new(), BTreeMap::new());
-        RemoteState { conversation, begins: Begins::default(), dropped: Vec::new(), open, let_go: LetGo::new(), prepared }
+        RemoteState { conversation, begins: Begins::default(), dropped: Vec::new(), first_life, open, let_go: LetGo::new(), prepared }
     }
 
     /// How many are open.
@@ -72,16 +74,17 @@ impl RemoteState {
     }
 
     /// Whether a blocker in an answer about an object may have let go since a moment, or another one that touched it. One of
-    /// another life is prepared, and a decision lets go at all that it holds.
-    pub(crate) fn has_let_go(&self, number: u64, object: u32, since: u64) -> bool {
-        let has_ended = || TransactionId::is_own(number) && self.open.get(&number).is_none_or(|moment| *moment > since);
+    /// an earlier opening is prepared, and a decision lets go at all that it holds.
+    pub(crate) fn has_let_go(&self, blocker: TransactionId, object: u32, since: u64) -> bool {
+        let is_own = blocker.life >= self.first_life;
+        let has_ended = || is_own && self.open.get(&blocker).is_none_or(|moment| *moment > since);
         self.let_go.is_after(object, since) || has_ended()
     }
 
     /// A transaction takes operations back.
     pub(crate) fn takes_back(&mut self, ticket: Ticket) {
         self.let_go.lets_go(ticket.touched);
-        if let Some(moment) = self.open.get_mut(&ticket.id.number) {
+        if let Some(moment) = self.open.get_mut(&ticket.id) {
             *moment = self.let_go.moment();
         }
     }
@@ -89,7 +92,7 @@ impl RemoteState {
     /// The end of a transaction was asked for.
     pub(crate) fn ends(&mut self, ticket: Ticket) {
         self.let_go.lets_go(ticket.touched);
-        self.open.remove(&ticket.id.number);
+        self.open.remove(&ticket.id);
     }
 }
 

@@ -125,6 +125,12 @@ pub fn counter() -> Type {
     Type::counter(1000, &[1, 500], Kind::Undo).unwrap()
 }
 
+/// A type whose yes is one-way in place, as the checker says (cases/verdicts.cases). A store of a file that has an object of it aborts
+/// what is open where an epoch ends.
+pub fn one_way() -> Type {
+    Type::read(include_str!("../../../../../cases/files/oneway.type"), Kind::Undo).unwrap()
+}
+
 /// A store of this many counters, each at 500.
 pub fn filled(make: Make, objects: u32) -> Fixture {
     let of = counter();
