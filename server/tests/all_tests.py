@@ -10,7 +10,8 @@ import subprocess
 import sys
 import time
 
-MODULES = ["test_failures", "test_page", "test_http", "test_decisions", "test_transactions", "test_routes", "test_tokens", "test_pages", "test_curl"]
+MODULES = ["test_failures", "test_page", "test_http", "test_decisions", "test_epochs", "test_transactions", "test_routes", "test_tokens", "test_pages",
+           "test_curl"]
 ALONE = ["test_crowd"]
 HERE = os.path.dirname(os.path.abspath(__file__))
 JOBS = int(os.environ.get("JOBS", "4"))

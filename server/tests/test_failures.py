@@ -143,19 +143,6 @@ class Failures(unittest.TestCase):
         answer = self.served.get(f"/v1/events?from={first}&follow=false")
         return answer.json["first"] if answer.status == 410 else None
 
-    def test_what_is_open_ends_with_its_epoch(self):
-        self.served.close()
-        self.served = Served("--epoch-drain", "1")
-        self.served.add("seats", "undo", "A12")
-        one = self.served.begin()
-        one.call(("A12", "hold:1"))
-        waiting = InBackground(lambda: self.served.attempt(("A12", "hold:1"), wait=30))
-        until(lambda: self.served.get("/v1/status").json["waiting"] > 0)
-        self.assertEqual(self.served.put("/v1/objects/A13", {"type": "seats", "recovery": "undo"}).status, 201)
-        self.assertEqual(waiting.result().json, {"replies": ["ok"]})
-        self.assertEqual(one.call(("A12", "free")).problem, "ended")
-        self.assertEqual(one.known()["cause"], "epoch")
-
     # ---- the server ends
 
     def test_a_server_that_is_killed_has_all_that_it_answered(self):

@@ -94,9 +94,10 @@ mod tests {
 
     #[test]
     fn names_of_transactions_are_read_as_they_are_written() {
-        let name = TransactionName { life: 4, number: 17 };
-        assert_eq!(name.to_string().parse(), Ok(name));
-        assert_eq!(TransactionName::unpacked(name.packed()), name);
+        for (life, number) in [(4, 17), (5, 17), (1, 0), (0, u32::MAX), (u32::MAX, u32::MAX)] {
+            let name = TransactionName { life, number };
+            assert_eq!((name.to_string().parse(), TransactionName::unpacked(name.packed())), (Ok(name), name));
+        }
         for word in ["", "4", "4.", ".1", "04.1", "4.01", "4.1.1", "-1.2", "4.4294967296", "+4.1"] {
             assert_eq!(word.parse::<TransactionName>(), Err(NoTransactionName), "{word}");
         }

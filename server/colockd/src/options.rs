@@ -40,14 +40,14 @@ pub struct Options {
     /// How many seconds what is open may go on at SIGTERM
     #[arg(long, value_name = "SECONDS", default_value_t = 10, value_parser = clap::value_parser!(u32).range(0..=3600))]
     pub drain: u32,
-    /// How many seconds what is open may go on at the end of an epoch, and where objects are added
+    /// How many seconds what is open may go on at the end of an epoch, and where objects are added, if a yes is one-way
     #[arg(long, value_name = "SECONDS", default_value_t = 5, value_parser = clap::value_parser!(u32).range(0..=3600))]
     pub epoch_drain: u32,
     /// Sync once for a commit, supposing more of torn writes
     #[arg(long)]
     pub fast: bool,
     /// Of how many epochs that have ended the history is kept
-    #[arg(long, value_name = "EPOCHS", default_value_t = 16, value_parser = clap::value_parser!(u32).range(1..=100_000))]
+    #[arg(long, value_name = "EPOCHS", default_value_t = 256, value_parser = clap::value_parser!(u32).range(1..=100_000))]
     pub history: u32,
     /// The most bytes of a body
     #[arg(long, value_name = "BYTES", default_value_t = Limits::default().body)]

@@ -135,10 +135,14 @@ pub async fn commit(app: &App, asked: &Asked, name: TransactionName) -> Result<R
     let open = match known(app, &asked.caller, name) {
         Ok(Known::Open(open)) => open,
         Ok(Known::Ended(ended)) if ended.standing == Standing::Committed => return Ok(committed()),
-        // where it is long gone, its key may know it
-        Ok(Known::Ended(_)) if key.is_none() => return Err(app.store.ended(name)),
-        Err(problem) if key.is_none() || problem.kind != ProblemKind::NoTransaction => return Err(problem),
-        _ => return app.store.commit(name, key.as_deref()).await.map(|()| committed()),
+        known => {
+            let problem = known.map_or_else(|problem| problem, |_| app.store.ended(name));
+            return match key {
+                // where it is long gone, its key may know it
+                Some(key) if problem.kind != ProblemKind::NoRight => app.store.committed_under(name, &key).await.map(|()| committed()),
+                _ => Err(problem),
+            };
+        }
     };
     let _used = open.used();
     let _turn = open.turn.lock().await;

@@ -26,7 +26,7 @@ pub enum Cause {
     Idle,
     /// It was the victim of a circle of transactions that waited for one another.
     Deadlock,
-    /// The epoch ended.
+    /// Its epoch ended, in a store where some yes is one-way.
     Epoch,
     /// The store ended.
     Lost,
@@ -119,4 +119,15 @@ pub enum About {
     Outcome(Arc<str>),
     /// All that are prepared.
     Prepared,
+}
+
+impl About {
+    /// The transaction that a question asks something of, where it is one.
+    pub fn transaction(&self) -> Option<TransactionName> {
+        match self {
+            About::Call(asker, _) => Some(TransactionName::unpacked(asker.number.0)),
+            About::End(name, _) | About::Rollback(name, _) | About::Prepare(name, _) => Some(*name),
+            _ => None,
+        }
+    }
 }

@@ -105,6 +105,21 @@ impl Store {
         }
     }
 
+    /// Whether a transaction that isn't known to be open committed under a key. The store isn't told its name, by which it may know
+    /// another one that went over into its present life.
+    ///
+    /// # Errors
+    ///
+    /// A [`Problem`] where it didn't.
+    pub async fn committed_under(&self, name: TransactionName, key: &str) -> Result<(), Problem> {
+        match self.outcome(key).await? {
+            Some(KeyOutcome::Committed(_)) => Ok(()),
+            Some(KeyOutcome::Aborted) => Err(self.key_problem(Refusal::Aborted, key).await),
+            Some(KeyOutcome::Prepared) => Err(self.key_problem(Refusal::KeyPrepared, key).await),
+            None => Err(self.ended(name)),
+        }
+    }
+
     /// All that are prepared and not decided, in the order in which they were prepared.
     ///
     /// # Errors

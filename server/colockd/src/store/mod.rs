@@ -29,8 +29,10 @@ use crate::store::archive::Archive;
 use crate::store::extending::{Addition, NewObject};
 use crate::store::objects::SharedObjects;
 use crate::store::observer::Observer;
+use crate::store::open::Standing;
 use crate::store::past::Past;
 use crate::store::types::{accepted, Types};
+use futures_util::future::join_all;
 use std::sync::Arc;
 use std::time::Duration;
 use tokio::sync::{mpsc, oneshot};
@@ -55,7 +57,7 @@ pub struct Store {
     pub observer: Arc<Observer>,
     /// The histories of epochs that have ended.
     pub archive: Archive,
-    /// How long open transactions may go on in an epoch that is full.
+    /// How long open transactions may go on in an epoch that is full, where some yes is one-way.
     pub drain: Duration,
     past: Past,
     additions: mpsc::Sender<Addition>,
@@ -79,7 +81,7 @@ impl Store {
 
     /// Aborts transactions of which nothing was asked for too long, and looks whether an epoch has ended, for ever.
     pub async fn sweep(self: Arc<Store>) {
-        let (mut seen, mut learnt) = (0, 0);
+        let (mut seen, mut learnt, mut looked) = (0, 0, 0);
         for look in 0_u32.. {
             sleep(BETWEEN_LOOKS).await;
             let starts = self.observer.metrics.starts.get();
@@ -87,6 +89,11 @@ impl Store {
                 learnt = starts;
             }
             self.abort_undecided().await;
+            let life = self.observer.life();
+            if life != looked {
+                looked = life;
+                self.look_at_older(life).await;
+            }
             let open = self.observer.open.unprepared();
             for transaction in open.iter().filter(|open| open.idle_for() >= open.idle) {
                 tracing::info!(transaction = %transaction.name, owner = &*transaction.owner, "nothing was asked of it for too long");
@@ -101,6 +108,18 @@ impl Store {
             if let Err(error) = self.archive.prune(self.observer.life()) {
                 tracing::error!(%error, "old histories can't be removed");
             }
+        }
+    }
+
+    /// Looks which of those that are open began before this life and were aborted by the end of an epoch.
+    async fn look_at_older(&self, life: u32) {
+        let open = self.observer.open.unprepared();
+        let older: Vec<_> = open.iter().filter(|open| open.name.life < life).collect();
+        // it is refused, of one that is open as `BadRollback`; of one that isn't the observer notes that
+        join_all(older.iter().map(|open| self.rollback(open.name, 0))).await;
+        let aborted = older.iter().filter(|open| self.observer.open.standing(open.name) == Some(Standing::Aborted(Cause::Epoch))).count();
+        if aborted > 0 {
+            tracing::info!(life, aborted, "the end of an epoch has aborted what was open");
         }
     }
 

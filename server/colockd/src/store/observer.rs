@@ -7,7 +7,7 @@ use crate::metrics::Metrics;
 use crate::names::{number_of, TransactionName};
 use crate::store::about::{About, AttemptCalls, Cause, Ending, Hold};
 use crate::store::bell::Bell;
-use crate::store::open::{Held, OpenTransactions, Standing};
+use crate::store::open::{Held, Known, OpenTransactions, Standing};
 use crate::store::waits::Waits;
 use colock_waiting::{Asker, Number, Touched};
 use std::sync::atomic::{AtomicU32, AtomicU64, Ordering};
@@ -46,19 +46,15 @@ impl Observer {
         self.happened.load(Ordering::Relaxed)
     }
 
-    /// The store told its life: where it is another one, the epoch has ended with all that was open.
+    /// The store told its life: where it is a greater one, epochs have ended. What was open may go on, and nothing tells that it
+    /// doesn't but a refusal; so all that wait ask once more.
     pub fn told_life(&self, life: u32) {
-        if self.life.fetch_max(life, Ordering::Relaxed) < life {
-            self.epoch_ended(life);
+        let before = self.life.fetch_max(life, Ordering::Relaxed);
+        if before < life {
+            self.metrics.epochs.inc_by(u64::from(life - before));
+            self.waits.epoch_ended();
+            tracing::info!(life, "another epoch has begun");
         }
-    }
-
-    fn epoch_ended(&self, life: u32) {
-        let count = self.open.end_older(life, Cause::Epoch);
-        self.metrics.aborted(Cause::Epoch, count as u64);
-        self.metrics.epochs.inc();
-        self.waits.epoch_ended();
-        tracing::info!(life, aborted = count, "another epoch has begun");
     }
 
     fn ended(&self, name: TransactionName, standing: Standing) {
@@ -68,6 +64,14 @@ impl Observer {
             Standing::Aborted(cause) => self.metrics.aborted(cause, 1),
         }
         self.waits.ended(Number(name.packed()), touched);
+    }
+
+    /// The store has no such open transaction. An end that was asked for was answered before; so the end of its epoch aborted it, unless
+    /// it was prepared: what became of that its key says.
+    fn is_not_open(&self, name: TransactionName) {
+        if matches!(self.open.known(name), Some(Known::Open(open)) if open.hold().is_none()) {
+            self.ended(name, Standing::Aborted(Cause::Epoch));
+        }
     }
 
     fn called(&self, asker: Asker, bell: Option<&Arc<Bell>>, answer: Answer<'_>) {
@@ -80,7 +84,6 @@ impl Observer {
                     self.waits.busy(asker, bell, Number(blocker.packed()));
                 }
             }
-            Answer::Refused(Refusal::NotOpen) => self.ended(name, Standing::Aborted(Cause::Epoch)),
             _ => {}
         }
     }
@@ -106,10 +109,8 @@ impl Observer {
     }
 
     fn prepared(&self, name: TransactionName, hold: &Hold, answer: Answer<'_>) {
-        match answer {
-            Answer::Ok(_) => self.open.prepares(name, hold, || self.waits.next_age()),
-            Answer::Refused(Refusal::NotOpen) => self.ended(name, Standing::Aborted(Cause::Epoch)),
-            _ => {}
+        if let Answer::Ok(_) = answer {
+            self.open.prepares(name, hold, || self.waits.next_age());
         }
     }
 
@@ -142,7 +143,6 @@ impl Observer {
         match (ending, answer) {
             (Ending::Commit, Answer::Ok(_)) => self.ended(name, Standing::Committed),
             (Ending::Abort(cause), Answer::Ok(_)) => self.ended(name, Standing::Aborted(cause)),
-            (_, Answer::Refused(Refusal::NotOpen)) => self.ended(name, Standing::Aborted(Cause::Epoch)),
             _ => {}
         }
     }
@@ -152,6 +152,9 @@ impl Listener<About> for Observer {
     fn answered(&self, about: &About, answer: Answer<'_>, listed: &str, since: Duration) {
         if !matches!(about, About::Nothing | About::Would(_) | About::Outcome(_) | About::Prepared) {
             self.happened.fetch_add(1, Ordering::Relaxed);
+        }
+        if let (Answer::Refused(Refusal::NotOpen), Some(name)) = (answer, about.transaction()) {
+            self.is_not_open(name);
         }
         match about {
             About::Nothing => {}
@@ -197,7 +200,7 @@ impl Listener<About> for Observer {
     }
 
     fn lost(&self) {
-        let count = self.open.end_older(u32::MAX, Cause::Lost);
+        let count = self.open.end_unprepared(Cause::Lost);
         self.metrics.aborted(Cause::Lost, count as u64);
         self.waits.lost();
     }
@@ -214,8 +217,8 @@ pub fn holds_in(listed: &str) -> impl Iterator<Item = (TransactionName, Hold)> +
 
 #[cfg(test)]
 mod tests {
-    use super::{Observer, OpenTransactions, Waits};
-    use crate::engine::answer::{Answer, Refusal};
+    use super::{Observer, Waits};
+    use crate::engine::answer::Answer;
     use crate::engine::child::Greeting;
     use crate::engine::Listener;
     use crate::metrics::Metrics;
@@ -223,8 +226,8 @@ mod tests {
     use crate::store::about::{About, AttemptCalls, AttemptPlace, Beginning, Cause, Ending, Hold};
     use crate::store::bell::{Bell, Woken};
     use crate::store::objects::SharedObjects;
-    use crate::store::open::{Known, Standing};
-    use colock_waiting::{Asker, Class, Number, ObjectIndex};
+    use crate::store::open::Standing;
+    use colock_waiting::{Age, Asker, Class, Number, ObjectIndex};
     use std::sync::Arc;
     use std::time::Duration;
     use tokio::sync::mpsc::unbounded_channel;
@@ -247,13 +250,6 @@ mod tests {
         About::Begin(Beginning { owner: Arc::from("shop"), idle: Duration::from_secs(1) })
     }
 
-    fn standing(open: &OpenTransactions, name: TransactionName) -> Option<Standing> {
-        match open.known(name)? {
-            Known::Open(_) => None,
-            Known::Ended(ended) => Some(ended.standing),
-        }
-    }
-
     #[test]
     fn a_transaction_is_open_from_its_begin_to_its_end() {
         let observer = observer();
@@ -263,17 +259,36 @@ mod tests {
         tell(&observer, &About::End(NAME, Ending::Commit), "refused KeyTaken");
         assert_eq!(observer.open.len(), 1);
         tell(&observer, &About::End(NAME, Ending::Commit), "ok");
-        assert_eq!((observer.open.len(), standing(&observer.open, NAME)), (0, Some(Standing::Committed)));
+        assert_eq!((observer.open.len(), observer.open.standing(NAME)), (0, Some(Standing::Committed)));
     }
 
     #[test]
-    fn another_life_ends_what_was_open() {
+    fn what_is_open_outlives_its_epoch_and_not_its_store() {
         let observer = observer();
         tell(&observer, &begin(), "ok 3.0");
-        tell(&observer, &begin(), "ok 4.0");
-        assert_eq!((observer.open.len(), observer.life(), standing(&observer.open, NAME)), (1, 4, Some(Standing::Aborted(Cause::Epoch))));
+        tell(&observer, &begin(), "ok 6.1");
+        assert_eq!((observer.open.len(), observer.life(), observer.metrics.epochs.get()), (2, 6, 3));
+        tell(&observer, &About::End(NAME, Ending::Commit), "ok");
+        assert_eq!((observer.open.len(), observer.open.standing(NAME)), (1, Some(Standing::Committed)));
         observer.lost();
         assert!(observer.open.is_empty());
+    }
+
+    #[test]
+    fn what_an_epoch_aborted_is_known_by_a_refusal() {
+        let asker = Asker { number: Number(NAME.packed()), age: Age(1), object: ObjectIndex(0), call: Class(0) };
+        let hold = Hold { key: Arc::from("k"), until: 7 };
+        for about in [About::Call(asker, None), About::End(NAME, Ending::Abort(Cause::Idle)), About::Rollback(NAME, 0), About::Prepare(NAME, hold)] {
+            let observer = observer();
+            tell(&observer, &begin(), "ok 3.0");
+            tell(&observer, &begin(), "ok 4.0");
+            tell(&observer, &About::Rollback(NAME, 0), "refused BadRollback");
+            assert_eq!((observer.open.len(), observer.open.standing(NAME)), (2, None), "{about:?}");
+            tell(&observer, &about, "refused NotOpen");
+            assert_eq!((observer.open.len(), observer.open.standing(NAME)), (1, Some(Standing::Aborted(Cause::Epoch))), "{about:?}");
+            let text = String::from_utf8(observer.metrics.text(|_| String::new()).unwrap()).unwrap();
+            assert!(text.contains("colockd_aborts_total{cause=\"epoch\"} 1\n"), "{about:?}");
+        }
     }
 
     #[test]
@@ -284,12 +299,13 @@ mod tests {
         tell(&observer, &About::Prepare(NAME, hold.clone()), "ok");
         tell(&observer, &begin(), "ok 4.0");
         observer.lost();
+        tell(&observer, &About::Rollback(NAME, 1), "refused NotOpen");
         assert_eq!((observer.open.len(), observer.open.under("k")), (1, Some(NAME)));
         tell(&observer, &About::Decide(Arc::clone(&key), Ending::Commit), "refused KeyTaken");
         tell(&observer, &About::Outcome(Arc::clone(&key)), "prepared");
         assert_eq!(observer.open.holds(), [hold]);
         tell(&observer, &About::Decide(key, Ending::Abort(Cause::Undecided)), "refused Decided");
-        assert_eq!((observer.open.len(), standing(&observer.open, NAME)), (0, Some(Standing::Committed)));
+        assert_eq!((observer.open.len(), observer.open.standing(NAME)), (0, Some(Standing::Committed)));
     }
 
     #[test]
@@ -301,27 +317,41 @@ mod tests {
         assert_eq!(observer.open.len(), 1);
     }
 
-    #[test]
-    fn what_the_store_doesnt_know_is_not_open() {
-        let observer = observer();
-        tell(&observer, &begin(), "ok 3.0");
-        let asker = Asker { number: Number(NAME.packed()), age: observer.waits.next_age(), object: ObjectIndex(0), call: Class(0) };
-        assert_eq!(Answer::read("refused NotOpen"), Some(Answer::Refused(Refusal::NotOpen)));
-        tell(&observer, &About::Call(asker, None), "refused NotOpen");
-        assert!(observer.open.is_empty());
+    /// An attempt that may wait, and its bell.
+    fn attempt(observer: &Observer) -> (About, Arc<Bell>) {
+        let (number, age) = observer.waits.next_attempt();
+        let bell = Arc::new(Bell::default());
+        let place = AttemptPlace { number, age, bell: Arc::clone(&bell) };
+        (About::Attempt(Arc::new(AttemptCalls { calls: vec![(ObjectIndex(7), Class(0))], place: Some(place) })), bell)
+    }
+
+    async fn rung(bell: &Bell) -> Option<Woken> {
+        bell.wait(Instant::now() + Duration::from_millis(2)).await
     }
 
     #[tokio::test]
     async fn an_attempt_that_is_busy_waits_for_the_end_of_its_blocker() {
         let observer = observer();
         tell(&observer, &begin(), "ok 3.0");
-        let (number, age) = observer.waits.next_attempt();
-        let bell = Arc::new(Bell::default());
-        let place = AttemptPlace { number, age, bell: Arc::clone(&bell) };
-        let attempt = AttemptCalls { calls: vec![(ObjectIndex(7), Class(0))], place: Some(place) };
-        tell(&observer, &About::Attempt(Arc::new(attempt)), "busy 0 3.0");
-        assert_eq!(bell.wait(Instant::now() + Duration::from_millis(2)).await, None);
+        let (attempt, bell) = attempt(&observer);
+        tell(&observer, &attempt, "busy 0 3.0");
+        assert_eq!(rung(&bell).await, None);
         tell(&observer, &About::End(NAME, Ending::Abort(Cause::Asked)), "ok");
-        assert_eq!(bell.wait(Instant::now() + Duration::from_millis(2)).await, Some(Woken::Again));
+        assert_eq!(rung(&bell).await, Some(Woken::Again));
+    }
+
+    #[tokio::test]
+    async fn who_waits_asks_once_more_where_an_epoch_may_have_aborted_its_blocker() {
+        let observer = observer();
+        tell(&observer, &begin(), "ok 3.0");
+        let (attempt, bell) = attempt(&observer);
+        tell(&observer, &attempt, "busy 0 3.0");
+        for life in [4, 5] {
+            observer.told_life(life);
+            assert_eq!(rung(&bell).await, Some(Woken::Again), "{life}");
+            tell(&observer, &attempt, "busy 0 3.0");
+            observer.told_life(life);
+            assert_eq!(rung(&bell).await, None, "{life}");
+        }
     }
 }

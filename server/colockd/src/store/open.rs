@@ -224,11 +224,11 @@ impl OpenTransactions {
         locked(&self.0).end(name, standing).map(|open| open.touched())
     }
 
-    /// All of earlier lives have ended that weren't prepared; how many those were.
-    pub fn end_older(&self, life: u32, cause: Cause) -> usize {
+    /// All have ended that weren't prepared; how many those were.
+    pub fn end_unprepared(&self, cause: Cause) -> usize {
         let mut table = locked(&self.0);
-        let older: Vec<_> = table.open.values().filter(|open| open.name.life < life && !open.is_prepared()).map(|open| open.name).collect();
-        older.iter().filter_map(|name| table.end(*name, Standing::Aborted(cause))).count()
+        let names: Vec<_> = table.open.values().filter(|open| !open.is_prepared()).map(|open| open.name).collect();
+        names.iter().filter_map(|name| table.end(*name, Standing::Aborted(cause))).count()
     }
 
     /// What is known of one.
@@ -236,6 +236,11 @@ impl OpenTransactions {
         let table = locked(&self.0);
         let open = table.open.get(&name).map(|open| Known::Open(Arc::clone(open)));
         open.or_else(|| table.ended.get(&name).cloned().map(Known::Ended))
+    }
+
+    /// What became of one, where it has ended.
+    pub fn standing(&self, name: TransactionName) -> Option<Standing> {
+        locked(&self.0).ended.get(&name).map(|ended| ended.standing)
     }
 
     /// All that are open, the oldest first.
@@ -308,10 +313,12 @@ mod tests {
     }
 
     #[test]
-    fn those_of_earlier_lives_end_with_them() {
+    fn one_of_an_earlier_life_is_another_one() {
         let all = OpenTransactions::default();
         [name(1, 0), name(1, 1), name(2, 0)].into_iter().for_each(|name| begin(&all, name));
-        assert_eq!((all.count_of("shop"), all.end_older(2, Cause::Epoch), all.len()), (3, 2, 1));
+        all.ends(name(2, 0), Standing::Committed);
+        assert!(matches!((all.known(name(1, 0)), all.known(name(2, 0))), (Some(Known::Open(_)), Some(Known::Ended(_)))));
+        assert_eq!((all.count_of("shop"), all.end_unprepared(Cause::Lost), all.len()), (2, 2, 0));
     }
 
     #[test]
@@ -322,7 +329,7 @@ mod tests {
         begin(&all, name(1, 1));
         all.prepares(name(1, 0), &hold("k", 7), || Age(8));
         all.prepares(name(1, 0), &hold("k", 9), || Age(8));
-        assert_eq!((all.under("k"), all.unprepared().len(), all.end_older(2, Cause::Lost)), (Some(name(1, 0)), 1, 1));
+        assert_eq!((all.under("k"), all.unprepared().len(), all.end_unprepared(Cause::Lost)), (Some(name(1, 0)), 1, 1));
         all.prepares(name(1, 1), &hold("l", 8), || Age(9));
         assert!(matches!(all.known(name(1, 1)), Some(Known::Open(open)) if &*open.owner == "shop" && open.hold() == Some(hold("l", 8))));
         all.prepares(name(1, 2), &hold("m", 9), || Age(10));

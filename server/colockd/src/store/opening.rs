@@ -42,7 +42,7 @@ const MOST_STARTS: u32 = 5;
 pub struct Choices {
     /// Whether a commit is synced once, supposing more of torn writes.
     pub is_fast: bool,
-    /// How many seconds open transactions may go on in an epoch that is full.
+    /// How many seconds open transactions may go on in an epoch that is full, where some yes is one-way.
     pub drain: u32,
     /// Of how many epochs that have ended the history is kept.
     pub histories: usize,

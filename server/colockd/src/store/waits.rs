@@ -9,7 +9,7 @@ use std::collections::HashMap;
 use std::sync::{Arc, Mutex};
 use tokio::sync::mpsc::UnboundedSender;
 
-/// Numbers from here on are attempts'. A life with it is as far as four thousand million restarts.
+/// Numbers from here on are attempts'. A life with such a number is two thousand million restarts and epochs away.
 const FIRST_ATTEMPT: u64 = 1 << 63;
 
 /// A call that waits and is to be asked for.
@@ -170,9 +170,9 @@ impl Waits {
         self.happens(|waiting| waiting.took_back(number, touched));
     }
 
-    /// The epoch has ended.
+    /// An epoch has ended. It may have aborted whoever is waited for, so all ask once more.
     pub fn epoch_ended(&self) {
-        self.happens(Waiting::epoch_ended);
+        self.happens(Waiting::all_again);
     }
 
     /// The store has ended.
@@ -213,10 +213,10 @@ impl Waits {
     }
 }
 
-/// How the end of an epoch is told: an attempt, which holds nothing, tries again.
+/// How it is told that there is nothing to wait for: an attempt, which holds nothing, tries again.
 fn over(number: Number, verdict: Verdict) -> Woken {
     match verdict {
-        Verdict::EpochEnded | Verdict::Gone if is_attempt(number) => Woken::Again,
+        Verdict::Gone if is_attempt(number) => Woken::Again,
         verdict => Woken::Over(verdict),
     }
 }
@@ -319,6 +319,19 @@ mod tests {
         assert_eq!(rung(&bell).await, None);
         waits.epoch_ended();
         assert_eq!(rung(&bell).await, Some(Woken::Again));
+    }
+
+    #[tokio::test]
+    async fn all_ask_once_more_where_an_epoch_has_ended() {
+        let (waits, mut asked) = waits();
+        let bells = [bell("would 1.1 0 hold"), bell("would 1.2 0 hold")];
+        waits.busy(asker(1), &bells[0], Number(9));
+        waits.busy(asker(2), &bells[1], Number(8));
+        waits.epoch_ended();
+        assert_eq!([(); 2].map(|()| asked.try_recv().unwrap().words), ["would 1.1 0 hold", "would 1.2 0 hold"]);
+        waits.would(Number(1), Some(Number(9)));
+        waits.would(Number(2), None);
+        assert_eq!((rung(&bells[0]).await, rung(&bells[1]).await), (None, Some(Woken::Again)));
     }
 
     #[tokio::test]
