@@ -174,8 +174,11 @@ fn epoch(program: &str, database: &str, count: usize, options: &[String]) {
     let (child, mut input, mut output) = greeted(program, database, options);
     transactions(&mut input, &mut output, 1000, count);
     let (begun, _) = asked(&mut input, &mut output, "begin");
-    let (_, before) = asked(&mut input, &mut output, "kept 0");
     let name = begun.strip_prefix("ok ").unwrap();
+    for _ in 0..2 {
+        assert!(asked(&mut input, &mut output, &format!("call {name} 0 inc:1")).0 == "reply ok");
+    }
+    let (_, before) = asked(&mut input, &mut output, "kept 0");
     assert!(asked(&mut input, &mut output, &format!("abort {name}")).0 == "ok");
     let (_, waited) = asked(&mut input, &mut output, "kept 0");
     let life: usize = name.split_once('.').unwrap().0.parse().unwrap();

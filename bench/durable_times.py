@@ -12,8 +12,8 @@ from programs import HERE
 
 WINDOWS = (1, 16, 64)
 COUNT = 2_000
-# So many whole transactions of one call are in one epoch, which isn't full then.
-MOST_OF_AN_EPOCH = 250_000
+# Behind so many transactions of one call, and four events more, an epoch of 65,536 events is full.
+EPOCH = 21_844
 
 
 def driver(folder):
@@ -73,24 +73,24 @@ def postgres(folder):
 
 
 def opening(colock, program, folder):
-    """The seconds that it takes to open 978,000 events, an epoch that is nearly full."""
-    path = database(colock, folder, "million.db")
-    subprocess.run([program, "fill", colock, path, "326000"], check=True)
+    """The seconds that it takes to open 65,532 events, an epoch that is nearly full."""
+    path = database(colock, folder, "full.db")
+    subprocess.run([program, "fill", colock, path, str(EPOCH)], check=True)
     return seconds(program, "open", colock, path)[0]
 
 
 def epoch(colock, program, folder, *options):
-    """The seconds that a request waits while an epoch of 980,000 events ends and another begins, and those of one before."""
+    """The seconds that a request waits while an epoch of 65,536 events ends and another begins, and those of one before."""
     path = database(colock, folder, f"epoch{len(options)}.db")
-    return seconds(program, "epoch", colock, path, 326_666, *options)
+    return seconds(program, "epoch", colock, path, EPOCH, *options)
 
 
 def keys(colock, program, folder):
     """How much longer commits take under keys, where so many outcomes are there before: by three lines and by one."""
     for before in (0, 1_000_000):
         path = database(colock, folder, f"keys{before}.db")
-        for _ in range(before // MOST_OF_AN_EPOCH):
-            seconds(program, "whole-keys", colock, path, 1_000, MOST_OF_AN_EPOCH)
+        if before:
+            seconds(program, "whole-keys", colock, path, 1_000, before)
         for way in ("serve", "whole"):
             plain, keyed = (min(seconds(program, f"{way}{kind}", colock, path, 64, 100_000)[0] for _ in range(5)) for kind in ("", "-keys"))
             yield f"{way}, behind {before} keys: {keyed / plain:.2f} of the time without"
@@ -114,9 +114,9 @@ def main():
         for clients, rate in postgres(folder).items():
             print(f"PostgreSQL, one row, {clients} clients: {rate:.0f} commits a second")
         print(*keys(colock, program, folder), sep="\n")
-        print(f"978,000 events are opened in {opening(colock, program, folder):.2f} s")
+        print(f"65,532 events are opened in {opening(colock, program, folder):.2f} s")
         archive = os.path.join(folder, "archive")
         os.mkdir(archive)
         for options in ((), ("--archive", archive)):
             waited, before = epoch(colock, program, folder, *options)
-            print(f"{' '.join(('a new epoch', *options[:1]))}: behind 980,000 events a request waits {waited:.3f} s, and one before waited {1e6 * before:.0f} us")
+            print(f"{' '.join(('a new epoch', *options[:1]))}: behind 65,536 events a request waits {waited:.3f} s, and one before waited {1e6 * before:.0f} us")
