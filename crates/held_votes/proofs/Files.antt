@@ -7,16 +7,16 @@ use Rattle.store_laws.specs.Stored.{Stored}
 use Rattle.journal.specs.declared.outcome_row.KeyedOutcome.{KeyedOutcome}
 use Rattle.journal.specs.declared.prepared_row.Prepared.{Prepared}
 use Rattle.journal.specs.Contents.{Contents}
-use Rattle.durable_store.specs.Durable.{events_of_kinds, kinds, prepared_in}
+use Rattle.durable_store.specs.Durable.{events_of_kinds, prepared_in}
 use Rattle.durable_store.specs.Held.{moved_among}
 use Rattle.durable_store.specs.Recovered.{IsStoreOf}
 use Rattle.serving.specs.declared.extension.Extension.{Extension}
 use Rattle.serving.specs.Epochs.{closings}
 use Rattle.serving.specs.Left.{IsStoreFile, closed_store}
-use Rattle.serving.specs.NextEpoch.{IsNextFile, SaysNext}
+use Rattle.serving.specs.NextEpoch.{SaysNext}
 use Rattle.serving.specs.Prepared.{now_says}
 use Rattle.serving.proofs.KeysFound.{next-outcomes}
-use Rattle.serving.proofs.NextEpochs.{next-says, next-store}
+use Rattle.serving.proofs.NextEpochs.{next-events, next-says, next-store}
 use Rattle.held_votes.specs.VotesHeld.{operations_at}
 use Rattle.held_votes.proofs.Epochs.{closings-beside, holds-over, next-begins, works-over}
 use Rattle.held_votes.proofs.OwnEvents.{works-beside}
@@ -28,10 +28,6 @@ use Rattle.held_votes.proofs.SameKinds.{open-same, works-same}
 pub next-rows : (waits : Option Extension) (ps : List Prepared) (c now : Contents) → SaysNext waits ps c now → now.prepared ≡ ps
 next-rows None ps c now says = says.3
 next-rows (Some e) ps c now says = says.1
-
-next-events : (waits : Option Extension) (ps : List Prepared) (old new : Stored) (qs : List Prepared) (c now : Contents) → IsNextFile waits ps old new qs c now → now.events ≡ kinds new.history
-next-events None ps old new qs c now next = ap (λ (x : Contents). x.events) next.1
-next-events (Some e) ps old new qs c now next = ap (λ (x : Contents). x.events) next.is
 
 -- ---- a row
 

@@ -7,7 +7,7 @@ use Rattle.journal.specs.declared.header.Header.{Header}
 use Rattle.journal.specs.Contents.{Contents, contents_of, newest_format}
 use Rattle.journal.specs.Journal.{Clean, ShowsCommit, written, durable}
 use Rattle.durable_store.specs.declared.durable.Durable.{Durable}
-use Rattle.durable_store.specs.Durable.{IsDurable, kinds, prepared_in, with_all}
+use Rattle.durable_store.specs.Durable.{IsDurable, prepared_in, with_all}
 use Rattle.durable_store.specs.Epochs.{firsts}
 use Rattle.durable_store.specs.Recovered.{IsStoreOf, next_life}
 use Rattle.serving.specs.declared.extension.Extension.{Extension}
@@ -17,7 +17,7 @@ use Rattle.serving.specs.Server.{life_of}
 use Rattle.serving.specs.EpochEnd.{EndsInEpoch}
 use Rattle.serving.proofs.ClosedEpochs.{store-as}
 use Rattle.serving.proofs.LaterEpochs.{is-store-of, shown-durable}
-use Rattle.serving.proofs.NextEpochs.{next-headers, next-says, says-next-then}
+use Rattle.serving.proofs.NextEpochs.{next-events, next-headers, next-says, says-next-then}
 use Rattle.serve_command.specs.Served.{BeginsEpoch, StaysInLife, ids_in}
 
 -- ---- what a file keeps
@@ -36,12 +36,7 @@ reached-ids Reaches.none = refl
 reached-ids (Reaches.events ended mid new before more) = ap ids_in more.others ∙ reached-ids before
 reached-ids (Reaches.epoch ended mid now waits old new qs before is next) = next-ids waits (prepared_in mid) old new qs mid now next ∙ reached-ids before
 
--- it has the events of its store
-next-events : (waits : Option Extension) (ps : List Prepared) (old new : Stored) (qs : List Prepared) (c now : Contents) → IsNextFile waits ps old new qs c now → now.events ≡ kinds new.history
-next-events None ps old new qs c now next = ap (λ (x : Contents). x.events) next.1
-next-events (Some e) ps old new qs c now next = ap (λ (x : Contents). x.events) next.is
-
--- and begins at the states of its store
+-- a file that begins anew begins at the states of its store
 next-states : (waits : Option Extension) (ps : List Prepared) (old new : Stored) (qs : List Prepared) (c now : Contents) → IsNextFile waits ps old new qs c now → now.states ≡ firsts new.types
 next-states None ps old new qs c now next = ap (λ (x : Contents). x.states) next.1
 next-states (Some e) ps old new qs c now next = ap (λ (x : Contents). x.states) next.is

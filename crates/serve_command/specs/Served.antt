@@ -42,7 +42,7 @@ use Rattle.serving.specs.Whole.{ServesClient, StopsServing, session_of}
 
 -- with this many events more than it began with an epoch is full
 abbrev pub epoch_events : ℕ
-epoch_events = 65536
+epoch_events = 32768
 
 -- the store that was opened of what a file said, and the file as it was left then
 pub record IsOpened (said file : Contents) (began : Stored) : Type 0 where

@@ -30,7 +30,7 @@ use std::rt::Clock;
 use std::time::{Duration, Instant};
 
 /// With how many events more than it began with an epoch is full: its end takes a few milliseconds.
-const EPOCH_EVENTS: u32 = 65_536;
+const EPOCH_EVENTS: u32 = 32_768;
 
 /// The most bytes that are read at once.
 const MOST_READ: usize = 65_536;
@@ -48,9 +48,10 @@ pub struct Serving<'a> {
 /// `serve DATABASE`: the store is opened, what was open in it is aborted, and what was found is said in a line. Then the
 /// lines of the input are done one after another, and the output takes their answers, until the end is asked for
 /// or the input has ended. What is open then is aborted; and where the end was asked for, or more objects are to be added, the
-/// file begins a new epoch. After 65,536 events another epoch begins too, and where more objects are to be added, with these. Where each yes is strong, all that is open
-/// goes over; else no further transaction begins before, and what is open is aborted where it goes on as long as it may. Before an epoch begins, the archive keeps the history of the one before; where the answer is yes, it has kept
-/// that of each epoch that ended, and nothing else.
+/// file begins a new epoch. After 32,768 events another epoch begins too, and where more objects are to be added, with these.
+/// Where each yes is strong, all that is open goes over; else no further transaction begins before, and what is open is
+/// aborted where it goes on as long as it may. Before an epoch begins, the archive keeps the history of the one before; where
+/// the answer is yes, it has kept that of each epoch that ended, and nothing else.
 ///
 /// # Errors
 ///

@@ -21,6 +21,7 @@ pub mod DoneLines
 pub mod Listed
 pub mod ClosedEpochs
 pub mod Groups
+pub mod Drains
 pub mod EndLemmas
 pub mod FirstLines
 pub mod LeftLines

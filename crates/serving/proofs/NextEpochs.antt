@@ -4,6 +4,7 @@ use Rattle.journal.specs.declared.header.Header.{Header}
 use Rattle.journal.specs.Contents.{Contents, newest_format}
 use Rattle.store_laws.specs.Stored.{Stored}
 use Rattle.journal.specs.declared.prepared_row.Prepared.{Prepared}
+use Rattle.durable_store.specs.Durable.{kinds}
 use Rattle.durable_store.specs.Epochs.{GoesOver}
 use Rattle.table_checker.specs.Checked.{Checked}
 use Rattle.durable_store.specs.Growth.{ArePlaced, AreUnknown}
@@ -70,6 +71,11 @@ raised hs = map (λ (h : Header). let it : Header = record h { format = newest_f
 pub next-headers : (waits : Option Extension) (ps : List Prepared) (old new : Stored) (qs : List Prepared) (c now : Contents) → IsNextFile waits ps old new qs c now → now.headers ≡ raised c.headers
 next-headers None ps old new qs c now next = ap (λ (x : Contents). x.headers) next.1
 next-headers (Some e) ps old new qs c now next = ap (λ (x : Contents). x.headers) next.is
+
+-- it has the events of its store
+pub next-events : (waits : Option Extension) (ps : List Prepared) (old new : Stored) (qs : List Prepared) (c now : Contents) → IsNextFile waits ps old new qs c now → now.events ≡ kinds new.history
+next-events None ps old new qs c now next = ap (λ (x : Contents). x.events) next.1
+next-events (Some e) ps old new qs c now next = ap (λ (x : Contents). x.events) next.is
 
 -- ---- a store that has forgotten more begins anew at the same states
 

@@ -1,16 +1,22 @@
 //! Laws: functions that do nothing, whose contracts are the laws.
 
-ghost use Rattle.std.specs.Prelude.{List, ℕ, ◌++◌, Option};
+ghost use Rattle.std.specs.Prelude.{◌≢◌, ◌<◌, List, ℕ, ◌++◌, length, true, Option};
 ghost use Rattle.durable_store.specs.declared.durable.Durable.{Durable};
 ghost use Rattle.serving.specs.declared.answer_line.Answered.{Answered};
 ghost use Rattle.request_text.specs.declared.request.Asked.{Asked};
+ghost use Rattle.serving.specs.declared.answer_line.AnswerLine.{AnswerLine as Told};
+ghost use Rattle.serving.specs.declared.extension.Extension.{Extension};
 ghost use Rattle.serving.specs.Acknowledged.{AreLast};
+ghost use Rattle.serving.specs.Does.{DoesBegin};
+ghost use Rattle.serving.specs.NextEpoch.{begin_limit};
+ghost use Rattle.store_laws.specs.Stored.{Stored};
 ghost use Rattle.serving.specs.AnswersFound.{AnswersAreFound, TransactionsAreFound};
 ghost use Rattle.serving.specs.CommitsFound.{CommitsAreFound};
 ghost use Rattle.serving.specs.KeysFound.{KeysAreFound};
 ghost use Rattle.serving.specs.Left.{Began, Survives};
 ghost use Rattle.serving.specs.Lines.{AreLines};
 
+use crate::answer_line::AnswerLine;
 use sqlite_trees::store::Alter;
 
 /// Where a crash leaves what was asked for, whatever file it leaves has each commit that was answered: it is one of the
@@ -39,4 +45,10 @@ pub fn told_transactions_are_found<S: Alter>()
 pub fn told_keys_are_found<S: Alter>()
     ensures { (b : Began) (all : List (List ℕ)) (ended : Option Asked) (given_now : Option (List ℕ)) (seen rest half : List ℕ) (lines : List (List ℕ)) (answers : List Answered) (now : Durable S)
         → AreLines seen lines half → Survives S.Store b (AreLast all ended given_now) (seen ++ rest) answers now → KeysAreFound S.Store lines answers now }
+{}
+
+/// Where all that is open goes over, no begin is told to wait for the end of an epoch, whether it is full or an extension waits.
+pub fn no_begin_drains_where_all_goes_over()
+    ensures { (waits : Option Extension) (most life : ℕ) (old new : Stored) (answer : Told) → length old.history < 4294967295
+        → DoesBegin (begin_limit true waits most) life old answer new → answer ≢ AnswerLine.Draining }
 {}

@@ -30,8 +30,8 @@ pub use client::Client;
 pub use epoch_limits::EpochLimits;
 pub use extension::Extension;
 pub use laws::{
-    told_answers_are_found, told_commits_are_found, told_keys_are_found,
-    told_transactions_are_found,
+    no_begin_drains_where_all_goes_over, told_answers_are_found, told_commits_are_found,
+    told_keys_are_found, told_transactions_are_found,
 };
 pub use names::{Carried, Names};
 pub use serve_fault::ServeFault;
