@@ -175,7 +175,7 @@ fn epoch(program: &str, database: &str, count: usize, options: &[String]) {
     transactions(&mut input, &mut output, 1000, count);
     let (begun, _) = asked(&mut input, &mut output, "begin");
     let name = begun.strip_prefix("ok ").unwrap();
-    for _ in 0..2 {
+    for _ in 0..3 {
         assert!(asked(&mut input, &mut output, &format!("call {name} 0 inc:1")).0 == "reply ok");
     }
     let (_, before) = asked(&mut input, &mut output, "kept 0");

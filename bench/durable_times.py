@@ -12,8 +12,8 @@ from programs import HERE
 
 WINDOWS = (1, 16, 64)
 COUNT = 2_000
-# Behind so many transactions of one call, and four events more, an epoch of 65,536 events is full.
-EPOCH = 21_844
+# Behind so many transactions of one call, and five events more, an epoch of 32,768 events is full.
+EPOCH = 10_921
 
 
 def driver(folder):
@@ -73,14 +73,14 @@ def postgres(folder):
 
 
 def opening(colock, program, folder):
-    """The seconds that it takes to open 65,532 events, an epoch that is nearly full."""
+    """The seconds that it takes to open 32,763 events, an epoch that is nearly full."""
     path = database(colock, folder, "full.db")
     subprocess.run([program, "fill", colock, path, str(EPOCH)], check=True)
     return seconds(program, "open", colock, path)[0]
 
 
 def epoch(colock, program, folder, *options):
-    """The seconds that a request waits while an epoch of 65,536 events ends and another begins, and those of one before."""
+    """The seconds that a request waits while an epoch of 32,768 events ends and another begins, and those of one before."""
     path = database(colock, folder, f"epoch{len(options)}.db")
     return seconds(program, "epoch", colock, path, EPOCH, *options)
 
@@ -114,9 +114,9 @@ def main():
         for clients, rate in postgres(folder).items():
             print(f"PostgreSQL, one row, {clients} clients: {rate:.0f} commits a second")
         print(*keys(colock, program, folder), sep="\n")
-        print(f"65,532 events are opened in {opening(colock, program, folder):.2f} s")
+        print(f"32,763 events are opened in {opening(colock, program, folder):.2f} s")
         archive = os.path.join(folder, "archive")
         os.mkdir(archive)
         for options in ((), ("--archive", archive)):
             waited, before = epoch(colock, program, folder, *options)
-            print(f"{' '.join(('a new epoch', *options[:1]))}: behind 65,536 events a request waits {waited:.3f} s, and one before waited {1e6 * before:.0f} us")
+            print(f"{' '.join(('a new epoch', *options[:1]))}: behind 32,768 events a request waits {waited:.3f} s, and one before waited {1e6 * before:.0f} us")

@@ -164,7 +164,7 @@ class Strong(Epochs):
         return self.status()["life"]
 
     def test_an_epoch_that_is_full_ends_as_well(self):
-        """One is full with 65,536 events more than it began with; of the fake with 30."""
+        """One is full with 32,768 events more than it began with; of the fake with 30."""
         self.restarted(full=30)
         one = self.holder(idle=600)
         until(lambda: self.filled(1 if IS_FAKE else 64) > life_of(one), 400)

@@ -28,7 +28,10 @@ class Cuts:
         self.assertGreater(n, 300)
 
     def asleep(self, *those):
-        until(lambda: all(t.number in self.store._sleepers for t in those), "the sleep")
+        until(lambda: all(map(self.sleeps, those)), "the sleep")
+
+    def sleeps(self, t):
+        return self.store._backend.known(t._life, t.number) in self.store._sleepers
 
     def ended(self, t):
         """Aborts a transaction that may have been a victim."""
@@ -72,7 +75,7 @@ class Cuts:
 
     def test_behind_the_gate(self):
         def ends(holder, t, is_over):
-            until(lambda: t.number in self.store._sleepers or is_over.is_set(), "the sleep")
+            until(lambda: self.sleeps(t) or is_over.is_set(), "the sleep")
             holder.commit()
 
         def turn(handler):

@@ -47,7 +47,7 @@ pub struct Options {
     #[arg(long)]
     pub fast: bool,
     /// Of how many epochs that have ended the history is kept
-    #[arg(long, value_name = "EPOCHS", default_value_t = 256, value_parser = clap::value_parser!(u32).range(1..=100_000))]
+    #[arg(long, value_name = "EPOCHS", default_value_t = 512, value_parser = clap::value_parser!(u32).range(1..=100_000))]
     pub history: u32,
     /// The most bytes of a body
     #[arg(long, value_name = "BYTES", default_value_t = Limits::default().body)]

@@ -3,7 +3,7 @@
 
 mod common;
 
-use colock::{Attempt, Decision, Ending, Error, KeyOutcome, Kind, OpenOptions, Reply, Retry, SharedStore, TransactionId, Type};
+use colock::{Attempt, Decision, Ending, Error, KeyOutcome, Kind, OpenOptions, Reply, Retry, SharedStore, SharedTransaction, TransactionId, Type};
 use common::{id, one_way, program, until, until_asleep, Folder, LONG};
 use std::process::Command;
 use std::thread;
@@ -34,6 +34,17 @@ fn end_epoch(store: &SharedStore) {
 fn kill(store: &SharedStore) {
     let process = store.child_process().unwrap().to_string();
     assert!(Command::new("kill").args(["-9", &process]).status().unwrap().success());
+}
+
+/// Two transactions of two lives, each of which has counted up at an object of its own.
+fn of_two_lives(store: &SharedStore) -> (SharedTransaction<'_>, SharedTransaction<'_>) {
+    store.attempt([(0, "inc:5"), (1, "inc:5")]).unwrap().executed().unwrap();
+    let mut first = store.begin().unwrap();
+    first.expect(0, "inc:1", "ok").unwrap();
+    end_epoch(store);
+    let mut second = store.begin().unwrap();
+    second.expect(1, "inc:1", "ok").unwrap();
+    (first, second)
 }
 
 fn busy(blocker: &str) -> Result<Reply, Error> {
@@ -98,7 +109,7 @@ fn what_is_open_goes_on_in_a_full_epoch() {
 /// By its end, by a drop, and by a decision, all of a later life.
 #[test]
 fn who_waits_is_woken_in_a_later_life() {
-    type LetGo = fn(&SharedStore, colock::SharedTransaction<'_>);
+    type LetGo = fn(&SharedStore, SharedTransaction<'_>);
     let rows: [(LetGo, u64); 3] = [
         (|_, t| t.commit().unwrap(), 7),
         (|_, t| drop(t), 2),
@@ -117,7 +128,7 @@ fn who_waits_is_woken_in_a_later_life() {
         let mut t = store.begin().unwrap();
         t.expect(0, "inc:5", "ok").unwrap();
         let down = || store.begin().unwrap();
-        let waits = |mut t: colock::SharedTransaction<'_>| t.expect_within(0, "dec:1", "ok", LONG).and_then(|_| t.commit());
+        let waits = |mut t: SharedTransaction<'_>| t.expect_within(0, "dec:1", "ok", LONG).and_then(|_| t.commit());
         thread::scope(|scope| {
             let earlier = down();
             earlier.begun().unwrap();
@@ -144,12 +155,7 @@ fn who_waits_is_woken_in_a_later_life() {
 fn two_have_one_number() {
     let (folder, of) = (Folder::new(), counter());
     let store = opened(&folder, &[&of, &of]);
-    store.attempt([(0, "inc:5"), (1, "inc:5")]).unwrap().executed().unwrap();
-    let mut first = store.begin().unwrap();
-    first.expect(0, "inc:1", "ok").unwrap();
-    end_epoch(&store);
-    let mut second = store.begin().unwrap();
-    second.expect(1, "inc:1", "ok").unwrap();
+    let (mut first, mut second) = of_two_lives(&store);
     assert_eq!((first.id(), second.id()), (Some(id("1.1")), Some(id("2.1"))));
     assert_eq!((second.call(0, "dec:1"), first.call(1, "dec:1")), (busy("1.1"), busy("2.1")));
     let waits = |object: u32| store.retry(&Retry::default(), |t| t.expect_within(object, "dec:1", "ok", LONG));
@@ -170,12 +176,7 @@ fn two_have_one_number() {
 fn a_circle_of_two_lives_is_broken() {
     let (folder, of) = (Folder::new(), counter());
     let store = opened(&folder, &[&of, &of]);
-    store.attempt([(0, "inc:5"), (1, "inc:5")]).unwrap().executed().unwrap();
-    let mut first = store.begin().unwrap();
-    first.expect(0, "inc:1", "ok").unwrap();
-    end_epoch(&store);
-    let mut second = store.begin().unwrap();
-    second.expect(1, "inc:1", "ok").unwrap();
+    let (mut first, mut second) = of_two_lives(&store);
     thread::scope(|scope| {
         let older = scope.spawn(move || first.expect_within(1, "dec:1", "ok", LONG).and_then(|_| first.commit()));
         until_asleep(&store, 1);
