@@ -1,4 +1,5 @@
 """Broken HTTP: what is answered, and that the server goes on."""
+import http.client
 import os
 import re
 import socket
@@ -206,28 +207,39 @@ class Limits(unittest.TestCase):
 
     def test_connections_beyond_the_limit_are_refused(self):
         some = [socket.create_connection(("127.0.0.1", self.served.port)) for _ in range(6)]
-        self.assertEqual(until(lambda: self.refused()), "too-many-connections")
+        until(lambda: self.answered() == "too-many-connections")
         for one in some:
             one.close()
-        until(lambda: self.served.get("/healthz").status == 200)
+        until(lambda: self.answered() == "ok\n")
 
-    def refused(self):
+    def answered(self):
+        """A problem, or what is answered; nothing where the connection was closed before."""
         try:
-            return self.served.get("/healthz").problem
-        except (OSError, AssertionError):
+            answer = self.served.get("/healthz")
+        except (OSError, http.client.HTTPException):
             return None
+        return answer.body.decode() if answer.status == 200 else answer.problem
 
     def test_requests_beyond_the_limit_are_refused(self):
-        one = self.served.begin()
+        one = self.served.begin(idle=600)
         one.call(("A12", "hold:1"))
-        threads = [threading.Thread(target=self.served.attempt, args=(("A12", "hold:1"),), kwargs={"wait": 3}) for _ in range(2)]
+        is_over = threading.Event()
+        threads = [threading.Thread(target=self.wait_again, args=(is_over,)) for _ in range(2)]
         for thread in threads:
             thread.start()
-        answer = until(lambda: self.refused_request())
-        self.assertEqual((answer.status, answer.headers["retry-after"]), (503, "1"))
-        self.assertEqual(self.served.get("/healthz").status, 200)
-        for thread in threads:
-            thread.join()
+        try:
+            answer = until(self.refused_request)
+            self.assertEqual((answer.status, answer.headers["retry-after"]), (503, "1"))
+            self.assertEqual(self.served.get("/healthz").status, 200)
+        finally:
+            is_over.set()
+            for thread in threads:
+                thread.join()
+
+    def wait_again(self, is_over):
+        """Waits for a seat; again where it was refused, since the request that is looked for takes a place too."""
+        while not is_over.is_set():
+            self.served.attempt(("A12", "hold:1"), wait=3)
 
     def refused_request(self):
         answer = self.served.get("/v1/objects")
