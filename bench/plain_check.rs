@@ -1,7 +1,7 @@
 //! A plain sequential reader and checker of type files, to compare with: no proofs, no tests of
 //! the text's form beyond what a careful line reader has.
 //!
-//! `plain_check KIND FILE ROUNDS` prints the least nanoseconds of a reading and of a scan.
+//! `plain_check KIND FILE ROUNDS` prints the least nanoseconds of a reading and of a scan, where there is a round.
 
 use std::collections::HashSet;
 use std::hint::black_box;
@@ -151,6 +151,9 @@ fn main() {
     let file = read(&text);
     let is_undo = kind == "undo";
     println!("accepted {}", file.is_accepted(is_undo));
+    if rounds == 0 {
+        return;
+    }
     println!("read {}", best(rounds, || read(&text)));
     println!("check {}", best(rounds, || black_box(&file).is_accepted(is_undo)));
 }

@@ -102,6 +102,7 @@ impl TypeFile {
                 (Some(a), Some(b)) => self.relates(a, b) && self.relates(b, a),
                 _ => self.next(s, p).is_none() || self.next(s, q).is_none(),
             },
+            Kind::Escrow => true,
         }
     }
 
@@ -129,6 +130,7 @@ impl TypeFile {
         let rows = match kind {
             Kind::Undo => &self.undo,
             Kind::Intentions => &self.intentions,
+            Kind::Escrow => return None,
         };
         let pairs = (0..self.ops).flat_map(|p| (0..self.ops).map(move |q| (p, q)));
         let mut outside = pairs.filter(|&(p, q)| rows[p] >> q & 1 == 0);

@@ -1,7 +1,9 @@
 //! An object of either kind of recovery.
 
+use crate::escrow::Numeric;
 use crate::intentions::Intentions;
 use crate::lines::Kind;
+use crate::locks::Locks;
 use crate::recovery::{Recovery, Seen};
 use crate::types::Type;
 use crate::undo::Undo;
@@ -9,6 +11,7 @@ use crate::undo::Undo;
 pub enum Either {
     Undo(Undo),
     Intentions(Intentions),
+    Escrow(Numeric),
 }
 
 impl Either {
@@ -16,6 +19,7 @@ impl Either {
         match kind {
             Kind::Undo => Either::Undo(Undo::new(table)),
             Kind::Intentions => Either::Intentions(Intentions::new(table)),
+            Kind::Escrow => Either::Escrow(Numeric::new(table)),
         }
     }
 }
@@ -29,6 +33,7 @@ impl Recovery for Either {
         match self {
             Either::Undo(object) => object.state(),
             Either::Intentions(object) => object.state(),
+            Either::Escrow(object) => object.state(),
         }
     }
 
@@ -37,6 +42,20 @@ impl Recovery for Either {
         match self {
             Either::Undo(object) => object.seen(t),
             Either::Intentions(object) => object.seen(t),
+            Either::Escrow(object) => object.seen(t),
+        }
+    }
+
+    #[inline]
+    fn has_locks(&self) -> bool {
+        !matches!(self, Either::Escrow(_))
+    }
+
+    #[inline]
+    fn blocker(&self, locks: &Locks, table: &Type, seen: Seen, t: u32, k: u8) -> Option<u32> {
+        match self {
+            Either::Escrow(object) => object.blocker(locks, table, seen, t, k),
+            _ => locks.blocker(table.row(k), t),
         }
     }
 
@@ -45,6 +64,7 @@ impl Recovery for Either {
         match self {
             Either::Undo(object) => object.apply(seen, t, k, next),
             Either::Intentions(object) => object.apply(seen, t, k, next),
+            Either::Escrow(object) => object.apply(seen, t, k, next),
         }
     }
 
@@ -53,6 +73,7 @@ impl Recovery for Either {
         match self {
             Either::Undo(object) => object.commit(table, t),
             Either::Intentions(object) => object.commit(table, t),
+            Either::Escrow(object) => object.commit(table, t),
         }
     }
 
@@ -61,6 +82,7 @@ impl Recovery for Either {
         match self {
             Either::Undo(object) => object.abort(table, t),
             Either::Intentions(object) => object.abort(table, t),
+            Either::Escrow(object) => object.abort(table, t),
         }
     }
 
@@ -69,6 +91,7 @@ impl Recovery for Either {
         match self {
             Either::Undo(object) => object.strike(table, t, m),
             Either::Intentions(object) => object.strike(table, t, m),
+            Either::Escrow(object) => object.strike(table, t, m),
         }
     }
 }

@@ -34,6 +34,7 @@ pub struct TextFault {
 pub enum Kind {
     Undo,
     Intentions,
+    Escrow,
 }
 
 #[derive(Clone, Copy)]
@@ -198,24 +199,37 @@ impl<E: Entries> Lines<'_, E> {
         }
     }
 
-    /// Reads the line at a place, and answers the entry that it is and the place after it.
-    #[inline(always)]
-    fn next(&mut self, text: &[u8], at: usize) -> Result<(Option<E::Entry>, usize), FaultKind> {
-        if self.takes_entries()
-            && let Some((entry, behind)) = self.grammar.quick(text, at)
-        {
-            self.section = Section::Entries;
-            return Ok((Some(entry), behind));
+    /// Reads lines from a place on, in whatever form, up to one that is an entry: the entry, if there is one, and the place
+    /// after it.
+    #[cold]
+    fn next(
+        &mut self,
+        text: &[u8],
+        mut at: usize,
+        line: &mut usize,
+    ) -> Result<Option<(E::Entry, usize)>, FaultKind> {
+        while at < text.len() - PADDING {
+            *line += 1;
+            let rest = &text[at..text.len() - PADDING];
+            let end = rest.iter().position(|&byte| byte == b'\n');
+            let read = &rest[..end.unwrap_or(rest.len())];
+            let entry = self.line(read, end.is_some())?;
+            at += read.len() + 1;
+            if let Some(entry) = entry {
+                return Ok(Some((entry, at)));
+            }
+            if self.takes_entries()
+                && let Some(found) = self.grammar.quick(text, at)
+            {
+                self.section = Section::Entries;
+                *line += 1;
+                return Ok(Some(found));
+            }
         }
-        let rest = &text[at..text.len() - PADDING];
-        let end = rest.iter().position(|&byte| byte == b'\n');
-        let read = &rest[..end.unwrap_or(rest.len())];
-        let entry = self.line(read, end.is_some())?;
-        Ok((entry, at + read.len() + 1))
+        Ok(None)
     }
 
-    /// Reads a line that no quick form fits, and answers the entry that it is.
-    #[inline(never)]
+    /// The entry that a line is, if it is one.
     fn line(&mut self, line: &[u8], is_terminated: bool) -> Result<Option<E::Entry>, FaultKind> {
         if line.iter().any(|byte| !(32..=126).contains(byte)) {
             return Err(FaultKind::NotAscii);
@@ -251,6 +265,7 @@ impl<E: Entries> Lines<'_, E> {
             [b"max", most] if E::HAS_MAX => Ok(Said::Max(number(most)?)),
             [b"object", b"undo", file] => Ok(Said::Object(Kind::Undo, number(file)?)),
             [b"object", b"intentions", file] => Ok(Said::Object(Kind::Intentions, number(file)?)),
+            [b"object", b"escrow", file] => Ok(Said::Object(Kind::Escrow, number(file)?)),
             [b"end"] => Ok(Said::End),
             words => Ok(Said::Entry(self.grammar.entry(words)?)),
         }
@@ -309,17 +324,25 @@ pub fn read_each<E: Entries>(
 ) -> Result<Head, TextFault> {
     let mut lines = Lines::new(grammar);
     let (mut at, mut line) = (0, 0);
-    while at < text.len() - PADDING {
-        line += 1;
+    loop {
         let entry;
-        (entry, at) = lines
-            .next(text, at)
-            .map_err(|kind| TextFault { line, kind })?;
-        if let Some(entry) = entry {
-            lines.entries += 1;
-            if !each(lines.grammar, entry) {
-                return Ok(lines.head);
+        // in the padding nothing is found
+        if lines.section == Section::Entries
+            && lines.has_room()
+            && let Some(found) = lines.grammar.quick(text, at)
+        {
+            (entry, at) = found;
+            line += 1;
+        } else {
+            let next = lines.next(text, at, &mut line);
+            match next.map_err(|kind| TextFault { line, kind })? {
+                Some(found) => (entry, at) = found,
+                None => break,
             }
+        }
+        lines.entries += 1;
+        if !each(lines.grammar, entry) {
+            return Ok(lines.head);
         }
     }
     if lines.section == Section::End {

@@ -2,12 +2,14 @@
 //!
 //! `plain_run run SCRIPT TYPE...` and `plain_run audit HISTORY TYPE...` write the same text.
 //! `plain_run times-run SCRIPT TYPE...` and `plain_run times-audit HISTORY TYPE...` write the
-//! nanoseconds of each part, least of some rounds; `stream-run` and `stream-audit` hold neither commands
-//! nor events of a text. Type files are taken to be right as texts.
+//! nanoseconds of each part, least of some rounds; `stream-run` and `stream-audit` write the same in one
+//! pass. Type files are taken to be right as texts, and for escrow to be numeric.
 
 mod audit;
 mod check;
 mod either;
+#[path = "../plain_store/escrow.rs"]
+mod escrow;
 mod history;
 #[path = "../plain_store/intentions.rs"]
 mod intentions;
@@ -23,6 +25,8 @@ mod script;
 #[path = "../plain_store/store.rs"]
 mod store;
 mod stream;
+mod streamed;
+mod telling;
 mod times;
 #[allow(dead_code)]
 #[path = "../plain_store/transactions.rs"]
@@ -111,10 +115,10 @@ fn types_of(path: &str, objects: &[ObjectLine], words: &[String], is_checked: bo
             exit(1)
         }
         seen.push((kind, file));
-        let word = if kind == Kind::Undo {
-            "undo"
-        } else {
-            "intentions"
+        let word = match kind {
+            Kind::Undo => "undo",
+            Kind::Intentions => "intentions",
+            Kind::Escrow => "escrow",
         };
         types.tables.push(Arc::new(Type::read(text, word)));
     }
@@ -198,12 +202,12 @@ fn main() {
     let Ok(stdout) = std::io::stdout().as_fd().try_clone_to_owned() else {
         exit(3)
     };
-    let mut output = Output::new(File::from(stdout));
+    let output = File::from(stdout);
     let done = match task.as_str() {
-        "run" => Plan::read(path, types).run(&mut output),
-        "audit" => Record::read(path, types).audit(&mut output),
-        "stream-run" => stream::run(path, types, &mut output),
-        "stream-audit" => stream::audit(path, types, &mut output),
+        "run" => Plan::read(path, types).run(&mut Output::new(output)),
+        "audit" => Record::read(path, types).audit(&mut Output::new(output)),
+        "stream-run" => stream::run(path, types, output),
+        "stream-audit" => stream::audit(path, types, output),
         "times-run" => times::of_run(path, types),
         _ => times::of_audit(path, types),
     };

@@ -13,8 +13,6 @@ const NO_CALL: u8 = u8::MAX;
 
 /// For each type of the script's objects, the place of each name of the script among its calls.
 pub struct Resolved {
-    /// How many names there are.
-    pub names: usize,
     /// Where the names of an object's type begin.
     rows: Vec<usize>,
     calls: Vec<u8>,
@@ -34,11 +32,7 @@ impl Resolved {
             }));
         }
         let rows = objects.iter().map(|place| place * names.len()).collect();
-        Resolved {
-            names: names.len(),
-            rows,
-            calls,
-        }
+        Resolved { rows, calls }
     }
 
     /// The place of a name among the calls of an object's type.
@@ -125,6 +119,7 @@ pub fn write_objects<W: Write>(objects: &[ObjectLine], output: &mut Output<W>) -
         match object.kind {
             Kind::Undo => output.line(b"object undo", [file])?,
             Kind::Intentions => output.line(b"object intentions", [file])?,
+            Kind::Escrow => output.line(b"object escrow", [file])?,
         }
     }
     Ok(())

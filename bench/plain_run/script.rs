@@ -20,8 +20,8 @@ pub enum Command {
 pub struct Commands {
     pub names: Vec<Box<[u8]>>,
     places: HashMap<Box<[u8]>, u32>,
-    /// Names of at most seven bytes that were seen, by their bytes and the LF, with their places.
-    cache: [(u64, u32); CACHED],
+    /// Names of at most fifteen bytes that were seen, by their bytes, with their places.
+    cache: [([u64; 2], u32); CACHED],
 }
 
 impl Commands {
@@ -29,7 +29,7 @@ impl Commands {
         Commands {
             names: Vec::new(),
             places: HashMap::new(),
-            cache: [(u64::MAX, 0); CACHED],
+            cache: [([u64::MAX; 2], 0); CACHED],
         }
     }
 
@@ -47,13 +47,11 @@ impl Commands {
     /// The place of the name from here on with a LF after it, and the place after the LF.
     #[inline(always)]
     fn name_before_lf(&mut self, text: &[u8], at: usize) -> Option<(u32, usize)> {
-        let word = eight(text, at);
-        let count = length_before_lf(word);
-        if count == 0 || count > 7 {
+        let Some((key, count)) = short_name(text, at) else {
             return self.long_name(text, at);
-        }
-        let key = word & (u64::MAX >> (56 - 8 * count));
-        let slot = key.wrapping_mul(0x9e37_79b9_7f4a_7c15) as usize >> 58;
+        };
+        let mixed = (key[0] ^ key[1].rotate_left(32)).wrapping_mul(0x9e37_79b9_7f4a_7c15);
+        let slot = mixed as usize >> 58;
         let (cached, place) = self.cache[slot];
         if cached == key {
             return Some((place, at + count + 1));
@@ -69,6 +67,27 @@ impl Commands {
         let name = &text[at..at + count];
         (count > 0 && is_name(name)).then(|| (self.place(name), at + count + 1))
     }
+}
+
+/// The bytes of a name of one to fifteen with a LF after it, and how many they are.
+#[inline(always)]
+fn short_name(text: &[u8], at: usize) -> Option<([u64; 2], usize)> {
+    let low = eight(text, at);
+    match length_before_lf(low) {
+        0 => None,
+        8 => {
+            let high = u64::from_le_bytes(*text[at + 8..].first_chunk()?);
+            let more = length_before_lf(high);
+            (more < 8).then_some(([low, first_of(high, more)], 8 + more))
+        }
+        count => Some(([first_of(low, count), 0], count)),
+    }
+}
+
+/// So many bytes of these eight, fewer than eight.
+#[inline]
+fn first_of(word: u64, count: usize) -> u64 {
+    word & !(u64::MAX << (8 * count))
 }
 
 /// How many bytes of these eight come before the first LF; 8 where none is a LF.

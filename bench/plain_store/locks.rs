@@ -69,6 +69,10 @@ impl Locks {
             word |= u64::from(stays) << entry.op;
         }
         self.held.truncate(kept);
+        // `tools/instructions --self-test` has to find this.
+        if cfg!(slower) {
+            word |= self.held.iter().fold(0, |word, held| word | 1 << held.op);
+        }
         self.word = word;
     }
 }

@@ -2,8 +2,11 @@
 //! structures, with neither proofs nor the tests that they make needless.
 //!
 //! `plain_store KIND FILE OBJECTS OPEN CALLS MODE COMMANDS ROUNDS` prints the least nanoseconds of a
-//! run of COMMANDS commands, and what came of them.
+//! run of COMMANDS commands, and what came of them. `plain_store commits FILE CALL` does commits whose
+//! instructions are counted.
 
+mod commits;
+mod escrow;
 mod intentions;
 mod locks;
 mod outcome;
@@ -20,6 +23,7 @@ mod workload;
 use std::sync::Arc;
 use std::time::Instant;
 
+use escrow::Numeric;
 use intentions::Intentions;
 use outcome::{Outcome, folded};
 use recovery::Recovery;
@@ -113,6 +117,12 @@ fn number(word: &str) -> u32 {
 
 fn main() {
     let words: Vec<String> = std::env::args().skip(1).collect();
+    if let [what, path, call] = words.as_slice()
+        && what == "commits"
+    {
+        commits::write_rows(&std::fs::read_to_string(path).expect("a file"), call);
+        return;
+    }
     let [kind, path, objects, open, calls, mode, commands, rounds] = words.as_slice() else {
         panic!("KIND FILE OBJECTS OPEN CALLS MODE COMMANDS ROUNDS")
     };
@@ -130,9 +140,9 @@ fn main() {
         commands: number(commands) as usize,
     };
     let table = Type::read(&text, kind);
-    if kind == "undo" {
-        measure::<Undo>(table, &workload, number(rounds));
-    } else {
-        measure::<Intentions>(table, &workload, number(rounds));
+    match kind.as_str() {
+        "undo" => measure::<Undo>(table, &workload, number(rounds)),
+        "intentions" => measure::<Intentions>(table, &workload, number(rounds)),
+        _ => measure::<Numeric>(table, &workload, number(rounds)),
     }
 }

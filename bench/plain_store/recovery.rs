@@ -1,5 +1,6 @@
 //! What an object does at each call, whatever its kind of recovery.
 
+use crate::locks::Locks;
 use crate::types::Type;
 
 /// What a transaction sees of an object: a state, and the place where more is kept of it.
@@ -15,6 +16,18 @@ pub trait Recovery {
     fn state(&self) -> u16;
 
     fn seen(&self, t: u32) -> Seen;
+
+    /// Whether what is held is kept by the object's locks.
+    #[inline]
+    fn has_locks(&self) -> bool {
+        true
+    }
+
+    /// Who keeps t from operation k.
+    #[inline]
+    fn blocker(&self, locks: &Locks, table: &Type, _seen: Seen, t: u32, k: u8) -> Option<u32> {
+        locks.blocker(table.row(k), t)
+    }
 
     /// Executes operation k, which leads t from what it sees to this state.
     fn apply(&mut self, seen: Seen, t: u32, k: u8, next: u16);

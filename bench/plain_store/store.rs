@@ -72,9 +72,11 @@ impl<R: Recovery> Object<R> {
             left &= left - 1;
             let next = self.table.next(seen.state, k);
             if next != ILLEGAL {
-                let Some(u) = self.locks.blocker(self.table.row(k), t) else {
+                let Some(u) = self.recovery.blocker(&self.locks, &self.table, seen, t, k) else {
                     self.recovery.apply(seen, t, k, next);
-                    self.locks.hold(t, k);
+                    if self.recovery.has_locks() {
+                        self.locks.hold(t, k);
+                    }
                     return Answer::Reply(k);
                 };
                 blocker = blocker.or(Some(u));
@@ -192,7 +194,9 @@ impl<R: Recovery> Store<R> {
             if visited.visit(x) {
                 let object = &mut self.objects[x as usize];
                 at(&mut object.recovery, &object.table, t);
-                object.locks.release(t);
+                if object.recovery.has_locks() {
+                    object.locks.release(t);
+                }
             }
         }
         Ok(())
@@ -235,7 +239,9 @@ impl<R: Recovery> Store<R> {
                 let m = places[at..].iter().filter(|&&other| other == x).count();
                 let object = &mut self.objects[x as usize];
                 object.recovery.strike(&object.table, t, m as u32);
-                object.locks.release_last(t, m);
+                if object.recovery.has_locks() {
+                    object.locks.release_last(t, m);
+                }
             }
         }
     }

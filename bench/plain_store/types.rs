@@ -35,6 +35,10 @@ impl Type {
         self.rows[k as usize & 63]
     }
 
+    pub fn states(&self) -> usize {
+        self.next.len() / self.ops
+    }
+
     #[inline]
     pub fn op_count(&self) -> usize {
         self.ops
