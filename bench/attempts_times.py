@@ -12,7 +12,7 @@ TAKEN = "number taken\nmax 4294967295\ninitial 0\ngive 1\nend\n"
 CALLS = (1, 4, 16)
 WAYS = ("number", "name")
 LOGS = (1, 10, 100, 1000)
-COUNT, IN_FLIGHT, TURNS = 20_000, 64, 3
+COUNT, IN_FLIGHT, TURNS = programs.few(20_000, 200), 64, programs.few(3, 1)
 
 
 def told(program, folder, what, kind, *numbers):

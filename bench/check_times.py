@@ -43,7 +43,7 @@ def main(rounds):
         library, plain = programs.library_of_rust(folder), programs.plain(folder, "plain_check")
         print(f"{os.cpu_count()} processors, least of {rounds} rounds")
         print(f"{'':34} {'colock':>12} {'plain':>12} {'ratio':>7}")
-        for name, text in (("set of ten", type_texts.set_of_ten()), ("largest", type_texts.largest())):
+        for name, text in type_texts.timed():
             path = programs.written(folder, "file.type", text)
             start = least_run([colock, "check", "escrow", path], rounds)
             for kind in programs.KINDS:

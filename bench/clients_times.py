@@ -11,9 +11,9 @@ import programs
 from programs import HERE, ROOT
 
 BINDINGS = os.path.join(ROOT, "bindings")
-TURNS = 3
-SECONDS = "2"
-SYNCS = 2_000
+TURNS = programs.few(3, 1)
+SECONDS = programs.few("2", "0.05")
+SYNCS = programs.few(2_000, 20)
 PYTHON = [sys.executable, os.path.join(BINDINGS, "python", "tests", "clients_bench.py")]
 
 
@@ -77,7 +77,7 @@ def measure(has_commits):
         os.environ["COLOCK"] = programs.built()
         loop = SYNCS / durable_times.seconds(durable_times.driver(folder), "loop", os.path.join(folder, "loop"), 16, SYNCS)[0]
         print(f"{os.cpu_count()} processors, the best of {TURNS} turns; the disk's loop has {loop:,.0f} syncs a second", flush=True)
-        program = program_of_rust(os.path.join(folder, "target"))
+        program = program_of_rust(os.path.join(programs.SHARED or folder, "target"))
         if has_commits:
             of_rust(folder, program)
             of_python(folder)

@@ -11,16 +11,16 @@ import type_texts
 from programs import HERE
 
 WINDOWS = (1, 16, 64)
-COUNT = 2_000
+COUNT = programs.few(2_000, 64)
+# Commits under keys, in so many turns, and how many keys there are before.
+KEYED, TURNS, BEFORE = programs.few((100_000, 5, (0, 1_000_000)), (100, 1, (0, 1_000)))
 # Behind so many transactions of one call, and five events more, an epoch of 32,768 events is full.
 EPOCH = 10_921
 
 
 def driver(folder):
     """The program that asks, waits and times."""
-    program = os.path.join(folder, "durable")
-    subprocess.run(["rustc", "-O", "--edition", "2024", "-o", program, os.path.join(HERE, "durable.rs")], check=True)
-    return program
+    return programs.compiled(folder, "durable", "rustc", *programs.OPTIMIZED, "--edition", "2024", os.path.join(HERE, "durable.rs"))
 
 
 def seconds(program, *words):
@@ -65,7 +65,7 @@ def postgres(folder):
         run("psql", "-h", room, "-d", "postgres", "-c", "create table stock(id int primary key, n int); insert into stock values(0, 0)")
         found = {}
         for clients in (1, 16):
-            told = run("pgbench", "-h", room, "-n", "-c", str(clients), "-j", "2", "-T", "5", "-f", script, "postgres")
+            told = run("pgbench", "-h", room, "-n", "-c", str(clients), "-j", "2", "-T", programs.few("5", "1"), "-f", script, "postgres")
             found[clients] = float(re.search(r"tps = ([0-9.]+)", told)[1])
         return found
     finally:
@@ -87,12 +87,12 @@ def epoch(colock, program, folder, *options):
 
 def keys(colock, program, folder):
     """How much longer commits take under keys, where so many outcomes are there before: by three lines and by one."""
-    for before in (0, 1_000_000):
+    for before in BEFORE:
         path = database(colock, folder, f"keys{before}.db")
         if before:
             seconds(program, "whole-keys", colock, path, 1_000, before)
         for way in ("serve", "whole"):
-            plain, keyed = (min(seconds(program, f"{way}{kind}", colock, path, 64, 100_000)[0] for _ in range(5)) for kind in ("", "-keys"))
+            plain, keyed = (min(seconds(program, f"{way}{kind}", colock, path, 64, KEYED)[0] for _ in range(TURNS)) for kind in ("", "-keys"))
             yield f"{way}, behind {before} keys: {keyed / plain:.2f} of the time without"
 
 

@@ -29,9 +29,10 @@ WORK = [
 
 # Microseconds between a call and the end of its transaction, with the jobs of each worker and the tries of
 # each job. The first is about how many jobs commit, and the others about how fast.
-PACES = [("3,200 jobs", 0, 200, 1), ("3,200 jobs that think", 1000, 200, 1), ("many jobs", 0, 20_000, 1)]
+FEW, LARGE = programs.few((200, 20_000), (16, 32))
+PACES = [("3,200 jobs", 0, FEW, 1), ("3,200 jobs that think", 1000, FEW, 1), ("many jobs", 0, LARGE, 1)]
 
-MILLIONS = 30
+MILLIONS = programs.few(30, 1)
 
 PROGRAMS = ("escrow", "undo", "intentions", "plain", "object")
 

@@ -12,7 +12,7 @@ import programs
 import scripts
 import type_texts
 
-COMMANDS = 1_000_000
+COMMANDS = programs.few(1_000_000, 10_000)
 
 
 def show(name, lines, ours, plain):
@@ -20,7 +20,7 @@ def show(name, lines, ours, plain):
 
 
 def time_types(folder, library, plain, rounds):
-    for name, text in (("set of ten", type_texts.set_of_ten()), ("largest type file", type_texts.largest())):
+    for name, text in type_texts.timed():
         path = programs.written(folder, "file.type", text)
         ours, theirs = [], []
         for _ in range(programs.TURNS):
@@ -42,7 +42,7 @@ def time_script(folder, colock, plain, rounds):
     if refused.returncode != 2 or said != f"line {len(lines) + 1}: Missing" or str(len(lines) + 1) not in refused.stderr:
         sys.exit(f"script: {refused.stderr}{said}")
     times = [[check_times.least_run(words, rounds) for words in (ours, theirs)] for _ in range(programs.TURNS)]
-    show("script of a million", len(lines), *map(min, zip(*times)))
+    show("script", len(lines), *map(min, zip(*times)))
 
 
 def main(rounds):

@@ -12,9 +12,9 @@ import time
 import programs
 import type_texts
 
-COUNTS = (16_384, 32_768, 65_536)
+COUNTS = programs.few((16_384, 32_768, 65_536), (256, 512))
 # A file has so many events beside its objects: begin, two calls and commit, in so many groups of lines.
-TRANSACTIONS, GROUP = 25_000, 500
+TRANSACTIONS, GROUP = programs.few(25_000, 500), 500
 
 
 def objects_of(count):

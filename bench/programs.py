@@ -9,9 +9,21 @@ ROOT = os.path.dirname(HERE)
 C = os.path.join(ROOT, "bindings", "c")
 KINDS = ("undo", "intentions")
 
+# Where `bench/run each` keeps the programs that are built, once for all measures.
+SHARED = os.environ.get("BENCH_EACH")
+
+
+def few(usual, least):
+    """A count, or the least one where `bench/run each` looks whether measures run."""
+    return least if SHARED else usual
+
+
+# How rustc optimizes: to compile takes most of the time of `bench/run each`.
+OPTIMIZED = few(["-O", "-C", "codegen-units=1"], ["-C", "opt-level=1"])
+
 # How many commands a run has where nothing else is said, and how often programs take turns.
-COMMANDS = 200_000
-TURNS = 5
+COMMANDS = few(200_000, 2_000)
+TURNS = few(5, 1)
 
 
 # What `bench/store` uses, as a line of crates.txt says it.
@@ -51,12 +63,18 @@ def store_in_rattle(folder):
     return run_once(room, "benches")
 
 
+def compiled(folder, name, *words):
+    """The program of this name, which a compiler makes by these words."""
+    path = os.path.join(SHARED or folder, name)
+    if not (SHARED and os.path.exists(path)):
+        subprocess.run([*words, "-o", path], check=True)
+    return path
+
+
 def plain(folder, name, source=None, *flags):
     """A plain Rust program, compiled as one unit and for the processors for which ours are."""
-    path = os.path.join(folder, name)
-    subprocess.run(["rustc", "-O", "-C", "codegen-units=1", "-C", "target-cpu=x86-64-v2", "--edition", "2024",
-                    "--check-cfg", "cfg(pausing)", *flags, "-o", path, os.path.join(HERE, source or f"{name}.rs")], check=True)
-    return path
+    words = ["rustc", *OPTIMIZED, "-C", "target-cpu=x86-64-v2", "--edition", "2024", "--check-cfg", "cfg(pausing, slower)", *flags]
+    return compiled(folder, name, *words, os.path.join(HERE, source or f"{name}.rs"))
 
 
 def library():
@@ -71,17 +89,16 @@ def library():
 def library_of_rust(folder):
     """The program of `bench/library`."""
     environment = {**os.environ, "COLOCK_LIB_DIR": library()}
-    subprocess.run(["cargo", "build", "--quiet", "--release", "--offline", "--target-dir", os.path.join(folder, "target")],
+    target = os.path.join(SHARED or folder, "target")
+    subprocess.run(["cargo", "build", "--quiet", "--release", "--offline", "--target-dir", target],
                    cwd=os.path.join(HERE, "library"), env=environment, check=True)
-    return os.path.join(folder, "target", "release", "library")
+    return os.path.join(target, "release", "library")
 
 
 def library_of_c(folder, name="library"):
     """The program of `bench/library.c`, or of another such file."""
-    program = os.path.join(folder, f"{name}_c")
-    subprocess.run(["cc", "-O2", "-Wall", "-Wextra", "-o", program, os.path.join(HERE, f"{name}.c"), f"-I{C}",
-                    os.path.join(library(), "libcolock.a")], check=True)
-    return program
+    return compiled(folder, f"{name}_c", "cc", "-O2", "-Wall", "-Wextra", os.path.join(HERE, f"{name}.c"), f"-I{C}",
+                    os.path.join(library(), "libcolock.a"))
 
 
 def printed(words):

@@ -10,14 +10,14 @@ import programs
 import type_texts
 from programs import HERE, KINDS
 
-COMMANDS = 1_000_000
+COMMANDS = programs.few(1_000_000, 10_000)
 
 # The calls of a script, by its type, and the greatest number of the counter.
 CALLS = {"modulo": ["inc:1"], "counter": ["inc:1", "dec:1"]}
 MOST = 1000
 
 # Events, transactions and objects of a history that no program here has run.
-WIDE = (1_000_000, 300_000, 256)
+WIDE = programs.few((1_000_000, 300_000, 256), (10_000, 3_000, 256))
 
 
 def written(folder, name, words):

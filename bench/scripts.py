@@ -31,10 +31,10 @@ class Script:
         self.lines.append(f"{word} {self.open.pop(place)}")
 
 
-def script(kind, calls, commands, seed=SEED):
+def script(kind, calls, commands, seed=SEED, objects=OBJECTS):
     """The lines of a script of this many commands. A transaction makes four calls on average, and all
     are ended after the last call, so that no command is refused."""
-    made = Script(seed, OBJECTS, calls)
+    made = Script(seed, objects, calls)
     for _ in range(OPEN):
         made.begin()
     while len(made.lines) + OPEN + 2 <= commands:
@@ -47,7 +47,7 @@ def script(kind, calls, commands, seed=SEED):
         made.call()
     while made.open:
         made.end(0)
-    return [f"max {max(2, commands)}"] + [f"object {kind} 0"] * OBJECTS + made.lines + ["end"]
+    return [f"max {max(2, commands)}"] + [f"object {kind} 0"] * objects + made.lines + ["end"]
 
 
 def numbers(seed=1):

@@ -13,7 +13,9 @@ from contextlib import contextmanager
 import programs
 from programs import HERE, ROOT
 
-CONNECTIONS = (1, 16, 64, 256)
+CONNECTIONS = programs.few((1, 16, 64, 256), (1, 2))
+# For how many seconds it is looked what the server takes at rest, and a load goes on at the least.
+REST, LEAST = programs.few((5, 5), (1, 1))
 # A booking takes one of so many.
 MANY = 4_294_967_295
 HOT = f"number hot\nmax {MANY}\ninitial {MANY}\ntake 1\nend\n"
@@ -24,8 +26,10 @@ SCRIPT = "local n = tonumber(redis.call('get', KEYS[1])) if n < 1 then return 's
 
 def released():
     """The folder of the server and of what asks it, made by cargo."""
-    subprocess.run(["cargo", "build", "--offline", "--release", "--quiet"], cwd=ROOT, check=True)
-    return os.path.join(os.environ.get("CARGO_TARGET_DIR") or os.path.join(ROOT, "target"), "release")
+    # without optimization the gate has built it before
+    how, name = programs.few((["--release"], "release"), ([], "debug"))
+    subprocess.run(["cargo", "build", "--offline", "--quiet", *how], cwd=ROOT, check=True)
+    return os.path.join(os.environ.get("CARGO_TARGET_DIR") or os.path.join(ROOT, "target"), name)
 
 
 # ---- the server
@@ -108,9 +112,9 @@ def of_server(built, server, seconds):
 
 def at_rest(server):
     before = server.processor()
-    time.sleep(5)
+    time.sleep(REST)
     used = [after - then for after, then in zip(server.processor(), before)]
-    print(f"colockd: ready in {server.started:.2f} s, at most {server.most_memory():.0f} MB, and at rest {used[0]:.2f} s of the processor in 5 s, its store {used[1]:.2f} s")
+    print(f"colockd: ready in {server.started:.2f} s, at most {server.most_memory():.0f} MB, and at rest {used[0]:.2f} s of the processor in {REST} s, its store {used[1]:.2f} s")
 
 
 # ---- those beside it
@@ -146,7 +150,7 @@ def of_postgres(folder, seconds):
             script = os.path.join(room, name.replace(" ", "_") + ".sql")
             programs.written(room, os.path.basename(script), text)
             for clients in (*CONNECTIONS[:2], 4, 32, *CONNECTIONS[2:]):
-                told = run("pgbench", "-h", room, "-n", "-M", "prepared", "-c", str(clients), "-j", "2", "-T", str(max(seconds, 5)), "-f", script, "postgres")
+                told = run("pgbench", "-h", room, "-n", "-M", "prepared", "-c", str(clients), "-j", "2", "-T", str(max(seconds, LEAST)), "-f", script, "postgres")
                 rate = float(re.search(r"tps = ([0-9.]+)", told)[1])
                 best = max(best, rate) if name == "one statement" else best
                 print(f"PostgreSQL, one row, {name}, {clients} clients: {rate:.0f} bookings a second", flush=True)
@@ -188,12 +192,12 @@ def until(test, seconds=20):
 
 def main(seconds):
     """One run on one disk: the folder is beside this file, and not in /tmp, which may be memory."""
-    built = released()
+    built, loaded = released(), programs.few(seconds, 0.2)
     with tempfile.TemporaryDirectory(dir=HERE) as folder:
         os.chmod(folder, 0o755)
         server = Server(built, programs.built(), folder)
         try:
-            best = of_server(built, server, seconds)
+            best = of_server(built, server, loaded)
             at_rest(server)
         finally:
             server.end()

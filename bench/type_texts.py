@@ -43,21 +43,34 @@ def conflicts(kind):
             if any(fails(p, q, bit) for bit in (0, 1))]
 
 
-def set_of_ten():
-    """40 operations and 1,024 states: state s is the set of the elements whose bit is one in s."""
-    lines = ["type set", "states 1024", "initial 0"]
-    calls = [set_calls(element) for element in ELEMENTS]
+def set_of(elements):
+    """Four operations for each element: state s is the set of the elements whose bit is one in s."""
+    states = 1 << len(elements)
+    lines = ["type set", f"states {states}", "initial 0"]
+    calls = [set_calls(element) for element in elements]
     lines += [f"op {call} {reply}" for of in calls for call, reply, _, _ in of]
-    for s in range(1024):
+    for s in range(states):
         for e, of in enumerate(calls):
             bit = s >> e & 1
             for k, (_, _, legal, following) in enumerate(of):
                 if legal(bit):
                     lines.append(f"step {s} {4 * e + k} {s & ~(1 << e) | following(bit) << e}")
     for kind in programs.KINDS:
-        pairs = [(4 * e + p, 4 * e + q) for e in range(10) for p, q in conflicts(kind)]
+        pairs = [(4 * e + p, 4 * e + q) for e in range(len(elements)) for p, q in conflicts(kind)]
         lines += [f"conflict {kind} {p} {q}" for p, q in sorted(pairs)]
     return text_of(lines)
+
+
+def set_of_ten():
+    """40 operations and 1,024 states."""
+    return set_of(ELEMENTS)
+
+
+def timed():
+    """The names and the texts of the types whose reading is timed."""
+    yield "set of ten", set_of_ten()
+    if programs.few(True, False):
+        yield "largest", largest()
 
 
 def largest():

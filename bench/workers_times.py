@@ -26,12 +26,12 @@ MOST_TRIES = 100
 # The jobs of a run where nobody thinks, of all workers together, and the tries of each. With no more of
 # them no history is full, so such runs are short, and a round has RUNS. More jobs, where no call can be
 # busy.
-JOBS, TRIES, RUNS = 8_000, 40, 10
-JOBS_WITHOUT_CONFLICTS = 320_000
+JOBS, TRIES, RUNS = programs.few(8_000, 160), 40, programs.few(10, 1)
+JOBS_WITHOUT_CONFLICTS = programs.few(320_000, 160)
 
 # How long all jobs of a worker take at the least where it thinks, in microseconds, and how long a sleep is
 # beyond its time.
-RUN, LATE = 150_000, 60
+RUN, LATE = programs.few(150_000, 1_500), 60
 
 PROGRAMS = ("colock", "operations", "object", "pausing")
 
