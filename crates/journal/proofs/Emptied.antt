@@ -20,7 +20,7 @@ use Rattle.journal.specs.Journal.{IsNamedOnce, IsOwnNamed, IsRemade, name_column
 use Rattle.journal.specs.EmptyTable.{Empties, EmptiesEpoch, MayEmpty}
 
 -- a row more
-each-put : (P : Row → Type 0) (new : Row) (rs : List Row) → AllByRecursion P rs → P new → AllByRecursion P (put_row new rs)
+pub each-put : (P : Row → Type 0) (new : Row) (rs : List Row) → AllByRecursion P rs → P new → AllByRecursion P (put_row new rs)
 each-put P new [] all here = (here, tt)
 each-put P new (r ∷ rs) all here =
     elim (value_cmp (rowid r) (rowid new)) as (λ o. AllByRecursion P (match_ordering o (r ∷ put_row new rs) (new ∷ rs) (new ∷ r ∷ rs))) [

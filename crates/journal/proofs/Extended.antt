@@ -11,8 +11,10 @@ use Rattle.journal.specs.TypeRow.{type_row, type_told, type_read_back}
 use Rattle.journal.specs.ObjectRows.{object_row, object_told, object_read_back}
 use Rattle.journal.specs.Tables.{AreBehind, Rewrites}
 use Rattle.journal.specs.EmptyTable.{EmptiesEpoch}
-use Rattle.journal.specs.Contents.{IsFile, contents_of, extended}
-use Rattle.journal.specs.Journal.{IsKeptFile, IsNamedOnce}
+use Rattle.journal.specs.Contents.{IsFile, contents_of, extended_at}
+use Rattle.journal.specs.declared.numbers.Numbers.{Numbers}
+use Rattle.journal.proofs.Outcomes.{same-numbers}
+use Rattle.journal.specs.Journal.{CountsOutcomes, IsKeptFile, IsNamedOnce}
 use Rattle.journal.proofs.RowLemmas.{rows-told}
 
 -- the views are those of the file before, without events and prepared transactions, with the first states, with all states, with all types, and with all objects
@@ -75,7 +77,10 @@ module _ (old none first states types new : View) (starts : List ℕ) (n prepare
   outcomes : new.trees 6 ≡ old.trees 6
   outcomes = stays 6 (λ is. omega (arith, is)) (λ is. omega (arith, is)) (λ is. omega (arith, is)) (λ is. omega (arith, is)) (λ is. omega (arith, is)) (lit< tt)
 
-  pub extends : contents_of new.trees ≡ extended (contents_of old.trees) texts lines (front ++ back)
+  pub extends-numbers : (m : Numbers) → CountsOutcomes old m → CountsOutcomes new m
+  extends-numbers m has = same-numbers old new m outcomes gone.sound has
+
+  pub extends : contents_of new.trees ≡ extended_at (contents_of old.trees) texts lines (front ++ back)
   extends = rw (events, headers, types-told, objects-told, states-told, prepared, outcomes) refl
 
   committed-same : new.committed ≡ old.committed

@@ -6,7 +6,11 @@ pub mod Scans
 pub mod Names
 pub mod Opens
 pub mod Emptied
+pub mod PutRows
+pub mod OutcomeNumbers
+pub mod StaysKnown
 pub mod Outcomes
+pub mod ListedAnew
 pub mod PreparedRows
 pub mod NewHeaders
 pub mod Rewritten

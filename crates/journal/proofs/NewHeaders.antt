@@ -7,7 +7,7 @@ use Rattle.journal.specs.declared.header.Header.{Header}
 use Rattle.journal.specs.HeaderRow.{header_row, header_told}
 use Rattle.journal.specs.Rows.{value_rows}
 use Rattle.journal.specs.EventRow.{event_told, row_starts}
-use Rattle.journal.specs.Contents.{Contents, IsFile, IsOlderThan, contents_of, in_life, keyed_format, newest_format}
+use Rattle.journal.specs.Contents.{Contents, IsFile, IsOlderThan, contents_of, in_life, keyed_format, newest_format, preparing_format}
 use Rattle.journal.specs.Journal.{HasTables, IsKeptFile, IsNamedOnce}
 use Rattle.journal.proofs.RowLemmas.{put-set}
 
@@ -41,7 +41,7 @@ module _ (old new : View) (starts : List ℕ) (n prepared : ℕ) (was now : Head
       objects = before.objects;
       states = before.states;
       prepared = before.prepared;
-      unprepared = λ older. absurd (aged newest_format (omega arith) newest older);
+      unprepared = λ older. absurd (aged preparing_format (omega arith) newest older);
       outcomes = λ older. absurd (aged keyed_format (omega arith) newest older);
     });
     count_is = λ _. kept.count_is sets.sound ∙ ap (λ (c : Contents). length c.events) (sym told);

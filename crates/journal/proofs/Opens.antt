@@ -13,7 +13,7 @@ use Rattle.journal.specs.TypeRow.{type_row, type_told, type_read_back}
 use Rattle.journal.specs.ObjectRows.{object_row, object_told, object_read_back}
 use Rattle.journal.specs.StateRow.{state_row, state_told, state_read_back}
 use Rattle.journal.specs.PreparedRow.{prepared_row, prepared_told, prepared_read_back}
-use Rattle.journal.specs.Contents.{Contents, IsFile, IsOlderThan, contents_of, keyed_format, newest_format}
+use Rattle.journal.specs.Contents.{Contents, IsFile, IsOlderThan, contents_of, keyed_format, preparing_format}
 use Rattle.journal.specs.Said.{HasRowsOf, contents_beside}
 use Rattle.journal.specs.Tables.{IsUnused, OnlyReads}
 use Rattle.journal.specs.Journal.{HasTables, IsKeptFile, IsNamedOnce}
@@ -39,7 +39,7 @@ module _ (db : Trees) (said : FileContents) (starts : List ℕ) (told : HasRowsO
     objects = rows-of object_row object_told object_read_back (db 3) said.objects.items told.objects;
     states = rows-of state_row state_told state_read_back (db 4) said.states.items told.states;
     prepared = rows-of prepared_row prepared_told prepared_read_back (db 5) said.prepared.items told.prepared;
-    unprepared = λ older. told.unprepared (subst (IsOlderThan newest_format) headers-are older);
+    unprepared = λ older. told.unprepared (subst (IsOlderThan preparing_format) headers-are older);
     outcomes = λ older. told.outcomes (subst (IsOlderThan keyed_format) headers-are older);
   }
 

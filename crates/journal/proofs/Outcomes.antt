@@ -1,106 +1,97 @@
--- What is kept of transactions that have keys.
-use Rattle.std.proofs.Common.{◌≡◌, ◌≢◌, ℕ, ◌==◌, ◌<◌, List, [], ◌∷◌, length, map, filter, slice_get, Some, false, true, refl, sym, ap, subst, ◌∙◌, IsTrue, inl, inr, lit<, arith, Bool, None}
-use Rattle.std.specs.Prelude.{pos}
-use Rattle.std.specs.Ordering.{is_eq, match_ordering}
-use Rattle.std.specs.declared.cmp.Ordering.{Ordering}
-use Rattle.std.specs.declared.cmp.Ordering.TheVariants.{Less, Equal, Greater}
-use Rattle.std.proofs.Math.Path.{fun_ext}
-use Rattle.std.proofs.lemmas.Bool.{cases_eq, ne_eqb}
-use Rattle.std.proofs.lemmas.Bool.Decides.{nat_tests}
-use Rattle.std.proofs.lemmas.Int.{ints}
-use Rattle.sqlite_value.specs.declared.value.Value.TheVariants.{Int}
-use Rattle.sqlite_value.specs.Order.{Row, value_cmp}
-use Rattle.sqlite_value.proofs.OrderLemmas.{value_cmp-Int, value_cmp_total}
+-- What is kept of transactions that have keys, in a file.
+use Rattle.std.proofs.Common.{◌≡◌, ℕ, ◌+◌, ◌-◌, ◌<◌, ◌≤◌, List, [], length, map, Option, Some, None, false, true, refl, sym, ap, subst, ◌∙◌, IsTrue, inl, inr, lit<, arith, Bool}
+use Rattle.std.specs.Prelude.{pos, negsuc, option_map, slice_get, unwrap_or}
+use Rattle.std.proofs.lemmas.Bool.{cases_eq}
+use Rattle.std.proofs.lemmas.Option.{none-some, same_Some}
+use Rattle.sqlite_value.specs.Order.{Row}
 use Rattle.sqlite_trees.specs.Objects.{catalog_tree}
-use Rattle.sqlite_trees.specs.Tree.{has_rowid, put_row, rowid, Trees}
+use Rattle.sqlite_trees.specs.Tree.{put_row, Trees}
 use Rattle.sqlite_trees.specs.View.{View, Finds, SetsTree}
 use Rattle.transaction_key.specs.TransactionKey.{key_place}
 use Rattle.journal.specs.declared.header.Header.{Header}
+use Rattle.journal.specs.declared.numbers.Numbers.{Numbers}
+use Rattle.journal.specs.declared.outcome_row.KeptOutcome.{KeptOutcome}
 use Rattle.journal.specs.declared.outcome_row.KeyedOutcome.{KeyedOutcome}
-use Rattle.journal.specs.OutcomeRow.{outcome_at, outcome_row, outcome_told, outcome_read_back, outcomes_with}
+use Rattle.journal.specs.Numbers.{AreCounted, first_numbers, numbers_in, numbers_row, numbers_told}
+use Rattle.journal.specs.OutcomeRow.{kept_row, outcome_row, outcome_told}
+use Rattle.journal.specs.Outcomes.{Outcomes, let_go, no_outcomes, outcomes_in, outcomes_of, staying}
 use Rattle.journal.specs.EventRow.{event_told, row_starts}
-use Rattle.journal.specs.Contents.{Contents, IsFile, IsOlderThan, contents_of, keyed_format, newest_format, with_outcome}
+use Rattle.journal.specs.Contents.{Contents, IsFile, IsOlderThan, contents_of, keyed_format, preparing_format, with_outcome}
 use Rattle.journal.specs.EmptyTable.{Empties}
+use Rattle.journal.specs.Swept.{Frees, KeepsKnown}
 use Rattle.journal.specs.Tables.{IsUnused, OnlyReads}
-use Rattle.journal.specs.Journal.{HasTables, IsKeptFile, IsNamedOnce}
-use Rattle.journal.proofs.Emptied.{numbered-so}
+use Rattle.journal.specs.Journal.{CountsOutcomes, HasTables, IsKeptFile, IsNamedOnce}
+use Rattle.journal.proofs.OutcomeNumbers.{freed-numbers, freed-same, kept-more, let-go-first, let-go-none-new, numbers-there, renumbered}
 
--- ---- a row is put at its number
+-- ---- a row is looked for
 
-module _ (p : ℕ) (new : Row) (key : rowid new ≡ Int (pos p)) where
-  -- it is the first one there
-  put-own : (rows : List Row) → slice_get (map outcome_told (filter (has_rowid (pos p)) (put_row new rows))) 0 ≡ Some (outcome_told new)
-  put-own [] = rw (numbered-so new p key) refl
-  put-own (r ∷ rows) = step (value_cmp (rowid r) (rowid new)) refl (put-own rows)
-    where
-      step : (o : Ordering) → value_cmp (rowid r) (rowid new) ≡ o
-          → slice_get (map outcome_told (filter (has_rowid (pos p)) (put_row new rows))) 0 ≡ Some (outcome_told new)
-          → slice_get (map outcome_told (filter (has_rowid (pos p)) (match_ordering o (r ∷ put_row new rows) (new ∷ rows) (new ∷ r ∷ rows)))) 0 ≡ Some (outcome_told new)
-      step Less is more =
-          let below : has_rowid (pos p) r ≡ false = ap (λ v. is_eq (value_cmp (rowid r) v)) (sym key) ∙ ap is_eq is in
-          rw below more
-      step Equal is more = rw (numbered-so new p key) refl
-      step Greater is more = rw (numbered-so new p key) refl
-
-  module _ (n : ℕ) (differs : n ≢ p) where
-    apart : has_rowid (pos n) new ≡ false
-    apart = ap (λ v. is_eq (value_cmp v (Int (pos n)))) key ∙ ap is_eq (value_cmp-Int (pos p) (pos n)) ∙ grind (arith, ints, nat_tests)
-
-    -- those with another number are as they were
-    put-other : (rows : List Row) → filter (has_rowid (pos n)) (put_row new rows) ≡ filter (has_rowid (pos n)) rows
-    put-other [] = rw apart refl
-    put-other (r ∷ rows) = step (value_cmp (rowid r) (rowid new)) refl (put-other rows)
-      where
-        step : (o : Ordering) → value_cmp (rowid r) (rowid new) ≡ o
-            → filter (has_rowid (pos n)) (put_row new rows) ≡ filter (has_rowid (pos n)) rows
-            → filter (has_rowid (pos n)) (match_ordering o (r ∷ put_row new rows) (new ∷ rows) (new ∷ r ∷ rows)) ≡ filter (has_rowid (pos n)) (r ∷ rows)
-        step Less is more = rw more refl
-        step Equal is more =
-            let alike : has_rowid (pos n) r ≡ false = ap is_eq (value_cmp_total.congr (rowid r) (rowid new) (Int (pos n)) is) ∙ apart in
-            rw (apart, alike) refl
-        step Greater is more = rw apart refl
-
--- what became of a transaction is at its key's place
-pub kept-there : (rows : List Row) (o : KeyedOutcome) → outcome_at (put_row (outcome_row (key_place o.key) o) rows) ≡ outcomes_with (outcome_at rows) o
-unfolding outcome_at
-kept-there rows o = fun_ext (λ n. elim (cases_eq n (key_place o.key)) [
-  | inl is ↦ rw is (put-own (key_place o.key) (outcome_row (key_place o.key) o) refl rows ∙ ap Some (outcome_read_back (key_place o.key) o) ∙ grind (arith, nat_tests))
-  | inr differs ↦
-      let none : (n == key_place o.key) ≡ false = ne_eqb n (key_place o.key) differs in
-      rw none (ap (λ rs. slice_get (map outcome_told rs) 0) (put-other (key_place o.key) (outcome_row (key_place o.key) o) refl n differs rows))
-])
-
--- a row is looked for
-pub none-there : (rows : List Row) (n : ℕ) (row : Row) (found : Bool) → found ≡ false → Finds rows (pos n) row found → None ≡ outcome_at rows n
-unfolding outcome_at
+pub none-there : (rows : List Row) (n : ℕ) (row : Row) (found : Bool) → found ≡ false → Finds rows (pos n) row found → None ≡ kept_row rows n
+unfolding kept_row
 none-there rows n row true none finds = absurd (cc)
 none-there rows n row false none finds = ap (λ rs. slice_get (map outcome_told rs) 0) (sym finds)
 
-pub one-there : (rows : List Row) (n : ℕ) (row : Row) (found : Bool) (o : KeyedOutcome) → IsTrue found → Finds rows (pos n) row found → row ≡ outcome_row n o → Some o ≡ outcome_at rows n
-unfolding outcome_at
-one-there rows n row true o there finds is = sym (ap (λ rs. slice_get (map outcome_told rs) 0) finds ∙ ap (λ r. Some (outcome_told r)) is ∙ ap Some (outcome_read_back n o))
+pub one-there : (rows : List Row) (n : ℕ) (row : Row) (found : Bool) (o : KeptOutcome) → IsTrue found → Finds rows (pos n) row found → outcome_told row ≡ o → Some o ≡ kept_row rows n
+unfolding kept_row
+one-there rows n row true o there finds is = sym (ap (λ rs. slice_get (map outcome_told rs) 0) finds ∙ ap Some is)
 one-there rows n row false o there finds is = absurd (cc)
 
+pub number-there : (rows : List Row) (n : ℕ) (row : Row) (found : Bool) (number : ℕ) → IsTrue found → Finds rows (pos n) row found → (outcome_told row).number ≡ number
+    → Some number ≡ option_map (λ (o : KeptOutcome). o.number) (kept_row rows n)
+number-there rows n row found number there finds is = ap Some (sym is) ∙ ap (option_map (λ (o : KeptOutcome). o.number)) (one-there rows n row found (outcome_told row) there finds refl)
+
+pub no-number-there : (rows : List Row) (n : ℕ) (row : Row) (found : Bool) → found ≡ false → Finds rows (pos n) row found → None ≡ option_map (λ (o : KeptOutcome). o.number) (kept_row rows n)
+no-number-there rows n row found none finds = ap (option_map (λ (o : KeptOutcome). o.number)) (none-there rows n row found none finds)
+
+-- and the row of their numbers
+pub none-nowhere : (rows : List Row) (row : Row) (found : Bool) → found ≡ false → Finds rows (negsuc 0) row found → first_numbers ≡ numbers_in rows
+unfolding numbers_in
+none-nowhere rows row true none finds = absurd (cc)
+none-nowhere rows row false none finds = ap (λ rs. unwrap_or (slice_get (map numbers_told rs) 0) first_numbers) (sym finds)
+
+pub one-nowhere : (rows : List Row) (row : Row) (found : Bool) (m : Numbers) → IsTrue found → Finds rows (negsuc 0) row found → numbers_told row ≡ m → m ≡ numbers_in rows
+unfolding numbers_in
+one-nowhere rows row true m there finds is = sym (ap (λ rs. unwrap_or (slice_get (map numbers_told rs) 0) first_numbers) finds ∙ is)
+one-nowhere rows row false m there finds is = absurd (cc)
+
+-- an outcome that has a number is there
+pub some-number : (k : Option KeptOutcome) (number : ℕ) → Some number ≡ option_map (λ (o : KeptOutcome). o.number) k → (gone : KeptOutcome) × (k ≡ Some gone) × (gone.number ≡ number)
+some-number None number is = absurd (none-some number (sym is))
+some-number (Some o) number is = (o, refl, sym (same_Some number o.number is))
+
 -- where nothing is, nothing is kept
-pub none-kept : (old new : View) → OnlyReads old new → IsUnused old → old.trees 6 ≡ [] → (contents_of new.committed).outcomes ≡ (λ n. None)
-unfolding outcome_at
-none-kept old new only unused none = ap (λ (v : View). outcome_at (v.committed 6)) only ∙ ap (λ (db : Trees). outcome_at (db 6)) (sym unused.clean) ∙ ap outcome_at none
+empty-numbers : numbers_in [] ≡ first_numbers
+unfolding numbers_in
+empty-numbers = refl
 
--- ---- it is kept in a file of a format that knows keys
+empty-rows : kept_row [] ≡ (λ n. None)
+unfolding kept_row
+empty-rows = refl
 
-module _ (old new : View) (starts : List ℕ) (n prepared : ℕ) (header : Header) (o : KeyedOutcome) (sets : SetsTree old new 6 (put_row (outcome_row (key_place o.key) o)))
-    (kept : IsKeptFile old starts n prepared header) (keyed : header.format < keyed_format → ⊥) where
+pub empty-outcomes : outcomes_in [] ≡ no_outcomes
+empty-outcomes = ap (λ (m : Numbers). outcomes_of m (kept_row [])) empty-numbers ∙ ap (outcomes_of first_numbers) empty-rows
+
+pub none-kept : (old new : View) → OnlyReads old new → IsUnused old → old.trees 6 ≡ [] → (contents_of new.committed).outcomes ≡ no_outcomes
+none-kept old new only unused none = ap (λ (v : View). outcomes_in (v.committed 6)) only ∙ ap (λ (db : Trees). outcomes_in (db 6)) (sym unused.clean) ∙ ap outcomes_in none ∙ empty-outcomes
+
+-- ---- their table changes in a file of a format that knows keys
+
+module _ (old new : View) (starts : List ℕ) (n prepared : ℕ) (header : Header) (edit : List Row → List Row) (sets : SetsTree old new 6 edit) (kept : IsKeptFile old starts n prepared header)
+    (keyed : header.format < keyed_format → ⊥) where
   before : IsFile old.trees
   before = kept.file sets.sound
 
+  -- its rows are these
+  pub edited : new.trees 6 ≡ edit (old.trees 6)
+  edited = ap (λ (v : View). v.trees 6) sets.is
+
   -- and nothing else changes
-  pub keeps : contents_of new.trees ≡ with_outcome (contents_of old.trees) o
-  keeps = ap (λ (v : View). contents_of v.trees) sets.is ∙ ap (λ os. record (contents_of old.trees) { outcomes = os }) (kept-there (old.trees 6) o)
+  pub changes : contents_of new.trees ≡ record (contents_of old.trees) { outcomes = outcomes_in (edit (old.trees 6)) }
+  changes = ap (λ (v : View). contents_of v.trees) sets.is
 
   aged : IsOlderThan keyed_format (contents_of old.trees).headers → ⊥
   aged older = keyed (subst (IsOlderThan keyed_format) (kept.header_is sets.sound) older)
 
-  -- and it is a file of a store again
+  -- it is a file of a store again
   pub keeps-file : IsKeptFile new starts n prepared header
   keeps-file = record {
     tables = subst (λ (v : View). HasTables v) (sym sets.is) (record { each = kept.tables.each });
@@ -114,26 +105,145 @@ module _ (old new : View) (starts : List ℕ) (n prepared : ℕ) (header : Heade
       unprepared = before.unprepared;
       outcomes = λ older. absurd (aged older);
     });
-    count_is = λ _. kept.count_is sets.sound ∙ ap (λ (c : Contents). length c.events) (sym keeps);
+    count_is = λ _. kept.count_is sets.sound ∙ ap (λ (c : Contents). length c.events) (sym changes);
     starts_are = λ _. kept.starts_are sets.sound ∙ ap (λ (v : View). row_starts 0 (map event_told (v.trees 0))) (sym sets.is);
-    header_is = λ _. ap (λ (c : Contents). c.headers) keeps ∙ kept.header_is sets.sound;
-    prepared_are = λ _. kept.prepared_are sets.sound ∙ ap (λ (c : Contents). length c.prepared) (sym keeps);
+    header_is = λ _. ap (λ (c : Contents). c.headers) changes ∙ kept.header_is sets.sound;
+    prepared_are = λ _. kept.prepared_are sets.sound ∙ ap (λ (c : Contents). length c.prepared) (sym changes);
     kept = λ is_open. subst (λ (v : View). IsTrue v.is_open → IsFile v.committed) (sym sets.is) kept.kept is_open;
     numbered = subst (λ (v : View). IsTrue v.is_numbered) (sym sets.is) kept.numbered;
     named = λ _. subst (λ (v : View). IsNamedOnce (v.trees catalog_tree)) (sym sets.is) (kept.named sets.sound);
   }
 
+-- a file whose outcomes have other numbers than at first is of a format that knows keys
+pub numbered-keyed : (v : View) (starts : List ℕ) (n prepared : ℕ) (header : Header) (m : Numbers) → IsKeptFile v starts n prepared header → v.is_broken ≡ false → m ≡ numbers_in (v.trees 6)
+    → (m ≡ first_numbers → ⊥) → header.format < keyed_format → ⊥
+numbered-keyed v starts n prepared header m kept sound is other older =
+    other (is ∙ ap numbers_in ((kept.file sound).outcomes (subst (IsOlderThan keyed_format) (sym (kept.header_is sound)) older)) ∙ empty-numbers)
+
+-- where their rows are as they were, so are the numbers
+pub same-numbers : (old new : View) (m : Numbers) → new.trees 6 ≡ old.trees 6 → old.is_broken ≡ false → CountsOutcomes old m → CountsOutcomes new m
+same-numbers old new m rows sound has now = let (is, counted) = has sound in (is ∙ sym (ap numbers_in rows), counted)
+
+-- ---- an outcome is kept, with the next number
+
+module _ (old mid new : View) (starts : List ℕ) (n prepared : ℕ) (header : Header) (m next : Numbers) (o : KeyedOutcome)
+    (puts : SetsTree old mid 6 (put_row (outcome_row (key_place o.key) (record { kept = o; number = m.next })))) (counts : SetsTree mid new 6 (put_row (numbers_row next)))
+    (kept : IsKeptFile old starts n prepared header) (has : CountsOutcomes old m) (keyed : header.format < keyed_format → ⊥) (is : next ≡ record { next = m.next + 1; first = m.first; least = m.least }) where
+  abbrev edit_of : List Row → List Row
+  edit_of = put_row (outcome_row (key_place o.key) (record { kept = o; number = m.next }))
+
+  between : IsKeptFile mid starts n prepared header
+  between = keeps-file old mid starts n prepared header edit_of puts kept keyed
+
+  pub keeps-outcome : contents_of new.trees ≡ with_outcome (contents_of old.trees) o
+  keeps-outcome =
+      changes mid new starts n prepared header (put_row (numbers_row next)) counts between keyed
+      ∙ ap (λ (c : Contents). record c { outcomes = outcomes_in (put_row (numbers_row next) (mid.trees 6)) }) (changes old mid starts n prepared header edit_of puts kept keyed)
+      ∙ ap (λ rows. record (contents_of old.trees) { outcomes = outcomes_in (put_row (numbers_row next) rows) }) (edited old mid starts n prepared header edit_of puts kept keyed)
+      ∙ ap (λ (all : Outcomes). record (contents_of old.trees) { outcomes = all }) (kept-more (old.trees 6) m next o (has puts.sound).0 (has puts.sound).1.within is)
+
+  pub keeps-outcome-file : IsKeptFile new starts n prepared header
+  keeps-outcome-file = keeps-file mid new starts n prepared header (put_row (numbers_row next)) counts between keyed
+
+-- the numbers are those that were written
+pub has-written : (old new : View) (next : Numbers) → SetsTree old new 6 (put_row (numbers_row next)) → AreCounted next → CountsOutcomes new next
+has-written old new next sets counted sound = (sym (ap (λ (v : View). numbers_in (v.trees 6)) sets.is ∙ numbers-there (old.trees 6) next), counted)
+
+-- ---- other outcomes stay
+
+module _ (old new : View) (starts : List ℕ) (n prepared : ℕ) (header : Header) (m next : Numbers) (counts : SetsTree old new 6 (put_row (numbers_row next)))
+    (kept : IsKeptFile old starts n prepared header) (has : CountsOutcomes old m) (keyed : header.format < keyed_format → ⊥) where
+  pub recounts : contents_of new.trees ≡ record (contents_of old.trees) { outcomes = outcomes_of next (kept_row (old.trees 6)) }
+  recounts = changes old new starts n prepared header (put_row (numbers_row next)) counts kept keyed ∙ ap (λ (all : Outcomes). record (contents_of old.trees) { outcomes = all }) (renumbered (old.trees 6) next)
+
+  -- so many of the last from now on
+  pub keeps-least : (least : ℕ) → next ≡ record { next = m.next; first = m.first; least = least } → contents_of new.trees ≡ record (contents_of old.trees) { outcomes = staying (contents_of old.trees).outcomes least }
+  keeps-least least is =
+      recounts ∙ ap (λ (k : Numbers). record (contents_of old.trees) { outcomes = outcomes_of k (kept_row (old.trees 6)) }) is
+      ∙ ap (λ (k : Numbers). record (contents_of old.trees) { outcomes = staying (outcomes_of k (kept_row (old.trees 6))) least }) (has counts.sound).0
+
+  -- or those since which fewer were kept
+  pub lets-go : m.first < m.next - m.least → next ≡ record { next = m.next; first = m.next - m.least; least = m.least }
+      → contents_of new.trees ≡ record (contents_of old.trees) { outcomes = let_go (contents_of old.trees).outcomes }
+  lets-go after is =
+      recounts ∙ ap (λ (all : Outcomes). record (contents_of old.trees) { outcomes = all }) (let-go-first m next (kept_row (old.trees 6)) after is)
+      ∙ ap (λ (k : Numbers). record (contents_of old.trees) { outcomes = let_go (outcomes_of k (kept_row (old.trees 6))) }) (has counts.sound).0
+
+module _ (old new : View) (starts : List ℕ) (n prepared : ℕ) (header : Header) (found : Numbers) (first : ℕ) (kept : IsKeptFile old starts n prepared header) (sound : old.is_broken ≡ false)
+    (is : found ≡ numbers_in (old.trees 6)) (counted : AreCounted found) (at : first ≡ found.next - found.least) (after : found.first < first)
+    (counts : SetsTree old new 6 (put_row (numbers_row (record { next = found.next; first = first; least = found.least })))) where
+  abbrev next : Numbers
+  next = record { next = found.next; first = first; least = found.least }
+
+  newer : header.format < keyed_format → ⊥
+  newer = numbered-keyed old starts n prepared header found kept sound is
+      (λ same. let many = ap (λ (k : Numbers). k.next) same in let few = ap (λ (k : Numbers). k.least) same in omega (arith, after, at, many, few))
+
+  pub lets-go-counted : AreCounted next
+  lets-go-counted = let short = counted.short in record { some = counted.some; within = omega (arith, at); short = counted.short; few = counted.few }
+
+  pub lets-go-file : IsKeptFile new starts n prepared header
+  lets-go-file = keeps-file old new starts n prepared header (put_row (numbers_row next)) counts kept newer
+
+  pub lets-go-numbers : CountsOutcomes new next
+  lets-go-numbers = has-written old new next counts lets-go-counted
+
+  pub lets-go-says : contents_of new.trees ≡ record (contents_of old.trees) { outcomes = let_go (contents_of old.trees).outcomes }
+  lets-go-says = lets-go old new starts n prepared header found next counts kept (λ _. (is, counted)) newer (subst (λ f. found.first < f) at after) (ap (λ f. let it : Numbers = record { next = found.next; first = f; least = found.least } in it) at)
+
+-- where as few were kept all stay
+pub lets-none-go : (rows : List Row) (m : Numbers) → m ≡ numbers_in rows → m.next - m.least ≤ m.first → outcomes_in rows ≡ let_go (outcomes_in rows)
+lets-none-go rows m is few =
+    ap (λ (k : Numbers). outcomes_of k (kept_row rows)) (sym is) ∙ let-go-none-new m (kept_row rows) few ∙ ap (λ (k : Numbers). let_go (outcomes_of k (kept_row rows))) is
+
+-- ---- rows are freed
+
+-- what only reads leaves the file as it was
+pub read-file : (old new : View) (starts : List ℕ) (n prepared : ℕ) (header : Header) → OnlyReads old new → IsKeptFile old starts n prepared header → IsKeptFile new starts n prepared header
+read-file old new starts n prepared header only kept = subst (λ (v : View). IsKeptFile v starts n prepared header) (sym only) (record {
+  tables = record { each = kept.tables.each };
+  file = kept.file;
+  count_is = kept.count_is;
+  starts_are = kept.starts_are;
+  header_is = kept.header_is;
+  prepared_are = kept.prepared_are;
+  kept = kept.kept;
+  numbered = kept.numbered;
+  named = kept.named;
+})
+
+module _ (old new : View) (starts : List ℕ) (n prepared : ℕ) (header : Header) (m : Numbers) (kept : IsKeptFile old starts n prepared header) (has : CountsOutcomes old m) where
+  frees-keyed : Frees m.first old new → header.format < keyed_format → ⊥
+  frees-keyed frees =
+      numbered-keyed old starts n prepared header m kept frees.sets.sound (has frees.sets.sound).0
+      (λ is. let zero = ap (λ (k : Numbers). k.first) is in let low = frees.before in omega (arith, zero, low))
+
+  pub knows : KeepsKnown m.first old new → contents_of new.trees ≡ contents_of old.trees
+  knows (inl frees) =
+      changes old new starts n prepared header _ frees.sets kept (frees-keyed frees)
+      ∙ ap (λ (all : Outcomes). record (contents_of old.trees) { outcomes = all })
+      (freed-same (old.trees 6) frees.place frees.gone frees.there (subst (λ (k : Numbers). frees.gone.number < k.first) (has frees.sets.sound).0 frees.before))
+  knows (inr same) = ap (λ (v : View). contents_of v.trees) same
+
+  pub knows-file : KeepsKnown m.first old new → IsKeptFile new starts n prepared header
+  knows-file (inl frees) = keeps-file old new starts n prepared header _ frees.sets kept (frees-keyed frees)
+  knows-file (inr same) = subst (λ (v : View). IsKeptFile v starts n prepared header) (sym same) kept
+
+  pub knows-numbers : KeepsKnown m.first old new → CountsOutcomes new m
+  knows-numbers (inl frees) = λ _. let (is, counted) = has frees.sets.sound in (is ∙ sym (ap (λ (v : View). numbers_in (v.trees 6)) frees.sets.is ∙ freed-numbers (old.trees 6) frees.place), counted)
+  knows-numbers (inr same) = subst (λ (v : View). CountsOutcomes v m) (sym same) has
+
 -- ---- a table that has no row is made anew
 
 -- a file of an older format has no prepared transactions, and one of a format that doesn't know keys no outcomes
 module _ (v : View) (starts : List ℕ) (n prepared : ℕ) (header : Header) (kept : IsKeptFile v starts n prepared header) where
-  pub older-unprepared : header.format < newest_format → v.is_broken ≡ false → v.trees 5 ≡ []
-  older-unprepared older sound = (kept.file sound).unprepared (subst (IsOlderThan newest_format) (sym (kept.header_is sound)) older)
+  pub older-unprepared : header.format < preparing_format → v.is_broken ≡ false → v.trees 5 ≡ []
+  older-unprepared older sound = (kept.file sound).unprepared (subst (IsOlderThan preparing_format) (sym (kept.header_is sound)) older)
 
   pub older-none : header.format < keyed_format → v.is_broken ≡ false → v.trees 6 ≡ []
   older-none older sound = (kept.file sound).outcomes (subst (IsOlderThan keyed_format) (sym (kept.header_is sound)) older)
 
-same-file : (now was : Trees) → ((t : ℕ) → t < 7 → now t ≡ was t) → IsFile was → IsFile now
+pub same-file : (now was : Trees) → ((t : ℕ) → t < 7 → now t ≡ was t) → IsFile was → IsFile now
 same-file now was same file = record {
   events = rw (same 0 (lit< tt)) file.events;
   headers = rw (same 1 (lit< tt)) file.headers;
@@ -154,6 +264,9 @@ module _ (old new : View) (starts : List ℕ) (n prepared : ℕ) (header : Heade
 
   pub stays : contents_of new.trees ≡ contents_of old.trees
   stays = rw (same 0 (lit< tt), same 1 (lit< tt), same 2 (lit< tt), same 3 (lit< tt), same 4 (lit< tt), same 5 (lit< tt), same 6 (lit< tt)) refl
+
+  pub stays-numbers : (m : Numbers) → CountsOutcomes old m → CountsOutcomes new m
+  stays-numbers m has = same-numbers old new m (same 6 (lit< tt)) anew.sound has
 
   pub stays-file : IsKeptFile new starts n prepared header
   stays-file = record {

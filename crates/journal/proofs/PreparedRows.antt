@@ -7,12 +7,12 @@ use Rattle.journal.specs.declared.header.Header.{Header}
 use Rattle.journal.specs.declared.prepared_row.Prepared.{Prepared}
 use Rattle.journal.specs.PreparedRow.{prepared_row, prepared_told, prepared_read_back}
 use Rattle.journal.specs.EventRow.{event_told, row_starts}
-use Rattle.journal.specs.Contents.{Contents, IsFile, IsOlderThan, contents_of, newest_format, with_prepared}
+use Rattle.journal.specs.Contents.{Contents, IsFile, IsOlderThan, contents_of, preparing_format, with_prepared}
 use Rattle.journal.specs.Journal.{HasTables, IsKeptFile, IsNamedOnce}
 use Rattle.journal.proofs.RowLemmas.{told-more, rows-of-more}
 
 module _ (old new : View) (starts : List ℕ) (n many : ℕ) (header : Header) (p : Prepared) (sets : SetsTree old new 5 (put_row (prepared_row many p)))
-    (kept : IsKeptFile old starts n many header) (newest : header.format < newest_format → ⊥) where
+    (kept : IsKeptFile old starts n many header) (newest : header.format < preparing_format → ⊥) where
   before : IsFile old.trees
   before = kept.file sets.sound
 
@@ -23,8 +23,8 @@ module _ (old new : View) (starts : List ℕ) (n many : ℕ) (header : Header) (
   pub prepares : contents_of new.trees ≡ with_prepared (contents_of old.trees) p
   prepares = ap (λ (v : View). contents_of v.trees) sets.is ∙ ap (λ ps. record (contents_of old.trees) { prepared = ps }) told
 
-  aged : IsOlderThan newest_format (contents_of old.trees).headers → ⊥
-  aged older = newest (subst (IsOlderThan newest_format) (kept.header_is sets.sound) older)
+  aged : IsOlderThan preparing_format (contents_of old.trees).headers → ⊥
+  aged older = newest (subst (IsOlderThan preparing_format) (kept.header_is sets.sound) older)
 
   -- and it is a file of a store again
   pub prepares-file : IsKeptFile new starts n (many + 1) header

@@ -13,8 +13,10 @@ use Rattle.journal.specs.Rows.{value_rows}
 use Rattle.journal.specs.StateRow.{state_row, state_told, state_read_back}
 use Rattle.journal.specs.Tables.{Rewrites}
 use Rattle.journal.specs.EmptyTable.{EmptiesEpoch}
-use Rattle.journal.specs.Contents.{IsFile, contents_of, from_states}
-use Rattle.journal.specs.Journal.{IsKeptFile, IsNamedOnce}
+use Rattle.journal.specs.Contents.{IsFile, at_states, contents_of}
+use Rattle.journal.specs.declared.numbers.Numbers.{Numbers}
+use Rattle.journal.proofs.Outcomes.{same-numbers}
+use Rattle.journal.specs.Journal.{CountsOutcomes, IsKeptFile, IsNamedOnce}
 use Rattle.journal.proofs.RowLemmas.{put-set, rows-told}
 
 -- the first x states are new
@@ -89,8 +91,11 @@ module _ (old middle new : View) (starts : List ℕ) (n many : ℕ) (header : He
   outcomes : new.trees 6 ≡ old.trees 6
   outcomes = stays 6 (λ is. omega (arith, is)) (λ is. omega (arith, is)) (λ is. omega (arith, is)) (lit< tt)
 
-  pub from-states : contents_of new.trees ≡ from_states (contents_of old.trees) states
-  from-states = rw (events, headers, types, objects, states-told, prepared, outcomes) refl
+  pub resets-numbers : (m : Numbers) → CountsOutcomes old m → CountsOutcomes new m
+  resets-numbers m has = same-numbers old new m outcomes gone.sound has
+
+  pub at-states : contents_of new.trees ≡ at_states (contents_of old.trees) states
+  at-states = rw (events, headers, types, objects, states-told, prepared, outcomes) refl
 
   pub resets : IsKeptFile new [] 0 0 header
   resets = record {

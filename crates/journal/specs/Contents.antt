@@ -1,5 +1,5 @@
 -- What the tables of a file say.
-use Rattle.std.specs.Prelude.{◌≡◌, ℕ, ◌<◌, List, [], ◌∷◌, ◌++◌, Option, map}
+use Rattle.std.specs.Prelude.{◌≡◌, ℕ, ◌<◌, List, [], ◌∷◌, ◌++◌, map}
 use Rattle.object_trait.specs.declared.event.EventKind.{EventKind}
 use Rattle.store_text.specs.declared.line.ObjectLine.{ObjectLine}
 use Rattle.sqlite_trees.specs.Tree.{Trees}
@@ -12,7 +12,7 @@ use Rattle.journal.specs.TypeRow.{type_row, type_told}
 use Rattle.journal.specs.ObjectRows.{object_row, object_told}
 use Rattle.journal.specs.StateRow.{state_row, state_told}
 use Rattle.journal.specs.declared.outcome_row.KeyedOutcome.{KeyedOutcome}
-use Rattle.journal.specs.OutcomeRow.{outcome_at, outcomes_with}
+use Rattle.journal.specs.Outcomes.{Outcomes, let_go, outcomes_in, outcomes_with, staying}
 use Rattle.journal.specs.declared.prepared_row.Prepared.{Prepared}
 use Rattle.journal.specs.PreparedRow.{prepared_row, prepared_told}
 
@@ -25,7 +25,7 @@ pub record Contents : Type 0 where
   pub objects : List ObjectLine
   pub states : List FirstState
   pub prepared : List Prepared
-  pub outcomes : ℕ → Option KeyedOutcome
+  pub outcomes : Outcomes
 
 abbrev pub contents_of : Trees → Contents
 contents_of db = record {
@@ -35,13 +35,17 @@ contents_of db = record {
   objects = map object_told (db 3);
   states = map state_told (db 4);
   prepared = map prepared_told (db 5);
-  outcomes = outcome_at (db 6);
+  outcomes = outcomes_in (db 6);
 }
 
--- the format of what is written: 7 has prepared transactions, 6 what became of transactions that have keys, 5 a row for the events that were written together,
+-- the format of what is written: 8 has numbers of outcomes, 7 prepared transactions, 6 what became of transactions that have keys, 5 a row for the events that were written together,
 -- 4 names of objects, 3 operations with amounts, 2 types that are numbers
 abbrev pub newest_format : ℕ
-newest_format = 7
+newest_format = 8
+
+-- the first format that knows prepared transactions
+abbrev pub preparing_format : ℕ
+preparing_format = 7
 
 -- the first format that knows keys
 abbrev pub keyed_format : ℕ
@@ -61,7 +65,7 @@ pub record IsFile (db : Trees) : Type 0 where
   pub objects : db 3 ≡ value_rows object_row 0 (contents_of db).objects
   pub states : db 4 ≡ value_rows state_row 0 (contents_of db).states
   pub prepared : db 5 ≡ value_rows prepared_row 0 (contents_of db).prepared
-  pub unprepared : IsOlderThan newest_format (contents_of db).headers → db 5 ≡ []
+  pub unprepared : IsOlderThan preparing_format (contents_of db).headers → db 5 ≡ []
   pub outcomes : IsOlderThan keyed_format (contents_of db).headers → db 6 ≡ []
 
 -- with these events, which are in no row yet, behind the others
@@ -80,14 +84,29 @@ with_prepared c p = record c { prepared = c.prepared ++ p ∷ [] }
 abbrev pub with_outcome : Contents → KeyedOutcome → Contents
 with_outcome c o = record c { outcomes = outcomes_with c.outcomes o }
 
+-- where at least so many of the last outcomes stay from now on
+abbrev pub with_least : Contents → ℕ → Contents
+with_least c least = record c { outcomes = staying c.outcomes least }
+
 -- with this number of a life in the header, which is of the newest format then
 abbrev pub in_life : Contents → ℕ → Contents
 in_life c life = record c { headers = map (λ (h : Header). let raised : Header = record h { format = newest_format; life = life } in raised) c.headers }
 
 -- where a history begins at these states, and no transaction is prepared yet
-abbrev pub from_states : Contents → List FirstState → Contents
-from_states c states = record c { events = []; states = states; prepared = [] }
+abbrev pub at_states : Contents → List FirstState → Contents
+at_states c states = record c { events = []; states = states; prepared = [] }
 
 -- with these types and objects behind those that there are, where a history of all of them begins at these states
+abbrev pub extended_at : Contents → List (List ℕ) → List ObjectLine → List FirstState → Contents
+extended_at c types objects states = record c { events = []; types = c.types ++ types; objects = c.objects ++ objects; states = states; prepared = [] }
+
+-- where outcomes are let go since which as many were kept as stay at least
+abbrev pub with_let_go : Contents → Contents
+with_let_go c = record c { outcomes = let_go c.outcomes }
+
+-- and where that is so too
+abbrev pub from_states : Contents → List FirstState → Contents
+from_states c states = at_states (with_let_go c) states
+
 abbrev pub extended : Contents → List (List ℕ) → List ObjectLine → List FirstState → Contents
-extended c types objects states = record c { events = []; types = c.types ++ types; objects = c.objects ++ objects; states = states; prepared = [] }
+extended c types objects states = extended_at (with_let_go c) types objects states

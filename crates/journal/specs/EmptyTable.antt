@@ -1,5 +1,5 @@
 -- Tables are made anew, with no row, and nothing else changes.
-use Rattle.std.specs.Prelude.{◌≡◌, ◌≢◌, ◌<◌, ℕ, false, [], IsTrue}
+use Rattle.std.specs.Prelude.{◌≡◌, ◌≢◌, ◌⊎◌, ◌<◌, ℕ, List, false, [], IsTrue, codes}
 use Rattle.sqlite_trees.specs.Objects.{catalog_tree}
 use Rattle.sqlite_trees.specs.View.{View}
 use Rattle.journal.specs.Journal.{HasTables, IsNamedOnce}
@@ -14,6 +14,21 @@ pub record Empties (old new : View) (table : ℕ) : Type 0 where
   pub sound : old.is_broken ≡ false
   pub rows : new.trees table ≡ []
   pub others : (t : ℕ) → t ≢ table → t < 7 → new.trees t ≡ old.trees t
+  pub tables : HasTables new
+  pub numbered : IsTrue new.is_numbered
+  pub named : IsNamedOnce (new.trees catalog_tree)
+  pub committed : new.committed ≡ old.committed
+  pub is_open : new.is_open ≡ old.is_open
+  pub is_broken : new.is_broken ≡ old.is_broken
+
+-- tables that get columns: that of objects gets names, and that of outcomes numbers
+abbrev pub IsListedAnew : ℕ → List ℕ → Type 0
+IsListedAnew table name = ((table ≡ 3) × (name ≡ codes "object")) ⊎ ((table ≡ 6) × (name ≡ codes "outcome"))
+
+-- a table is listed otherwise, and all rows stay
+pub record ListsAnew (old new : View) : Type 0 where
+  pub sound : old.is_broken ≡ false
+  pub rows : (t : ℕ) → t < 7 → new.trees t ≡ old.trees t
   pub tables : HasTables new
   pub numbered : IsTrue new.is_numbered
   pub named : IsNamedOnce (new.trees catalog_tree)

@@ -8,6 +8,9 @@ pub mod Tables
 pub mod HeaderRow
 pub mod StateRow
 pub mod OutcomeRow
+pub mod Numbers
+pub mod Outcomes
+pub mod Swept
 pub mod PreparedRow
 pub mod ObjectRows
 pub mod TypeRow

@@ -1,5 +1,5 @@
 -- What was read of a file.
-use Rattle.std.specs.Prelude.{◌≡◌, ◌<◌, ℕ, List, [], ◌∷◌, Option, None}
+use Rattle.std.specs.Prelude.{◌≡◌, ◌<◌, ℕ, List, [], ◌∷◌}
 use Rattle.sqlite_trees.specs.Tree.{Trees}
 use Rattle.journal.specs.declared.contents.FileContents.{FileContents}
 use Rattle.journal.specs.Rows.{value_rows}
@@ -9,9 +9,9 @@ use Rattle.journal.specs.HeaderRow.{header_row}
 use Rattle.journal.specs.TypeRow.{type_row}
 use Rattle.journal.specs.ObjectRows.{object_row}
 use Rattle.journal.specs.StateRow.{state_row}
-use Rattle.journal.specs.declared.outcome_row.KeyedOutcome.{KeyedOutcome}
 use Rattle.journal.specs.PreparedRow.{prepared_row}
-use Rattle.journal.specs.Contents.{Contents, keyed_format, newest_format}
+use Rattle.journal.specs.Contents.{Contents, keyed_format, preparing_format}
+use Rattle.journal.specs.Outcomes.{Outcomes, no_outcomes}
 
 -- the same as the tables say it, where no transaction had a key
 abbrev pub contents : FileContents → Contents
@@ -22,11 +22,11 @@ contents said = record {
   objects = said.objects.items;
   states = said.states.items;
   prepared = said.prepared.items;
-  outcomes = λ _. None;
+  outcomes = no_outcomes;
 }
 
 -- and where this became of those that had, which isn't read
-abbrev pub contents_beside : (ℕ → Option KeyedOutcome) → FileContents → Contents
+abbrev pub contents_beside : Outcomes → FileContents → Contents
 contents_beside outcomes said = record (contents said) { outcomes = outcomes }
 
 -- the tables have the rows of just this, where the events of each row begin at these places
@@ -40,5 +40,5 @@ pub record HasRowsOf (db : Trees) (said : FileContents) (starts : List ℕ) : Ty
   pub objects : db 3 ≡ value_rows object_row 0 said.objects.items
   pub states : db 4 ≡ value_rows state_row 0 said.states.items
   pub prepared : db 5 ≡ value_rows prepared_row 0 said.prepared.items
-  pub unprepared : said.header.format < newest_format → db 5 ≡ []
+  pub unprepared : said.header.format < preparing_format → db 5 ≡ []
   pub outcomes : said.header.format < keyed_format → db 6 ≡ []

@@ -4,6 +4,7 @@ ghost use Rattle.std.specs.Prelude.{◌≡◌, ◌<◌, ◌^◌, [], ◌∷◌, 
 ghost use Rattle.sqlite_value.specs.Order.{column};
 ghost use Rattle.sqlite_value.specs.Value.{owned};
 ghost use Rattle.sqlite_value.specs.declared.value.Value.TheVariants.{Null, Int, Text, Blob};
+ghost use Rattle.sqlite_trees.specs.Objects.{number_in};
 ghost use Rattle.journal.specs.Cells.{cell_value};
 
 use sqlite_value::row::Row;
@@ -138,6 +139,17 @@ pub fn blob_in(row: &Row, at: usize) -> Option<&[u8]>
 {
     match row.get(at) {
         ValueRef::Blob(bytes) => Some(bytes),
+        _ => None,
+    }
+}
+
+/// The number in a column, where it has one that isn't below 0; 0 where it has none.
+pub fn long_number(row: &Row, at: usize) -> Option<u64>
+    ensures { IfSome result (λ n. number_in (column row.now at) ≡ n) }
+{
+    match row.get(at) {
+        ValueRef::Null => Some(0),
+        ValueRef::Int(n) => u64::try_from(n).ok(),
         _ => None,
     }
 }

@@ -4,14 +4,16 @@ ghost use Rattle.std.specs.Prelude.{◌≡◌, ◌<◌, ◌∷◌, [], IfOk, IsT
 ghost use Rattle.sqlite_trees.specs.Tree.{Trees};
 ghost use Rattle.sqlite_trees.specs.View.{IsClean};
 ghost use Rattle.journal.specs.HeaderRow.{header_row};
-ghost use Rattle.journal.specs.Contents.{keyed_format, newest_format};
+ghost use Rattle.journal.specs.Contents.{keyed_format, preparing_format};
+ghost use Rattle.journal.specs.Numbers.{AreCounted, numbers_in};
 ghost use Rattle.journal.specs.Said.{HasRowsOf};
 ghost use Rattle.journal.specs.Journal.{HasTables};
 ghost use Rattle.journal.specs.Tables.{IsUnused, OnlyReads};
 
 use crate::event_row::{EventRow, events_of, starts_of};
-use crate::header::{FORMAT, Header, KEYED_FORMAT};
+use crate::header::{Header, KEYED_FORMAT, PREPARING_FORMAT};
 use crate::journal_error::JournalError;
+use crate::numbers::{Numbers, read_numbers};
 use crate::object_row::TypeText;
 use crate::prepared_row::Prepared;
 use crate::state_row::FirstState;
@@ -59,14 +61,15 @@ pub struct FileContents {
     pub prepared: Vec<Prepared>,
 }
 
-/// What was read of a file, and at which place among all events those of each row begin.
+/// What was read of a file, at which place among all events those of each row begin, and the numbers of outcomes.
 #[derive(Drop)]
 pub struct FoundContents {
     pub said: FileContents,
     pub starts: Vec<u64>,
+    pub numbers: Numbers,
 }
 
-/// Reads all tables but that of what became of transactions, which may be long.
+/// Reads all tables, but only the numbers in that of what became of transactions, which may be long.
 ///
 /// # Errors
 ///
@@ -80,6 +83,7 @@ pub fn read_contents<S: Store>(
     requires unused { IsClean (S.Store.view store.old) → IsUnused (S.Store.view store.old) }
     requires tables { IsClean (S.Store.view store.old) → HasTables (S.Store.view store.old) }
     ensures told { IfOk result (λ found. IsClean (S.Store.view store.new) → HasRowsOf (S.Store.view store.old).trees found.said found.starts.items) }
+    ensures numbers { IfOk result (λ found. IsClean (S.Store.view store.new) → (found.numbers ≡ numbers_in ((S.Store.view store.old).trees 6)) × AreCounted found.numbers) }
     ensures same { OnOk result (IsClean (S.Store.view store.new) → OnlyReads (S.Store.view store.old) (S.Store.view store.new)) }
     ensures clean { IsClean (S.Store.view store.new) → IsClean (S.Store.view store.old) }
     ensures crash { (db : Trees) → S.Store.recovers store.new db → S.Store.recovers store.old db }
@@ -93,6 +97,7 @@ pub fn read_contents<S: Store>(
     if !may_be_prepared(header, &prepared) || !may_have_outcomes(store, header, row)? {
         return Err(JournalError::Foreign);
     }
+    let numbers = read_numbers(store, row)?;
     let events = events_of(alloc, &rows)?;
     let starts = starts_of(alloc, &rows)?;
     let said = FileContents {
@@ -103,14 +108,18 @@ pub fn read_contents<S: Store>(
         events,
         prepared,
     };
-    Ok(FoundContents { said, starts })
+    Ok(FoundContents {
+        said,
+        starts,
+        numbers,
+    })
 }
 
 /// Whether these may be prepared in a file of this format: those before 7 have none.
 fn may_be_prepared(header: Header, prepared: &[Prepared]) -> bool
-    ensures { IsTrue result → header.format < newest_format → prepared.now ≡ [] }
+    ensures { IsTrue result → header.format < preparing_format → prepared.now ≡ [] }
 {
-    header.format >= FORMAT || prepared.is_empty()
+    header.format >= PREPARING_FORMAT || prepared.is_empty()
 }
 
 /// Whether the table of what became of transactions is as the file's format has it: those before 6 have no row there.

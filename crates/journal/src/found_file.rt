@@ -17,6 +17,7 @@ use crate::contents::{
 };
 use crate::journal::Journal;
 use crate::journal_error::JournalError;
+use crate::swept_rows::first_swept;
 use event_text::EventGroup;
 use sqlite_trees::store::{Alter, Shape, Store};
 use sqlite_value::row::Row;
@@ -54,7 +55,13 @@ impl<S: Alter> Journal<S> {
         }
         let mut row = Row::new(alloc);
         match read_contents(alloc, &mut store, &mut row) {
-            Ok(FoundContents { said, starts }) => {
+            Ok(
+                FoundContents {
+                    said,
+                    starts,
+                    numbers,
+                },
+            ) => {
                 let settled = said.events.as_slice().len() as u64;
                 let header = said.header;
                 let prepared = said.prepared.as_slice().len() as u64;
@@ -67,6 +74,8 @@ impl<S: Alter> Journal<S> {
                     pending: EventGroup::new(alloc),
                     header,
                     prepared,
+                    numbers,
+                    swept: first_swept(header.life),
                 };
                 Ok((journal, said))
             }

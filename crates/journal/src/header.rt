@@ -17,7 +17,13 @@ const ID: usize = 3;
 const LIFE: usize = 4;
 
 /// The format of what is written.
-pub const FORMAT: u32 = 7;
+pub const FORMAT: u32 = 8;
+
+/// The first format that knows names of objects.
+pub const NAMING_FORMAT: u32 = 4;
+
+/// The first format that knows prepared transactions.
+pub const PREPARING_FORMAT: u32 = 7;
 
 /// The first format whose tables of prepared transactions and of outcomes are as they are now.
 pub const KEYED_FORMAT: u32 = 6;

@@ -2,7 +2,7 @@
 
 ghost use Rattle.std.specs.Prelude.{◌≡◌, ◌^◌, ◌⊎◌, ◌∷◌, [], IsTrue, OnOk, ◌<◌, drop, map, take, IfOk, ◌+◌, ◌≤◌, ℕ, List, false, length};
 ghost use Rattle.sqlite_trees.specs.Tree.{Trees};
-ghost use Rattle.journal.specs.Contents.{contents_with_event, extended, from_states, in_life, with_outcome, with_prepared};
+ghost use Rattle.journal.specs.Contents.{at_states, contents_with_event, extended, extended_at, from_states, in_life, with_prepared};
 ghost use Rattle.journal.specs.Journal.{Clean, IsAsWritten, IsJournal, IsNumbered, IsOpen, IsSettled, ShowsCommit, durable, may_leave, written};
 ghost use Rattle.sqlite_trees.specs.declared.store.Shape.TheVariants.{Table};
 ghost use Rattle.sqlite_trees.specs.View.{IsClean};
@@ -10,20 +10,19 @@ ghost use Rattle.journal.specs.declared.state_row.FirstState.{FirstState as Firs
 ghost use Rattle.journal.specs.Rows.{value_rows};
 ghost use Rattle.journal.specs.StateRow.{state_row};
 ghost use Rattle.journal.specs.Tables.{Rewrites};
-ghost use Rattle.transaction_key.specs.TransactionKey.{key_place};
 
 use crate::contents::{EVENTS, HEADER, OBJECTS, OUTCOMES, PREPARED, STATES, TYPES};
 use crate::entry::Entry;
 use crate::event_row::{EventRow, put_group, some_of};
-use crate::header::{FORMAT, Header, KEYED_FORMAT};
+use crate::header::{FORMAT, Header, KEYED_FORMAT, NAMING_FORMAT};
 use crate::journal_error::JournalError;
 use crate::more_rows::append_each;
-use crate::new_table::{empty_epoch, make_anew};
+use crate::new_table::{empty_epoch, list_anew, make_anew};
+use crate::numbers::Numbers;
 use crate::object_row::TypeText;
-use crate::outcome_row::{KeyedOutcome, kept_at};
 use crate::prepared_row::Prepared;
 use crate::row_places::rows_of;
-use crate::schema::{OUTCOME_SQL, PREPARED_SQL};
+use crate::schema::{OBJECT_SQL, OUTCOME_SQL, PREPARED_SQL};
 use crate::state_row::FirstState;
 use crate::table::{MOST_ROWS, append, read_all, read_from};
 use event_text::EventGroup;
@@ -32,7 +31,6 @@ use sqlite_trees::store::{Alter, Store};
 use sqlite_value::row::Row;
 use std::alloc::Global;
 use store_text::ObjectLine;
-use transaction_key::TransactionKey;
 
 /// What a store did, in the tables of a file, by way of a store of trees: what is written, and what of it
 /// no crash can take away.
@@ -51,6 +49,9 @@ pub struct Journal<S: Store> {
     pub(crate) header: Header,
     // How many transactions were prepared in this epoch.
     pub(crate) prepared: u64,
+    pub(crate) numbers: Numbers,
+    // Up to which place rows of outcomes that are let go were looked for last.
+    pub(crate) swept: u64,
 }
 
 impl<S: Store> Journal<S> {
@@ -179,52 +180,6 @@ impl<S: Store> Journal<S> {
         Ok(())
     }
 
-    /// Keeps what became of a transaction at its key's place, and nothing else there. A crash may still take it away.
-    ///
-    /// # Errors
-    ///
-    /// `Foreign` where the file is of an older format, which the next life raises, and nothing changes; the file failed, or
-    /// memory was refused: the journal isn't to be used any more.
-    pub fn keep_outcome(&mut self, kept: &KeyedOutcome) -> Result<(), JournalError>
-        requires { IsJournal S.Store self.old }
-        ensures kept { OnOk result (IsJournal S.Store self.new) }
-        ensures written { OnOk result (Clean S.Store self.new → written S.Store self.new ≡ with_outcome (written S.Store self.old) kept.now) }
-        ensures durable { OnOk result (Clean S.Store self.new → durable S.Store self.new ≡ durable S.Store self.old) }
-        ensures header { self.new.header ≡ self.old.header }
-        ensures clean { Clean S.Store self.new → Clean S.Store self.old }
-        ensures crash { (db : Trees) → may_leave S.Store self.new db → may_leave S.Store self.old db }
-    {
-        if self.header.format < KEYED_FORMAT {
-            return Err(JournalError::Foreign);
-        }
-        let (store, row) = (&mut self.store, &mut self.row);
-        append(store, OUTCOMES, kept.key.place(), kept, row)?;
-        Ok(())
-    }
-
-    /// What is kept at the place of this key: of its transaction, or of one whose key has the same place.
-    ///
-    /// # Errors
-    ///
-    /// As `types`.
-    pub fn outcome(
-        &mut self,
-        alloc: Global,
-        key: &TransactionKey,
-    ) -> Result<Option<KeyedOutcome>, JournalError>
-        requires { IsJournal S.Store self.old }
-        ensures found { IfOk result (λ found. Clean S.Store self.new → found ≡ (written S.Store self.old).outcomes (key_place key.now)) }
-        ensures kept { OnOk result (IsJournal S.Store self.new) }
-        ensures written { OnOk result (Clean S.Store self.new → written S.Store self.new ≡ written S.Store self.old) }
-        ensures durable { OnOk result (Clean S.Store self.new → durable S.Store self.new ≡ durable S.Store self.old) }
-        ensures header { self.new.header ≡ self.old.header }
-        ensures shows { OnOk result (ShowsCommit S.Store self.old → ShowsCommit S.Store self.new) }
-        ensures clean { Clean S.Store self.new → Clean S.Store self.old }
-        ensures crash { (db : Trees) → may_leave S.Store self.new db → may_leave S.Store self.old db }
-    {
-        kept_at(alloc, &mut self.store, key.place(), &mut self.row)
-    }
-
     /// What the file says of itself.
     pub fn header(&self) -> &Header
         ensures { result.now ≡ self.now.header }
@@ -257,6 +212,8 @@ impl<S: Store> Journal<S> {
             pending: _,
             header: _,
             prepared: _,
+            numbers: _,
+            swept: _,
         } = self;
         store
     }
@@ -408,7 +365,8 @@ impl<S: Alter> Journal<S> {
         Ok(life)
     }
 
-    /// Makes the tables of a file of an older format anew that the newest one has otherwise: they have no row.
+    /// Lists the tables of a file of an older format anew that have columns more in the newest one, and makes those anew that
+    /// have no row.
     ///
     /// # Errors
     ///
@@ -422,16 +380,22 @@ impl<S: Alter> Journal<S> {
         ensures clean { Clean S.Store self.new → Clean S.Store self.old }
         ensures crash { (db : Trees) → may_leave S.Store self.new db → may_leave S.Store self.old db }
     {
-        if self.header.format >= KEYED_FORMAT {
+        if self.header.format >= FORMAT {
             return Ok(());
+        }
+        if self.header.format >= KEYED_FORMAT {
+            return list_anew(&mut self.store, OUTCOMES, "outcome", OUTCOME_SQL);
+        }
+        if self.header.format < NAMING_FORMAT {
+            list_anew(&mut self.store, OBJECTS, "object", OBJECT_SQL)?;
         }
         make_anew(&mut self.store, PREPARED, "prepared", PREPARED_SQL)?;
         make_anew(&mut self.store, OUTCOMES, "outcome", OUTCOME_SQL)?;
         Ok(())
     }
 
-    /// Begins another epoch, and another life with it: no event and no prepared transaction is left, and these are the
-    /// objects' states. A crash before the next commit takes all of it away.
+    /// Begins another epoch, and another life with it: no event and no prepared transaction is left, these are the objects'
+    /// states, and outcomes are let go since which as many were kept as stay at least. A crash before the next commit takes all of it away.
     ///
     /// # Errors
     ///
@@ -448,13 +412,14 @@ impl<S: Alter> Journal<S> {
         ensures clean { Clean S.Store self.new → Clean S.Store self.old }
         ensures crash { (db : Trees) → may_leave S.Store self.new db → may_leave S.Store self.old db }
     {
+        self.let_go()?;
         self.reset(states)?;
         self.begin_life()
     }
 
     /// Begins another epoch with more objects, and another life with it: no event and no prepared transaction is left,
-    /// these texts of types and objects are behind those that the file has, of which it has `known` texts, and these are
-    /// the states of all objects. A crash before the next commit takes all of it away.
+    /// these texts of types and objects are behind those that the file has, of which it has `known` texts, these are the
+    /// states of all objects, and outcomes are let go as by `begin_epoch`. A crash before the next commit takes all of it away.
     ///
     /// # Errors
     ///
@@ -481,6 +446,7 @@ impl<S: Alter> Journal<S> {
         ensures clean { Clean S.Store self.new → Clean S.Store self.old }
         ensures crash { (db : Trees) → may_leave S.Store self.new db → may_leave S.Store self.old db }
     {
+        self.let_go()?;
         self.extend(known, types, objects, states)?;
         self.begin_life()
     }
@@ -506,7 +472,7 @@ impl<S: Alter> Journal<S> {
         requires few_types { known + length types.now ≤ 2 ^ 62 }
         ensures kept { OnOk result (IsJournal S.Store self.new) }
         ensures header { self.new.header ≡ self.old.header }
-        ensures written { OnOk result (Clean S.Store self.new → written S.Store self.new ≡ extended (written S.Store self.old) types.now objects.now states.now) }
+        ensures written { OnOk result (Clean S.Store self.new → written S.Store self.new ≡ extended_at (written S.Store self.old) types.now objects.now states.now) }
         ensures durable { OnOk result (Clean S.Store self.new → durable S.Store self.new ≡ durable S.Store self.old) }
         ensures clean { Clean S.Store self.new → Clean S.Store self.old }
         ensures crash { (db : Trees) → may_leave S.Store self.new db → may_leave S.Store self.old db }
@@ -537,7 +503,7 @@ impl<S: Alter> Journal<S> {
         requires few { length states.now ≤ 65536 }
         ensures kept { OnOk result (IsJournal S.Store self.new) }
         ensures header { self.new.header ≡ self.old.header }
-        ensures written { OnOk result (Clean S.Store self.new → written S.Store self.new ≡ from_states (written S.Store self.old) states.now) }
+        ensures written { OnOk result (Clean S.Store self.new → written S.Store self.new ≡ at_states (written S.Store self.old) states.now) }
         ensures durable { OnOk result (Clean S.Store self.new → durable S.Store self.new ≡ durable S.Store self.old) }
         ensures clean { Clean S.Store self.new → Clean S.Store self.old }
         ensures crash { (db : Trees) → may_leave S.Store self.new db → may_leave S.Store self.old db }

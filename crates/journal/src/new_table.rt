@@ -3,7 +3,7 @@
 ghost use Rattle.std.specs.Prelude.{◌≡◌, OnOk};
 ghost use Rattle.sqlite_trees.specs.Tree.{Trees};
 ghost use Rattle.sqlite_trees.specs.View.{IsClean};
-ghost use Rattle.journal.specs.EmptyTable.{Empties, EmptiesEpoch, MayEmpty};
+ghost use Rattle.journal.specs.EmptyTable.{Empties, EmptiesEpoch, IsListedAnew, ListsAnew, MayEmpty};
 ghost use Rattle.journal.specs.Journal.{IsRemade};
 
 use crate::contents::{EVENTS, PREPARED};
@@ -39,6 +39,35 @@ pub fn make_anew<S: Alter>(
     };
     store.destroy(tree)?;
     store.create(tree, &object)?;
+    Ok(())
+}
+
+/// Lists a table anew by this statement, which has columns more: its rows stay.
+///
+/// # Errors
+///
+/// The file failed, or memory was refused.
+pub fn list_anew<S: Alter>(
+    store: &mut S,
+    tree: u32,
+    name: &str,
+    sql: &str,
+) -> Result<(), JournalError>
+    requires may { IsClean (S.Store.view store.old) → MayEmpty (S.Store.view store.old) }
+    requires listed { IsListedAnew tree name.now }
+    ensures ok { OnOk result (IsClean (S.Store.view store.new) → ListsAnew (S.Store.view store.old) (S.Store.view store.new)) }
+    ensures clean { IsClean (S.Store.view store.new) → IsClean (S.Store.view store.old) }
+    ensures crash { (db : Trees) → S.Store.recovers store.new db → S.Store.recovers store.old db }
+{
+    let object = Object {
+        shape: Shape::Table,
+        kind: "table",
+        name,
+        table: name,
+        reals: store.reals(tree),
+        sql: Some(sql),
+    };
+    store.relist(&[(tree, object)])?;
     Ok(())
 }
 

@@ -1,16 +1,16 @@
 //! What became of a transaction that has a key, as a row.
 
-ghost use Rattle.std.specs.Prelude.{◌≡◌, ◌<◌, ◌^◌, IfOk, IfSome, OnOk};
-ghost use Rattle.std.specs.Str.{bytes_eq};
+ghost use Rattle.std.specs.Prelude.{◌≡◌, ◌<◌, ◌^◌, false, IfOk, IfSome, OnOk, option_map};
 ghost use Rattle.sqlite_value.specs.Order.{column};
 ghost use Rattle.sqlite_value.specs.declared.value.Value.TheVariants.{Text};
-ghost use Rattle.sqlite_trees.specs.Tree.{Trees};
-ghost use Rattle.sqlite_trees.specs.View.{IsClean};
-ghost use Rattle.journal.specs.OutcomeRow.{outcome_at, outcome_keyed, outcome_read_back, outcome_replies, outcome_row, outcome_told, outcome_word};
+ghost use Rattle.sqlite_trees.specs.Tree.{Trees, put_row};
+ghost use Rattle.sqlite_trees.specs.View.{IsClean, KeepsSchema, SetsTree};
+ghost use Rattle.transaction_key.specs.TransactionKey.{key_place};
+ghost use Rattle.journal.specs.OutcomeRow.{kept_row, outcome_replies, outcome_row, outcome_told, outcome_word};
+ghost use Rattle.journal.specs.Outcomes.{staying_from};
 
-use crate::cells::{begin_row, is_at, is_text, rowid_of, text_in};
+use crate::cells::{begin_row, is_text, long_number, rowid_of, text_in};
 use crate::contents::OUTCOMES;
-use crate::entry::{Entry, FilledEntry};
 use crate::journal_error::JournalError;
 use sqlite_trees::store::{Shape, Store};
 use sqlite_value::row::Row;
@@ -25,6 +25,8 @@ const KEY: usize = 2;
 const HOW: usize = 3;
 
 const REPLIES: usize = 4;
+
+pub const NUMBER: usize = 5;
 
 /// What became of a transaction that has a key.
 #[derive(Drop)]
@@ -94,43 +96,70 @@ pub struct KeyedOutcome {
     pub outcome: Outcome,
 }
 
-/// A row of the key, a word and the replies, whose position is the key's place.
-impl Entry for KeyedOutcome {
-    ghost row_at = { outcome_row };
-
-    ghost told_by = { outcome_told };
-
-    ghost keyed = { outcome_keyed };
-
-    ghost read_back = { outcome_read_back };
-
-    fn read(alloc: Global, position: u64, row: &Row) -> Result<Option<KeyedOutcome>, AllocError> {
-        if row.len() != REPLIES + 1 || !is_at(row, position) {
-            return Ok(None);
-        }
-        let Some(key) = key_in(row) else {
-            return Ok(None);
-        };
-        match outcome_in(alloc, row)? {
-            Some(outcome) => Ok(Some(KeyedOutcome { key, outcome })),
-            None => Ok(None),
-        }
-    }
+/// What is kept at a place, and which it was of all that were ever kept in the file: the first is 1, and 0 says that a
+/// program kept it which numbered none.
+#[derive(Drop)]
+pub struct KeptOutcome {
+    pub kept: KeyedOutcome,
+    pub number: u64,
 }
 
-/// As that row it is written.
-impl FilledEntry for KeyedOutcome {
-    fn fill(&self, position: u64, row: &mut Row) -> Result<(), AllocError> {
-        begin_row(row, position)?;
-        row.push(ValueRef::Text(self.key.as_bytes()))?;
-        row.push(ValueRef::Text(self.outcome.word()))?;
-        row.push(ValueRef::Text(self.outcome.replies()))
-    }
+/// Writes an outcome with this number at its key's place. A crash may still take it away.
+///
+/// # Errors
+///
+/// The store failed, or memory was refused.
+pub fn put_outcome<S: Store>(
+    store: &mut S,
+    kept: &KeyedOutcome,
+    number: u64,
+    row: &mut Row,
+) -> Result<(), JournalError>
+    requires number { (0 < number) × (number < 2 ^ 62) }
+    requires shape { IsClean (S.Store.view store.old) → (S.Store.view store.old).shape 6 ≡ Shape.Table }
+    ensures ok { OnOk result (IsClean (S.Store.view store.new) → SetsTree (S.Store.view store.old) (S.Store.view store.new) 6 (put_row (outcome_row (key_place kept.now.key) (record { kept = kept.now; number = number })))) }
+    ensures clean { IsClean (S.Store.view store.new) → IsClean (S.Store.view store.old) }
+    ensures schema { KeepsSchema (S.Store.view store.old) (S.Store.view store.new) }
+    ensures crash { (db : Trees) → S.Store.recovers store.new db → S.Store.recovers store.old db }
+{
+    fill_outcome(kept, number, row)?;
+    store.put(OUTCOMES, row)?;
+    Ok(())
+}
 
-    fn is_same(&self, other: &Self) -> bool {
-        self.key == other.key
-            && self.outcome.word() == other.outcome.word()
-            && self.outcome.replies() == other.outcome.replies()
+/// Writes the row of an outcome with this number over `row`.
+///
+/// # Errors
+///
+/// Memory was refused.
+fn fill_outcome(kept: &KeyedOutcome, number: u64, row: &mut Row) -> Result<(), AllocError>
+    requires { (0 < number) × (number < 2 ^ 62) }
+    ensures { OnOk result (row.new ≡ outcome_row (key_place kept.now.key) (record { kept = kept.now; number = number })) }
+{
+    begin_row(row, kept.key.place())?;
+    row.push(ValueRef::Text(kept.key.as_bytes()))?;
+    row.push(ValueRef::Text(kept.outcome.word()))?;
+    row.push(ValueRef::Text(kept.outcome.replies()))?;
+    row.push(ValueRef::Int(rowid_of(number)))
+}
+
+/// What a row says is kept, where a store writes such a row.
+///
+/// # Errors
+///
+/// Memory was refused.
+fn read_outcome(alloc: Global, row: &Row) -> Result<Option<KeptOutcome>, AllocError>
+    ensures { IfOk result (λ found. IfSome found (λ o. outcome_told row.now ≡ o)) }
+{
+    let (Some(key), Some(number)) = (key_in(row), long_number(row, NUMBER)) else {
+        return Ok(None);
+    };
+    match outcome_in(alloc, row)? {
+        Some(outcome) => {
+            let kept = KeyedOutcome { key, outcome };
+            Ok(Some(KeptOutcome { kept, number }))
+        }
+        None => Ok(None),
     }
 }
 
@@ -158,7 +187,7 @@ fn outcome_in(alloc: Global, row: &Row) -> Result<Option<Outcome>, AllocError>
     Ok(Some(Outcome::Committed(ReplyText { text })))
 }
 
-/// What is kept at this place, where something is.
+/// What is kept at this place, where something is, also where it is let go.
 ///
 /// # Errors
 ///
@@ -168,19 +197,53 @@ pub fn kept_at<S: Store>(
     store: &mut S,
     place: u64,
     row: &mut Row,
-) -> Result<Option<KeyedOutcome>, JournalError>
+) -> Result<Option<KeptOutcome>, JournalError>
     requires low { place < 2 ^ 62 }
     requires shape { IsClean (S.Store.view store.old) → (S.Store.view store.old).shape 6 ≡ Shape.Table }
-    ensures found { IfOk result (λ found. IsClean (S.Store.view store.new) → found ≡ outcome_at ((S.Store.view store.old).trees 6) place) }
+    ensures found { IfOk result (λ found. IsClean (S.Store.view store.new) → found ≡ kept_row ((S.Store.view store.old).trees 6) place) }
+    ensures sound { OnOk result (IsClean (S.Store.view store.new) → (S.Store.view store.old).is_broken ≡ false) }
     ensures same { OnOk result (IsClean (S.Store.view store.new) → S.Store.view store.new ≡ S.Store.view store.old) }
     ensures clean { IsClean (S.Store.view store.new) → IsClean (S.Store.view store.old) }
+    ensures schema { KeepsSchema (S.Store.view store.old) (S.Store.view store.new) }
     ensures crash { (db : Trees) → S.Store.recovers store.new db → S.Store.recovers store.old db }
 {
     if !store.get(OUTCOMES, rowid_of(place), row)? {
         return Ok(None);
     }
-    match KeyedOutcome::read(alloc, place, row)? {
+    match read_outcome(alloc, row)? {
         Some(kept) => Ok(Some(kept)),
         None => Err(JournalError::Foreign),
+    }
+}
+
+/// What is kept at this place and stays, where the first number that does is this one.
+///
+/// # Errors
+///
+/// As `kept_at`.
+pub fn staying_at<S: Store>(
+    alloc: Global,
+    store: &mut S,
+    place: u64,
+    first: u64,
+    row: &mut Row,
+) -> Result<Option<KeyedOutcome>, JournalError>
+    requires low { place < 2 ^ 62 }
+    requires shape { IsClean (S.Store.view store.old) → (S.Store.view store.old).shape 6 ≡ Shape.Table }
+    ensures found { IfOk result (λ found. IsClean (S.Store.view store.new) → found ≡ option_map (λ o. o.kept) (staying_from first (kept_row ((S.Store.view store.old).trees 6) place))) }
+    ensures sound { OnOk result (IsClean (S.Store.view store.new) → (S.Store.view store.old).is_broken ≡ false) }
+    ensures same { OnOk result (IsClean (S.Store.view store.new) → S.Store.view store.new ≡ S.Store.view store.old) }
+    ensures clean { IsClean (S.Store.view store.new) → IsClean (S.Store.view store.old) }
+    ensures schema { KeepsSchema (S.Store.view store.old) (S.Store.view store.new) }
+    ensures crash { (db : Trees) → S.Store.recovers store.new db → S.Store.recovers store.old db }
+{
+    match kept_at(alloc, store, place, row)? {
+        Some(found) => {
+            if found.number < first {
+                return Ok(None);
+            }
+            Ok(Some(found.kept))
+        }
+        None => Ok(None),
     }
 }

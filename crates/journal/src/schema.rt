@@ -13,9 +13,13 @@ pub const PREPARED_SQL: &str =
     "CREATE TABLE prepared (position INTEGER PRIMARY KEY, key TEXT NOT NULL, s INTEGER NOT NULL, n INTEGER NOT NULL, number INTEGER NOT NULL, until INTEGER NOT NULL)";
 
 /// The statement that makes the table of what became of transactions that have keys. Formats 1 to 5 have another one,
-/// which is empty.
+/// which is empty; that of the formats 6 and 7 has four columns, and its rows stay, without a number, where it is listed anew.
 pub const OUTCOME_SQL: &str =
-    "CREATE TABLE outcome (place INTEGER PRIMARY KEY, key TEXT NOT NULL, how TEXT NOT NULL, replies TEXT NOT NULL)";
+    "CREATE TABLE outcome (place INTEGER PRIMARY KEY, key TEXT NOT NULL, how TEXT NOT NULL, replies TEXT NOT NULL, number INTEGER, first INTEGER, least INTEGER)";
+
+/// The statement that makes the table of objects. Formats 1 to 3 have no column for a name.
+pub const OBJECT_SQL: &str =
+    "CREATE TABLE object (x INTEGER PRIMARY KEY, kind TEXT NOT NULL, type INTEGER NOT NULL, name TEXT)";
 
 /// Each table's name and the statement that makes it, in the order of their numbers.
 pub const TABLES: [(&str, &str); 7] = [
@@ -28,10 +32,7 @@ pub const TABLES: [(&str, &str); 7] = [
         "type",
         "CREATE TABLE type (number INTEGER PRIMARY KEY, text TEXT NOT NULL)",
     ),
-    (
-        "object",
-        "CREATE TABLE object (x INTEGER PRIMARY KEY, kind TEXT NOT NULL, type INTEGER NOT NULL, name TEXT)",
-    ),
+    ("object", OBJECT_SQL),
     (
         "snapshot",
         "CREATE TABLE snapshot (x INTEGER PRIMARY KEY, state INTEGER NOT NULL)",

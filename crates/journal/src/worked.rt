@@ -1,15 +1,17 @@
 //! Worked examples of the definitions: each function does nothing, and its contract is the example.
 #![tactic(auto, unfolding(event_text::specs::EventText::event_lines))]
 
-ghost use Rattle.std.specs.Prelude.{◌≡◌, [], ◌∷◌, None, Some, codes, pos};
+ghost use Rattle.std.specs.Prelude.{◌≡◌, [], ◌∷◌, None, Some, codes, negsuc, pos};
 ghost use Rattle.object_trait.specs.declared.event.EventKind.TheVariants.{Begin, Commit, Op};
 ghost use Rattle.sqlite_value.specs.declared.value.Value.TheVariants.{Int, Null, Text};
 ghost use Rattle.journal.specs.declared.event_row.EventRow.TheVariants.{Lines, Single};
 ghost use Rattle.journal.specs.declared.outcome_row.Outcome.TheVariants.{Aborted, Committed};
 ghost use Rattle.journal.specs.Contents.{IsFile, contents_of};
 ghost use Rattle.journal.specs.EventRow.{event_row, events_in_rows, row_starts};
-ghost use Rattle.journal.specs.Examples.{prepared_order, small_file};
-ghost use Rattle.journal.specs.OutcomeRow.{outcome_at, outcome_row};
+ghost use Rattle.journal.specs.Examples.{prepared_order, seven_and_nine, small_file, two_outcomes};
+ghost use Rattle.journal.specs.Numbers.{numbers_row};
+ghost use Rattle.journal.specs.Outcomes.{let_go, no_outcomes, outcomes_of, outcomes_with};
+ghost use Rattle.journal.specs.OutcomeRow.{kept_row, outcome_row};
 ghost use Rattle.journal.specs.PreparedRow.{prepared_row, prepared_told};
 ghost use Rattle.journal.specs.RowPlaces.{AreBefore, HaveEvents};
 
@@ -30,12 +32,22 @@ pub fn rows_that_have_events()
     ensures none { AreBefore (0 ∷ 3 ∷ 4 ∷ []) 2 0 }
 {}
 
-/// An order was committed with two replies, another one aborted, in two rows; a third place has none.
+/// An order was committed with two replies as the fifth, another one aborted by a program that numbered none; a third place has none.
 pub fn rows_of_outcomes()
-    ensures committed { outcome_row 7 (record { key = codes "order:7"; outcome = Committed (codes "taken ok") }) ≡ Int (pos 7) ∷ Null ∷ Text (codes "order:7") ∷ Text (codes "committed") ∷ Text (codes "taken ok") ∷ [] }
-    ensures aborted { outcome_row 9 (record { key = codes "order:9"; outcome = Aborted }) ≡ Int (pos 9) ∷ Null ∷ Text (codes "order:9") ∷ Text (codes "aborted") ∷ Text [] ∷ [] }
-    ensures found { outcome_at (outcome_row 7 (record { key = codes "order:7"; outcome = Committed [] }) ∷ outcome_row 9 (record { key = codes "order:9"; outcome = Aborted }) ∷ []) 9 ≡ Some (record { key = codes "order:9"; outcome = Aborted }) }
-    ensures none { outcome_at (outcome_row 7 (record { key = codes "order:7"; outcome = Committed [] }) ∷ outcome_row 9 (record { key = codes "order:9"; outcome = Aborted }) ∷ []) 8 ≡ None }
+    ensures committed { outcome_row 7 (record { kept = record { key = codes "order:7"; outcome = Committed (codes "taken ok") }; number = 5 }) ≡ Int (pos 7) ∷ Null ∷ Text (codes "order:7") ∷ Text (codes "committed") ∷ Text (codes "taken ok") ∷ Int (pos 5) ∷ [] }
+    ensures aborted { outcome_row 9 (record { kept = record { key = codes "order:9"; outcome = Aborted }; number = 0 }) ≡ Int (pos 9) ∷ Null ∷ Text (codes "order:9") ∷ Text (codes "aborted") ∷ Text [] ∷ [] }
+    ensures found { kept_row two_outcomes 9 ≡ Some (record { kept = record { key = codes "order:9"; outcome = Aborted }; number = 0 }) }
+    ensures none { kept_row two_outcomes 8 ≡ None }
+{}
+
+/// Where as many are kept as two, and the next is the sixth, what was kept as the fourth or later stays: the fifth does, and one without a number goes.
+pub fn outcomes_that_stay()
+    ensures numbers { numbers_row (record { next = 6; first = 4; least = 2 }) ≡ Int (negsuc 0) ∷ Null ∷ Text [] ∷ Text (codes "numbers") ∷ Text [] ∷ Int (pos 6) ∷ Int (pos 4) ∷ Int (pos 2) ∷ [] }
+    ensures before { (outcomes_of (record { next = 6; first = 0; least = 2 }) seven_and_nine).at 9 ≡ Some (record { key = codes "order:9"; outcome = Aborted }) }
+    ensures goes { (let_go (outcomes_of (record { next = 6; first = 0; least = 2 }) seven_and_nine)).at 9 ≡ None }
+    ensures stays { (let_go (outcomes_of (record { next = 6; first = 0; least = 2 }) seven_and_nine)).numbers 7 ≡ 5 }
+    ensures after { (outcomes_of (record { next = 6; first = 4; least = 2 }) seven_and_nine).at 9 ≡ None }
+    ensures more { (outcomes_with no_outcomes (record { key = codes "order:9"; outcome = Aborted })).next ≡ 2 }
 {}
 
 /// A prepared transaction is a row of its position, its key, the name that its client has, its number and how long it waits.

@@ -1,7 +1,7 @@
 use Rattle.std.proofs.Common.{◌≡◌, ◌∙◌, SFits, arith, subst, to_z-of_z, w64}
 use Rattle.std.specs.Prelude.{IfSome}
 use Rattle.sqlite_trees.specs.View.{Finds}
-use Rattle.journal.specs.OutcomeRow.{outcome_row}
+use Rattle.journal.specs.OutcomeRow.{outcome_told}
 use Rattle.journal.proofs.Outcomes.{none-there, one-there}
 use Rattle.journal.proofs.outcome_row.kept_at.Goals as goal
 
@@ -17,5 +17,5 @@ returns-in-Some-clause-found g c = λ clean.
     let rows = (g.S.Store.view c.args.store.now).trees 6 in
     let fits : SFits w64 c.rowid_of.result = rw c.rowid_of.ensures (omega (arith, c.requires.low)) in
     let finds = subst (λ id. Finds rows id c.get.new.row c.in_ok-get.field-0) (to_z-of_z fits ∙ c.rowid_of.ensures) (c.in_ok-get.ensures.ok clean) in
-    let read = subst (λ f. IfSome f (λ o. c.get.new.row ≡ outcome_row c.args.place o)) c.in-Some.is c.in_ok-kept.ensures in
+    let read = subst (λ f. IfSome f (λ o. outcome_told c.get.new.row ≡ o)) c.in-Some.is c.in_ok-kept.ensures in
     one-there rows c.args.place c.get.new.row c.in_ok-get.field-0 c.in-Some.kept c.if-not-branch.false finds read

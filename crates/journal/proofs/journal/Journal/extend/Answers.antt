@@ -1,9 +1,9 @@
 use Rattle.std.proofs.Common.{◌≡◌, ◌≤◌, ◌-◌, ◌++◌, ℕ, List, ap, drop, length, sym, take, ◌∙◌, arith}
 use Rattle.std.proofs.lemmas.List.{length-drop, length-take-le, take-append-drop, take_all}
 use Rattle.journal.specs.declared.state_row.FirstState.{FirstState}
-use Rattle.journal.specs.Contents.{contents_of, extended, with_pending}
+use Rattle.journal.specs.Contents.{contents_of, extended_at, with_pending}
 use Rattle.journal.specs.Journal.{written}
-use Rattle.journal.proofs.Extended.{begins-anew, extends}
+use Rattle.journal.proofs.Extended.{begins-anew, extends, extends-numbers}
 use Rattle.journal.proofs.Writes.{none-pending}
 use Rattle.journal.proofs.journal.Journal.extend.Goals as goal
 
@@ -27,6 +27,9 @@ returns-clause-kept g c = λ clean.
           was.0 (c.in_ok-empty_epoch.ensures.ok none) (c.in_ok-rewrite_states.ensures.ok first) (c.in_ok-append_each.ensures.ok all) (c.in_ok-append_each-2.ensures.ok typed)
           (c.in_ok-append_each-3.ensures.ok clean) (length-take-le count states low) (sym (c.requires.known before)) (c.requires.objects before ∙ omega (arith, c.requires.as_many before))),
       rw c.clear-2.ensures (omega arith),
+      extends-numbers _ (g.S.Store.view c.empty_epoch.new.store) (g.S.Store.view c.rewrite_states.new.store) (g.S.Store.view c.append_each.new.store) (g.S.Store.view c.append_each-2.new.store) _ _ _ _ _ _ _ _ _ _ _
+          was.0 (c.in_ok-empty_epoch.ensures.ok none) (c.in_ok-rewrite_states.ensures.ok first) (c.in_ok-append_each.ensures.ok all) (c.in_ok-append_each-2.ensures.ok typed)
+          (c.in_ok-append_each-3.ensures.ok clean) (length-take-le count states low) (sym (c.requires.known before)) (c.requires.objects before ∙ omega (arith, c.requires.as_many before)) c.args.self.now.numbers was.2,
     )
 
 pub returns-clause-written : goal.returns-clause-written
@@ -46,4 +49,4 @@ returns-clause-written g c = λ clean.
     ∙ extends _ (g.S.Store.view c.empty_epoch.new.store) (g.S.Store.view c.rewrite_states.new.store) (g.S.Store.view c.append_each.new.store) (g.S.Store.view c.append_each-2.new.store) _ _ _ _ _ _ _ _ _ _ _
     was.0 (c.in_ok-empty_epoch.ensures.ok none) (c.in_ok-rewrite_states.ensures.ok first) (c.in_ok-append_each.ensures.ok all) (c.in_ok-append_each-2.ensures.ok typed)
     (c.in_ok-append_each-3.ensures.ok clean) (length-take-le count states low) (sym (c.requires.known before)) (c.requires.objects before ∙ omega (arith, c.requires.as_many before))
-    ∙ ap (extended (written g.S.Store c.args.self.now) c.args.types.now c.args.objects.now) (halves count states)
+    ∙ ap (extended_at (written g.S.Store c.args.self.now) c.args.types.now c.args.objects.now) (halves count states)

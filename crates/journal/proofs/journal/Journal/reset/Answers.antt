@@ -1,6 +1,6 @@
 use Rattle.std.proofs.Common.{ap, arith, ◌∙◌}
 use Rattle.journal.specs.Contents.{contents_of, with_pending}
-use Rattle.journal.proofs.Rewritten.{from-states, resets}
+use Rattle.journal.proofs.Rewritten.{at-states, resets, resets-numbers}
 use Rattle.journal.proofs.Writes.{none-pending}
 use Rattle.journal.proofs.journal.Journal.reset.Goals as goal
 
@@ -10,6 +10,7 @@ returns-clause-kept g c = λ clean.
     let was = c.requires.journal (c.empty_epoch.ensures.clean between) in (
       rw c.clear.ensures.items (resets _ (g.S.Store.view c.empty_epoch.new.store) _ _ _ _ _ _ was.0 (c.in_ok-empty_epoch.ensures.ok between) (c.in_ok-rewrite_states.ensures.ok clean)),
       rw c.clear-2.ensures (omega arith),
+      resets-numbers _ (g.S.Store.view c.empty_epoch.new.store) _ _ _ _ _ _ was.0 (c.in_ok-empty_epoch.ensures.ok between) (c.in_ok-rewrite_states.ensures.ok clean) c.args.self.now.numbers was.2,
     )
 
 pub returns-clause-written : goal.returns-clause-written
@@ -19,4 +20,4 @@ returns-clause-written g c = λ clean.
     let new = g.S.Store.view c.rewrite_states.new.store in
     ap (with_pending (contents_of new.trees)) c.clear-2.ensures
     ∙ none-pending (contents_of new.trees)
-    ∙ from-states _ (g.S.Store.view c.empty_epoch.new.store) _ _ _ _ _ _ was.0 (c.in_ok-empty_epoch.ensures.ok between) (c.in_ok-rewrite_states.ensures.ok clean)
+    ∙ at-states _ (g.S.Store.view c.empty_epoch.new.store) _ _ _ _ _ _ was.0 (c.in_ok-empty_epoch.ensures.ok between) (c.in_ok-rewrite_states.ensures.ok clean)
