@@ -12,8 +12,8 @@ use Rattle.history_judge.specs.declared.outcome.AuditFault.{AuditFault}
 use Rattle.history_judge.specs.declared.outcome.AuditFault.TheVariants.{BadEvent, IllegalOp, NoMemory}
 use Rattle.sqlite_trees.specs.Tree.{Trees}
 use Rattle.journal.specs.declared.contents.FileContents.{FileContents}
-use Rattle.journal.specs.declared.outcome_row.KeyedOutcome.{KeyedOutcome}
 use Rattle.journal.specs.Contents.{Contents}
+use Rattle.journal.specs.Outcomes.{Outcomes}
 use Rattle.journal.specs.Said.{contents, contents_beside}
 use Rattle.durable_store.specs.Types.{HasTypes}
 use Rattle.durable_store.specs.Durable.{events_of_kinds}
@@ -47,7 +47,7 @@ says c (Err (IllegalOp i x j)) lines is No text of same =
     (IllegalOp i x j, (λ clash. let c' = clash in cc), subst (λ (t : List ℕ). IsAuditOfContents c (Err (IllegalOp i x j)) t) (sym same) is)
 
 -- what keys say is nothing to an audit
-pub beside_keys : (outcomes : ℕ → Option KeyedOutcome) (said : FileContents) (v : Verdict) (text : List ℕ) → AuditsContents (contents said) v text → AuditsContents (contents_beside outcomes said) v text
+pub beside_keys : (outcomes : Outcomes) (said : FileContents) (v : Verdict) (text : List ℕ) → AuditsContents (contents said) v text → AuditsContents (contents_beside outcomes said) v text
 beside_keys outcomes said Yes text told = (told.0, record { types = told.1.types; are = told.1.are; audits = told.1.audits; is = told.1.is })
 beside_keys outcomes said No text told = (told.0, told.1, record { types = told.2.types; are = told.2.are; audits = told.2.audits; is = told.2.is })
 

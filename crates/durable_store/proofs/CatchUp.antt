@@ -47,7 +47,7 @@ caught-up g d count new es (Ok x) late are rest kept more same was crash = recor
   named = λ clean. subst (λ (c : Contents). IndexesNames c.objects d.names) (sym (more clean)) (late.named (was clean));
   prepared = λ clean.
       let c = written g d.journal in
-      subst (λ (now : Contents). ArePrepared d.store.history now d.prepared.items) (sym (more clean)) (prepared-alike d.store.history c (with_all c es) d.prepared.items refl refl (are (was clean)));
+      subst (λ (now : Contents). ArePrepared d.store.history now d.prepared.items) (sym (more clean)) (prepared-alike d.store.history c (with_all c es) d.prepared.items refl (λ n empty. empty) (are (was clean)));
   strong = late.strong;
 }
 

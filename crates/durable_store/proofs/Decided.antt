@@ -1,12 +1,10 @@
 -- A decision ends the one who is prepared under its key.
-use Rattle.std.proofs.Common.{◌≡◌, ◌∙◌, ℕ, true, false, not, if◌then◌else◌, List, [], ◌∷◌, ◌++◌, Some, None, is_some, drop, length, Result, Ok, sym, ap, subst, refl}
+use Rattle.std.proofs.Common.{◌≡◌, ◌∙◌, ℕ, true, false, not, if◌then◌else◌, List, [], ◌∷◌, ◌++◌, Some, None, is_some, drop, length, Result, Ok, sym, ap, subst}
 use Rattle.sqlite_trees.specs.declared.store.Store.{Ghosts}
-use Rattle.object_trait.specs.declared.event.Event.{Event}
 use Rattle.object_trait.specs.declared.event.EventKind.{EventKind}
 use Rattle.object_trait.specs.declared.event.EventKind.TheVariants as kind
 use Rattle.serial_order.specs.History.{is_open, summary}
 use Rattle.serial_order.specs.Operations.{is_among}
-use Rattle.serial_order.specs.declared.command.Command.{Command}
 use Rattle.serial_order.specs.declared.refusal.Refusal.{Refusal}
 use Rattle.serial_order.specs.declared.refusal.Refusal.TheVariants.{NotOpen}
 use Rattle.store_laws.specs.Stored.{Steps, Stored, refusal_of}

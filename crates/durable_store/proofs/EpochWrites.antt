@@ -1,5 +1,5 @@
 -- A new epoch is begun in the file, and the store's first events of it are what the journal hasn't yet.
-use Rattle.std.proofs.Common.{◌≡◌, ◌↔◌, ◌∙◌, ℕ, ◌+◌, suc, true, List, [], ◌∷◌, ◌++◌, take, drop, refl, sym, ap, subst, arith}
+use Rattle.std.proofs.Common.{◌≡◌, ◌↔◌, ◌∙◌, ℕ, ◌+◌, suc, true, None, List, [], ◌∷◌, ◌++◌, take, drop, refl, sym, ap, subst, arith}
 use Rattle.sqlite_trees.specs.declared.store.Store.{Ghosts}
 use Rattle.sqlite_trees.specs.Tree.{Trees}
 use Rattle.object_trait.specs.declared.event.Event.{Event}
@@ -87,12 +87,12 @@ grown-behind g d new texts lines states life sound are kept is same was crash =
     kept (λ clean. is clean ∙ ap (λ ss. in_life (extended c texts lines ss) life) are) same was crash
 
 -- what is prepared is still to be written
-pub first-prepared : (H K : List Event) (c begun d : Contents) (ps qs : List Prepared) → K ≡ H → qs ≡ ps → begun ≡ d → d.prepared ≡ [] → d.outcomes ≡ c.outcomes → ArePrepared H (record c { prepared = ps }) ps
+pub first-prepared : (H K : List Event) (c begun d : Contents) (ps qs : List Prepared) → K ≡ H → qs ≡ ps → begun ≡ d → d.prepared ≡ [] → ((n : ℕ) → c.outcomes.at n ≡ None → d.outcomes.at n ≡ None) → ArePrepared H (record c { prepared = ps }) ps
     → ArePrepared K (with_all_prepared begun qs) qs
-first-prepared H K c begun d ps qs history same is none kept are =
+first-prepared H K c begun d ps qs history same is none free are =
     subst (λ K. ArePrepared K (with_all_prepared begun qs) qs) (sym history)
     (subst (λ (rs : List Prepared). ArePrepared H (with_all_prepared begun rs) rs) (sym same)
-    (prepared-alike H (record c { prepared = ps }) (with_all_prepared begun ps) ps (ap (λ rs. rs ++ ps) (sym none) ∙ ap (λ (b : Contents). b.prepared ++ ps) (sym is)) (sym kept ∙ ap (λ (b : Contents). b.outcomes) (sym is)) are))
+    (prepared-alike H (record c { prepared = ps }) (with_all_prepared begun ps) ps (ap (λ rs. rs ++ ps) (sym none) ∙ ap (λ (b : Contents). b.prepared ++ ps) (sym is)) (λ n empty. subst (λ (b : Contents). b.outcomes.at n ≡ None) (sym is) (free n empty)) are))
 
 -- ---- the rest is written
 

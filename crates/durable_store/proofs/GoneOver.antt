@@ -1,5 +1,5 @@
 -- What is prepared goes over into the next epoch: all of it is open there.
-use Rattle.std.proofs.Common.{◌≡◌, ◌≢◌, ◌∙◌, ℕ, suc, ◌+◌, ◌<◌, Bool, true, not, ◌&&◌, nat_lt, Option, None, List, [], ◌∷◌, ◌++◌, map, length, refl, sym, ap, subst, lt-ltb, arith}
+use Rattle.std.proofs.Common.{◌≡◌, ◌≢◌, ◌∙◌, ℕ, suc, ◌+◌, ◌<◌, Bool, true, not, ◌&&◌, nat_lt, None, List, [], ◌∷◌, ◌++◌, map, length, refl, sym, ap, subst, lt-ltb, arith}
 use Rattle.std.specs.List.{AllByRecursion}
 use Rattle.type_table.proofs.Elements.{each-map, each-weaker, filter-all}
 use Rattle.transaction_key.specs.TransactionKey.{key_place}
@@ -10,7 +10,6 @@ use Rattle.serial_order.specs.Operations.{is_among}
 use Rattle.serial_order.specs.declared.entry.Entry.{Entry}
 use Rattle.carried_runs.specs.Carried.{begins_from, carried_by, done_again, number_in}
 use Rattle.carried_runs.proofs.Renumbering.{number-below}
-use Rattle.journal.specs.declared.outcome_row.KeyedOutcome.{KeyedOutcome}
 use Rattle.journal.specs.declared.prepared_row.Prepared.{Prepared}
 use Rattle.journal.specs.Contents.{Contents}
 use Rattle.durable_store.specs.Held.{ArePrepared, moved_among, undecided}
@@ -48,13 +47,13 @@ carried-open worker P U i low =
 
 -- ---- what is prepared
 
--- it depends on nothing else that a file says
-pub prepared-alike : (H : List Event) (c d : Contents) (ps : List Prepared) → c.prepared ≡ d.prepared → c.outcomes ≡ d.outcomes → ArePrepared H c ps → ArePrepared H d ps
-prepared-alike H c d ps rows kept are = record {
+-- it depends on nothing else that a file says, and where nothing is kept at a place nothing has to be later
+pub prepared-alike : (H : List Event) (c d : Contents) (ps : List Prepared) → c.prepared ≡ d.prepared → ((n : ℕ) → c.outcomes.at n ≡ None → d.outcomes.at n ≡ None) → ArePrepared H c ps → ArePrepared H d ps
+prepared-alike H c d ps rows free are = record {
   begun = subst (λ rs. AllByRecursion (λ (p : Prepared). p.number < begins H) rs) rows are.begun;
   are = are.are ∙ ap (undecided H) rows;
   apart = are.apart;
-  free = subst (λ (o : ℕ → Option KeyedOutcome). AllByRecursion (λ (p : Prepared). o (key_place p.key) ≡ None) ps) kept are.free;
+  free = each-weaker {P = λ (p : Prepared). c.outcomes.at (key_place p.key) ≡ None} {Q = λ (p : Prepared). d.outcomes.at (key_place p.key) ≡ None} (λ p empty. free (key_place p.key) empty) ps are.free;
 }
 
 -- it is prepared there too, with the numbers that it has there
@@ -72,5 +71,5 @@ gone-over worker those order H c ps are mine =
           (each-map (λ (p : Prepared). is_open (summary K) p.number ≡ true) (moved_among those) ps
           (each-weaker (λ (p : Prepared) inside. carried-open worker those order (number_in those p.number) (low p inside)) ps mine)));
       apart = pairs-map (λ (p q : Prepared). key_place p.key ≢ key_place q.key) (moved_among those) (λ (p q : Prepared) differ. differ) ps are.apart;
-      free = each-map (λ (p : Prepared). c.outcomes (key_place p.key) ≡ None) (moved_among those) ps are.free;
+      free = each-map (λ (p : Prepared). c.outcomes.at (key_place p.key) ≡ None) (moved_among those) ps are.free;
     }

@@ -1,5 +1,5 @@
 -- A store that has begun anew with more objects is ahead of its journal: their types are those of a file that has their texts and lines too.
-use Rattle.std.proofs.Common.{◌≡◌, ◌↔◌, ◌∙◌, Bool, true, inl, inr, ℕ, ◌+◌, ◌-◌, ◌<◌, zero, suc, List, [], ◌∷◌, ◌++◌, map, length, get_or, None, Some, refl, sym, ap, subst, arith}
+use Rattle.std.proofs.Common.{◌≡◌, ◌↔◌, ◌∙◌, Bool, true, inl, inr, ℕ, ◌+◌, ◌-◌, ◌<◌, zero, suc, List, [], ◌∷◌, ◌++◌, map, length, get_or, Some, refl, sym, ap, subst, arith}
 use Rattle.std.specs.declared.alloc.Global.{Global}
 use Rattle.std.specs.declared.vec.Vec.{Vec}
 use Rattle.std.specs.Prelude.{slice_get}
@@ -24,6 +24,7 @@ use Rattle.store_text.specs.declared.line.ObjectLine.{ObjectLine}
 use Rattle.journal.specs.declared.prepared_row.Prepared.{Prepared}
 use Rattle.journal.specs.declared.state_row.FirstState.{FirstState}
 use Rattle.journal.specs.Contents.{Contents, extended, from_states}
+use Rattle.journal.specs.Outcomes.{no_outcomes}
 use Rattle.journal.specs.Journal.{Clean, written}
 use Rattle.durable_store.specs.declared.durable.Durable.{Durable}
 use Rattle.durable_store.specs.declared.object_names.ObjectNames.{ObjectNames}
@@ -45,7 +46,7 @@ use Rattle.durable_store.proofs.StrongOver.{strong-grown}
 -- types that were accepted begin at their initial states
 pub added-of : (texts : List (List ℕ)) (declared : List Declaration) (lines : List ObjectLine) (types : List Checked) → AreRead texts declared → AreTypesOf declared lines types → AreAdded texts lines types
 added-of texts declared lines types read of =
-    let said : Contents = record { events = []; headers = []; types = texts; objects = lines; states = firsts types; prepared = []; outcomes = λ n. None } in
+    let said : Contents = record { events = []; headers = []; types = texts; objects = lines; states = firsts types; prepared = []; outcomes = no_outcomes } in
     are-types said declared types types read of (length-map types first-of ∙ of.as_many) of.as_many (at-own types (types_checked declared lines types of))
 
 -- a line with the place that stands at its place

@@ -1,9 +1,8 @@
 -- Keys under which transactions are prepared.
-use Rattle.std.proofs.Common.{◌≡◌, ◌≢◌, ◌↔◌, ◌∙◌, ℕ, ◌<◌, Bool, true, false, cond, not, if◌then◌else◌, List, [], ◌∷◌, ◌++◌, filter, Option, Some, None, inl, inr, refl, sym, ap, subst}
+use Rattle.std.proofs.Common.{◌≡◌, ◌≢◌, ◌↔◌, ◌∙◌, ℕ, ◌<◌, Bool, true, false, cond, not, if◌then◌else◌, List, [], ◌∷◌, ◌++◌, filter, Some, None, inl, inr, refl, sym, ap, subst}
 use Rattle.std.specs.Prelude.{Vec, ◌==◌}
 use Rattle.std.specs.declared.alloc.Global.{Global}
 use Rattle.std.specs.List.{AllByRecursion}
-use Rattle.std.specs.Str.{bytes_eq}
 use Rattle.std.proofs.lemmas.Bool.{cases_Bool, eq-eqb, eqb-true, false≢true}
 use Rattle.std.proofs.lemmas.Option.{same_Some}
 use Rattle.std.proofs.lemmas.Slice.Eq.{bytes_eq-Decides}
@@ -22,6 +21,7 @@ use Rattle.journal.specs.declared.outcome_row.KeyedOutcome.{KeyedOutcome}
 use Rattle.journal.specs.declared.outcome_row.Outcome.{Outcome}
 use Rattle.journal.specs.declared.prepared_row.Prepared.{Prepared}
 use Rattle.journal.specs.Contents.{Contents, with_outcome, with_prepared}
+use Rattle.journal.specs.Outcomes.{Outcomes}
 use Rattle.journal.specs.Journal.{Clean, IsJournal, durable, may_leave, written}
 use Rattle.carried_orders.specs.Orders.{AreStrong}
 use Rattle.store.specs.Retraces.{IsTracedHistory}
@@ -127,13 +127,13 @@ others-apart key t (q ∷ ps) p apart found is = by (has_key key q) refl found (
 
 -- an open transaction is prepared under a key whose place nobody has
 pub prepared-more : (H : List Event) (c : Contents) (ps : List Prepared) (p : Prepared) → ArePrepared H c ps → is_open (summary H) p.number ≡ true → first_passing (has_place p.key) ps ≡ None
-    → c.outcomes (key_place p.key) ≡ None → ArePrepared H (with_prepared c p) (ps ++ p ∷ [])
+    → c.outcomes.at (key_place p.key) ≡ None → ArePrepared H (with_prepared c p) (ps ++ p ∷ [])
 prepared-more H c ps p are opened alone free = record {
   begun = each-push (λ (q : Prepared). q.number < begins H) c.prepared p are.begun ((of_open (summary H) p.number opened).began);
   are = ap (λ qs. qs ++ p ∷ []) are.are ∙ sym (filter-more (λ (q : Prepared). is_open (summary H) q.number) c.prepared p opened);
   apart = pairs-push (λ (p q : Prepared). key_place p.key ≢ key_place q.key) ps p are.apart
       (each-weaker {P = λ (q : Prepared). has_place p.key q ≡ false} {Q = λ (q : Prepared). key_place q.key ≢ key_place p.key} (λ q other. false-apart (key_place q.key) (key_place p.key) other) ps (none-passes (has_place p.key) ps alone));
-  free = each-push (λ (q : Prepared). c.outcomes (key_place q.key) ≡ None) ps p are.free free;
+  free = each-push (λ (q : Prepared). c.outcomes.at (key_place q.key) ≡ None) ps p are.free free;
 }
 
 -- an outcome is kept at the place of nobody who is prepared
@@ -142,13 +142,13 @@ prepared-kept H c ps o alone are = record {
   begun = are.begun;
   are = are.are;
   apart = are.apart;
-  free = each-both {P = λ (p : Prepared). has_place o.key p ≡ false} {Q = λ (p : Prepared). c.outcomes (key_place p.key) ≡ None} {S = λ (p : Prepared). (with_outcome c o).outcomes (key_place p.key) ≡ None}
-      (λ p other none. ap (λ b. if b then Some o else c.outcomes (key_place p.key)) other ∙ none) ps (none-passes (has_place o.key) ps alone) are.free;
+  free = each-both {P = λ (p : Prepared). has_place o.key p ≡ false} {Q = λ (p : Prepared). c.outcomes.at (key_place p.key) ≡ None} {S = λ (p : Prepared). (with_outcome c o).outcomes.at (key_place p.key) ≡ None}
+      (λ p other none. ap (λ b. if b then Some o else c.outcomes.at (key_place p.key)) other ∙ none) ps (none-passes (has_place o.key) ps alone) are.free;
 }
 
 -- ---- a store whose file has other rows of who is prepared, or another outcome
 
-pub still-sound : {S : Type 0} (g : Ghosts S) (d now : Durable S) (rows : List Prepared) (outcomes : ℕ → Option KeyedOutcome) → IsDurable g d → now.store ≡ d.store → now.names ≡ d.names → now.strong ≡ d.strong → IsJournal g now.journal
+pub still-sound : {S : Type 0} (g : Ghosts S) (d now : Durable S) (rows : List Prepared) (outcomes : Outcomes) → IsDurable g d → now.store ≡ d.store → now.names ≡ d.names → now.strong ≡ d.strong → IsJournal g now.journal
     → (Clean g now.journal → written g now.journal ≡ record (written g d.journal) { prepared = rows; outcomes = outcomes }) → (Clean g now.journal → durable g now.journal ≡ durable g d.journal)
     → (Clean g now.journal → Clean g d.journal) → ((db : Trees) → may_leave g now.journal db → may_leave g d.journal db)
     → (Clean g d.journal → ArePrepared d.store.history (record (written g d.journal) { prepared = rows; outcomes = outcomes }) now.prepared.items) → IsDurable g now
@@ -181,11 +181,11 @@ free-of g d key sound clean free = subst (λ ps. first_passing (has_place key) p
 
 -- nothing is kept at the place of one who is prepared
 place-free : {S : Type 0} (g : Ghosts S) (d : Durable S) (key : List ℕ) (p : Prepared) → IsDurable g d → Clean g d.journal → first_passing (has_place key) (prepared_in (written g d.journal)) ≡ Some p
-    → (written g d.journal).outcomes (key_place key) ≡ None
+    → (written g d.journal).outcomes.at (key_place key) ≡ None
 place-free g d key p sound clean found =
     let c = written g d.journal in
-    let its = first-is (λ (p : Prepared). c.outcomes (key_place p.key) ≡ None) (has_place key) d.prepared.items p (sound.prepared clean).free (subst (λ ps. first_passing (has_place key) ps ≡ Some p) (held-is g d sound clean) found) in
-    subst (λ n. c.outcomes n ≡ None) (eqb-true (key_place p.key) (key_place key) its.1) its.0
+    let its = first-is (λ (p : Prepared). c.outcomes.at (key_place p.key) ≡ None) (has_place key) d.prepared.items p (sound.prepared clean).free (subst (λ ps. first_passing (has_place key) ps ≡ Some p) (held-is g d sound clean) found) in
+    subst (λ n. c.outcomes.at n ≡ None) (eqb-true (key_place p.key) (key_place key) its.1) its.0
 
 -- a key that isn't known says nothing
 pub unknown-else : {S : Type 0} (g : Ghosts S) (d : Durable S) (key : List ℕ) (known : KeyState) → IsDurable g d → Clean g d.journal → IsInState (written g d.journal) key known

@@ -1,6 +1,6 @@
 -- Numbers of transactions that are prepared, in their order.
-use Rattle.std.proofs.Common.{◌≡◌, ◌∙◌, ℕ, zero, suc, ◌+◌, ◌<◌, ◌≤◌, ◌==◌, eqb, true, List, [], ◌∷◌, ◌++◌, length, map, take, get_or, Ok, Some, slice_get, ap, subst, inl, inr, arith}
-use Rattle.std.specs.List.{AllByRecursion, AllPairs, dedup, slice_index}
+use Rattle.std.proofs.Common.{◌≡◌, ◌∙◌, ℕ, suc, ◌+◌, ◌<◌, ◌≤◌, ◌==◌, eqb, true, List, [], ◌∷◌, ◌++◌, length, map, take, get_or, Ok, Some, slice_get, ap, subst, inl, inr, arith}
+use Rattle.std.specs.List.{AllByRecursion, AllPairs, dedup}
 use Rattle.std.specs.List.Sorted.{IsBinarySearchResult, IsPermutation, IsSorted, IsStrictlyIncreasing}
 use Rattle.std.specs.Option.{option_map}
 use Rattle.std.specs.Ordering.{nat_cmp}

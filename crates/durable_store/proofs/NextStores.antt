@@ -1,5 +1,5 @@
 -- What goes over begins anew in the store of the next epoch: all that is open where each yes is strong, and else what is prepared.
-use Rattle.std.proofs.Common.{◌≡◌, ◌↔◌, ◌∙◌, ℕ, suc, Bool, true, false, List, [], ◌∷◌, ◌++◌, map, filter, length, refl, sym, ap, ap₂, subst, inl, inr}
+use Rattle.std.proofs.Common.{◌≡◌, ◌↔◌, ◌∙◌, ℕ, suc, Bool, true, false, List, [], ◌∷◌, ◌++◌, map, length, refl, sym, ap, ap₂, subst}
 use Rattle.std.specs.declared.alloc.Global.{Global}
 use Rattle.std.specs.declared.vec.Vec.{Vec}
 use Rattle.std.specs.List.{AllByRecursion}
@@ -20,7 +20,7 @@ use Rattle.carried_runs.specs.Carried.{begins_from, carried_by, done_again}
 use Rattle.carried_runs.specs.OpenEpochs.{IsOpenEpoch}
 use Rattle.carried_orders.specs.Orders.{AreStrong}
 use Rattle.store_laws.specs.Stored.{Stored}
-use Rattle.store.specs.CarriesAll.{began_by, open_ones}
+use Rattle.store.specs.CarriesAll.{began_by}
 use Rattle.store.specs.declared.refusals.CarryRefusal.{CarryRefusal}
 use Rattle.store.proofs.CarriedAll.{open-all}
 use Rattle.journal.specs.declared.prepared_row.Prepared.{Prepared}

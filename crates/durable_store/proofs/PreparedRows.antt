@@ -63,7 +63,7 @@ apart-more ps row none pairs =
 -- all of them
 pub rows-all : (H : List Event) (c : Contents) (said : List Prepared) (i : ℕ) (now : List Prepared) → length said ≤ i → said ≡ c.prepared → now ≡ undecided H (take i said)
     → AllByRecursion (λ (p : Prepared). p.number < begins H) (take i said) → Pairs (λ (p q : Prepared). key_place p.key ≢ key_place q.key) now
-    → AllByRecursion (λ (p : Prepared). c.outcomes (key_place p.key) ≡ None) now → ArePrepared H c now
+    → AllByRecursion (λ (p : Prepared). c.outcomes.at (key_place p.key) ≡ None) now → ArePrepared H c now
 rows-all H c said i now many same are began apart free =
     let whole : take i said ≡ c.prepared = take_all i said many ∙ same in
     record {
@@ -80,7 +80,7 @@ pub record AreRead {S : Type 0} (g : Ghosts S) (H : List Event) (said : List Pre
   pub rows : ps ≡ undecided H (take i said)
   pub began : AllByRecursion (λ (p : Prepared). p.number < begins H) (take i said)
   pub apart : Clean g now → Pairs (λ (p q : Prepared). key_place p.key ≢ key_place q.key) ps
-  pub free : Clean g now → AllByRecursion (λ (p : Prepared). (written g first).outcomes (key_place p.key) ≡ None) ps
+  pub free : Clean g now → AllByRecursion (λ (p : Prepared). (written g first).outcomes.at (key_place p.key) ≡ None) ps
   pub kept : IsJournal g now
   pub written : Clean g now → written g now ≡ written g first
   pub durable : Clean g now → durable g now ≡ durable g first
@@ -107,7 +107,7 @@ read-closed g H said first i now ps row so_far there low closed = record {
 -- or of one that is, and has its place alone
 pub read-open : {S : Type 0} (g : Ghosts S) (H : List Event) (said : List Prepared) (first : Journal S) (i : ℕ) (now next : Journal S) (ps qs : List Prepared) (row : Prepared) → AreRead g H said first i now ps
     → slice_get said i ≡ Some row → row.number < begins H → is_open (summary H) row.number ≡ true → qs ≡ ps ++ row ∷ []
-    → (Clean g next → (first_passing (has_place row.key) ps ≡ None) × ((written g now).outcomes (key_place row.key) ≡ None)) → IsJournal g next
+    → (Clean g next → (first_passing (has_place row.key) ps ≡ None) × ((written g now).outcomes.at (key_place row.key) ≡ None)) → IsJournal g next
     → (Clean g next → written g next ≡ written g now) → (Clean g next → durable g next ≡ durable g now) → next.header ≡ now.header → (Clean g next → Clean g now)
     → ((db : Trees) → may_leave g next db → may_leave g now db) → AreRead g H said first (i + 1) next qs
 read-open g H said first i now next ps qs row so_far there low open_now more own kept same lasts header was crash = record {
@@ -115,9 +115,9 @@ read-open g H said first i now next ps qs row so_far there low open_now more own
   began = began-more (begins H) said i row there low so_far.began;
   apart = λ clean. subst (Pairs (λ (p q : Prepared). key_place p.key ≢ key_place q.key)) (sym more) (apart-more ps row (own clean).0 (so_far.apart (was clean)));
   free = λ clean.
-      let place : (written g first).outcomes (key_place row.key) ≡ None = ap (λ (c : Contents). c.outcomes (key_place row.key)) (sym (so_far.written (was clean))) ∙ (own clean).1 in
-      subst (AllByRecursion (λ (p : Prepared). (written g first).outcomes (key_place p.key) ≡ None)) (sym more)
-      (each-push (λ (p : Prepared). (written g first).outcomes (key_place p.key) ≡ None) ps row (so_far.free (was clean)) place);
+      let place : (written g first).outcomes.at (key_place row.key) ≡ None = ap (λ (c : Contents). c.outcomes.at (key_place row.key)) (sym (so_far.written (was clean))) ∙ (own clean).1 in
+      subst (AllByRecursion (λ (p : Prepared). (written g first).outcomes.at (key_place p.key) ≡ None)) (sym more)
+      (each-push (λ (p : Prepared). (written g first).outcomes.at (key_place p.key) ≡ None) ps row (so_far.free (was clean)) place);
   kept = kept;
   written = λ clean. same clean ∙ so_far.written (was clean);
   durable = λ clean. lasts clean ∙ so_far.durable (was clean);
@@ -149,15 +149,15 @@ other-place key p differ =
 
 -- and an open one has a place of its own
 pub own-place : (H : List Event) (c : Contents) (said : List Prepared) (i : ℕ) (row : Prepared) (now : List Prepared) → slice_get said i ≡ Some row → is_open (summary H) row.number ≡ true → now ≡ undecided H (take i said)
-    → ArePrepared H c (undecided H said) → (first_passing (has_place row.key) now ≡ None) × (c.outcomes (key_place row.key) ≡ None)
+    → ArePrepared H c (undecided H said) → (first_passing (has_place row.key) now ≡ None) × (c.outcomes.at (key_place row.key) ≡ None)
 own-place H c said i row now there open_now are prepared =
     let behind = drop (i + 1) said in
     let all : undecided H said ≡ now ++ row ∷ undecided H behind =
     ap (undecided H) (split-at said i row there) ∙ filter-append (λ (p : Prepared). is_open (summary H) p.number) (take i said) (row ∷ behind)
     ∙ ap (λ b. undecided H (take i said) ++ cond b (row ∷ undecided H behind) (undecided H behind)) open_now ∙ ap (λ rs. rs ++ row ∷ undecided H behind) (sym are) in
     let pairs = subst (Pairs (λ (p q : Prepared). key_place p.key ≢ key_place q.key)) all prepared.apart in
-    let free = subst (AllByRecursion (λ (p : Prepared). c.outcomes (key_place p.key) ≡ None)) all prepared.free in (
+    let free = subst (AllByRecursion (λ (p : Prepared). c.outcomes.at (key_place p.key) ≡ None)) all prepared.free in (
       passes-none (has_place row.key) now
           (each-weaker (λ (p : Prepared) differ. other-place row.key p differ) now (before-one (λ (p q : Prepared). key_place p.key ≢ key_place q.key) now row (undecided H behind) pairs)),
-      (each-rest (λ (p : Prepared). c.outcomes (key_place p.key) ≡ None) now (row ∷ undecided H behind) free).0,
+      (each-rest (λ (p : Prepared). c.outcomes.at (key_place p.key) ≡ None) now (row ∷ undecided H behind) free).0,
     )

@@ -23,7 +23,7 @@ use Rattle.durable_store.proofs.GoneOver.{prepared-alike}
 
 -- another life changes nothing of who is prepared
 raised-prepared : (H : List Event) (c now : Contents) (life : ℕ) (ps : List Prepared) → now ≡ in_life c life → ArePrepared H c ps → ArePrepared H now ps
-raised-prepared H c now life ps is are = subst (λ (n : Contents). ArePrepared H n ps) (sym is) (prepared-alike H c (in_life c life) ps refl refl are)
+raised-prepared H c now life ps is are = subst (λ (n : Contents). ArePrepared H n ps) (sym is) (prepared-alike H c (in_life c life) ps refl (λ n empty. empty) are)
 
 pub raised-durable : {S : Type 0} (g : Ghosts S) (d : Durable S) (raised : Journal S) (life : ℕ) → IsDurable g d → IsJournal g raised → (Clean g raised → written g raised ≡ in_life (written g d.journal) life)
     → (Clean g raised → durable g raised ≡ durable g d.journal) → (Clean g raised → Clean g d.journal) → ((db : Trees) → may_leave g raised db → may_leave g d.journal db)

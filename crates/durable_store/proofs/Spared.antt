@@ -1,6 +1,6 @@
 -- What a store's commands make ends nobody who is prepared, but the end of one of them.
-use Rattle.std.proofs.Common.{◌≡◌, ◌∙◌, ℕ, take, ◌<◌, Bool, true, false, not, List, [], ◌∷◌, ◌++◌, cond, length, filter, map, Option, Some, None, is_some, if◌then◌else◌, Result, inl, inr, refl, sym, ap, subst, append-nil}
-use Rattle.std.specs.Prelude.{◌==◌, ◌&&◌, slice_get}
+use Rattle.std.proofs.Common.{◌≡◌, ℕ, take, Bool, true, false, not, List, [], ◌∷◌, ◌++◌, cond, length, filter, map, Option, Some, None, is_some, if◌then◌else◌, Result, inl, inr, refl, sym, subst}
+use Rattle.std.specs.Prelude.{◌&&◌, slice_get}
 use Rattle.std.specs.List.{AllByRecursion, range_with_len}
 use Rattle.type_table.proofs.Elements.{each-append, each-push}
 use Rattle.object_trait.specs.Object.{Object}
@@ -8,11 +8,10 @@ use Rattle.object_trait.specs.declared.event.Event.{Event}
 use Rattle.object_trait.specs.declared.event.EventKind.{EventKind}
 use Rattle.object_trait.specs.declared.event.EventKind.TheVariants as kind
 use Rattle.type_table.specs.Least.{first_below}
-use Rattle.store_limits.specs.declared.limits.Limits.{Limits}
-use Rattle.serial_order.specs.Answer.{blocker, busy_with, event_of_call, event_of_first, is_free_reply, is_reply, refused}
+use Rattle.serial_order.specs.Answer.{blocker, busy_with, event_of_first, is_free_reply, is_reply, refused}
 use Rattle.serial_order.specs.History.{Summary, begins, is_open, summary}
 use Rattle.serial_order.specs.Operations.{is_among}
-use Rattle.serial_order.specs.Replay.{after_command, appended, call_at, call_event, event_of}
+use Rattle.serial_order.specs.Replay.{appended, call_at, call_event, event_of}
 use Rattle.serial_order.specs.declared.command.Command.{Command}
 use Rattle.serial_order.specs.declared.command.Command.TheVariants as command
 use Rattle.serial_order.specs.declared.entry.Entry.{Entry}

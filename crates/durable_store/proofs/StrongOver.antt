@@ -1,5 +1,5 @@
 -- Whether each yes is strong, at the states that were kept and where objects are added.
-use Rattle.std.proofs.Common.{◌≡◌, ◌↔◌, ◌∙◌, ℕ, ◌+◌, zero, suc, Bool, true, List, [], ◌∷◌, ◌++◌, length, Some, slice_get, refl, sym, ap, subst, inl, inr}
+use Rattle.std.proofs.Common.{◌≡◌, ◌↔◌, ℕ, suc, Bool, true, List, [], ◌∷◌, ◌++◌, length, Some, slice_get, subst, inl, inr}
 use Rattle.std.proofs.lemmas.Option.{none-some}
 use Rattle.table_checker.specs.At.{AtIsStrong, checked_at}
 use Rattle.table_checker.specs.Checked.{Checked, IsStrong}

@@ -1,5 +1,5 @@
 -- Who is prepared stays so while events come that don't end it.
-use Rattle.std.proofs.Common.{◌≡◌, ◌≢◌, None, ◌∙◌, ℕ, ◌<◌, suc, Bool, true, false, cond, not, ◌&&◌, List, [], ◌∷◌, ◌++◌, filter, map, inl, inr, refl, sym, ap, ap₂, subst, append_assoc, append-nil, arith}
+use Rattle.std.proofs.Common.{◌≡◌, ◌≢◌, None, ◌∙◌, ℕ, ◌<◌, suc, Bool, true, false, cond, not, ◌&&◌, List, [], ◌∷◌, ◌++◌, filter, refl, sym, ap, ap₂, subst, append_assoc, append-nil, arith}
 use Rattle.std.specs.Prelude.{◌==◌, ◌||◌, nat_lt}
 use Rattle.std.specs.List.{AllByRecursion}
 use Rattle.std.proofs.lemmas.Bool.{or_parts, lt-ltb}
@@ -16,7 +16,7 @@ use Rattle.serial_order.proofs.Events.{begins-snoc, begun_after, summary-snoc, s
 use Rattle.serial_order.proofs.Lists.{both_filters, is_among-snoc}
 use Rattle.journal.specs.declared.prepared_row.Prepared.{Prepared}
 use Rattle.journal.specs.Contents.{Contents}
-use Rattle.durable_store.specs.Held.{ArePrepared, but_number, has_number, prepared_numbers, undecided}
+use Rattle.durable_store.specs.Held.{ArePrepared, prepared_numbers, undecided}
 
 -- the event ends transaction t
 abbrev pub is_end : EventKind → ℕ → Bool
@@ -91,7 +91,7 @@ prepared-snoc H e c ps are = record {
   begun = each-weaker {P = λ (p : Prepared). p.number < begins H} {Q = λ (p : Prepared). p.number < begins (H ++ e ∷ [])} (λ p low. begun-next H e p.number low) c.prepared are.begun;
   are = ap (left_by e.kind) are.are ∙ sym (undecided-snoc H e c.prepared are.begun);
   apart = pairs-filter (λ (p q : Prepared). key_place p.key ≢ key_place q.key) (λ (p : Prepared). not (is_end e.kind p.number)) ps are.apart;
-  free = each-filter (λ (p : Prepared). c.outcomes (key_place p.key) ≡ None) (λ (p : Prepared). not (is_end e.kind p.number)) ps are.free;
+  free = each-filter (λ (p : Prepared). c.outcomes.at (key_place p.key) ≡ None) (λ (p : Prepared). not (is_end e.kind p.number)) ps are.free;
 }
 
 -- ---- events that end none of them

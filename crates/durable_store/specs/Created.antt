@@ -10,7 +10,8 @@ use Rattle.durable_store.specs.Types.{HasTypes}
 use Rattle.durable_store.specs.Epochs.{firsts}
 
 -- the versions that are read: in a file of the first no type is a number, in one of the second no operation has an amount, in one of the third
--- no object has a name, in one of the fourth each event has a row of its own, and in one of the fifth no transaction has a key
+-- no object has a name, in one of the fourth each event has a row of its own, in one of the fifth no transaction has a key, in one of the sixth none is
+-- prepared, and in one of the seventh no outcome has a number
 abbrev pub IsReadFormat : ℕ → Type 0
 IsReadFormat format = (1 ≤ format) × (format ≤ newest_format)
 
@@ -25,7 +26,7 @@ pub record IsNewFile (id : List ℕ) (given : List (List ℕ)) (lines : List Obj
   pub objects : c.objects ≡ lines
   pub none : c.events ≡ []
   pub unprepared : c.prepared ≡ []
-  pub keyless : (n : ℕ) → c.outcomes n ≡ None
+  pub keyless : (n : ℕ) → c.outcomes.at n ≡ None
   pub types : List Checked
   pub are : HasTypes c types
   pub states : c.states ≡ firsts types

@@ -53,7 +53,7 @@ pub record ArePrepared (H : List Event) (c : Contents) (ps : List Prepared) : Ty
   pub begun : AllByRecursion (λ (p : Prepared). p.number < begins H) c.prepared
   pub are : ps ≡ undecided H c.prepared
   pub apart : Pairs (λ (p q : Prepared). key_place p.key ≢ key_place q.key) ps
-  pub free : AllByRecursion (λ (p : Prepared). c.outcomes (key_place p.key) ≡ None) ps
+  pub free : AllByRecursion (λ (p : Prepared). c.outcomes.at (key_place p.key) ≡ None) ps
 
 -- ---- the gate
 

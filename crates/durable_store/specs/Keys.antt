@@ -9,7 +9,6 @@ use Rattle.sqlite_trees.specs.declared.store.Store.{Ghosts}
 use Rattle.transaction_key.specs.TransactionKey.{key_place}
 use Rattle.serial_order.specs.History.{begins}
 use Rattle.serial_order.specs.declared.command.Command.TheVariants as command
-use Rattle.serial_order.specs.declared.refusal.Refusal.{Refusal}
 use Rattle.store_laws.specs.Stored.{Stored, Steps, objects}
 use Rattle.attempts.specs.Commands.{CallAt, attempt_commands, commands_replayed, is_memory_refused_at}
 use Rattle.attempts.specs.Answers.{AttemptAnswers}
@@ -42,11 +41,11 @@ outcome_for key (Some kept) = cond (bytes_eq kept.key key) (Some kept.outcome) N
 
 -- what became of the transaction that has this key
 abbrev pub outcome_under : Contents → List ℕ → Option Outcome
-outcome_under c key = outcome_for key (c.outcomes (key_place key))
+outcome_under c key = outcome_for key (c.outcomes.at (key_place key))
 
 -- nothing is kept at its place, and nobody is prepared under a key of that place
 abbrev pub IsFree : Contents → List ℕ → Type 0
-IsFree c key = (c.outcomes (key_place key) ≡ None) × (first_passing (has_place key) (prepared_in c) ≡ None)
+IsFree c key = (c.outcomes.at (key_place key) ≡ None) × (first_passing (has_place key) (prepared_in c) ≡ None)
 
 -- a transaction is prepared under it
 abbrev pub IsPreparedUnder : Contents → List ℕ → Type 0
@@ -55,7 +54,7 @@ IsPreparedUnder c key = (p : Prepared) × (first_passing (has_place key) (prepar
 -- its place is another key's: of one that is kept there, or of one under which a transaction is prepared
 abbrev pub IsTaken : Contents → List ℕ → Type 0
 IsTaken c key =
-    ((kept : KeyedOutcome) × (c.outcomes (key_place key) ≡ Some kept) × (bytes_eq kept.key key ≡ false))
+    ((kept : KeyedOutcome) × (c.outcomes.at (key_place key) ≡ Some kept) × (bytes_eq kept.key key ≡ false))
     ⊎ ((p : Prepared) × (first_passing (has_place key) (prepared_in c) ≡ Some p) × (has_key key p ≡ false))
 
 -- what is known of a key

@@ -26,9 +26,9 @@ use table_checker::at_is_strong;
 
 impl<S: Alter> Durable<S> {
     /// Begins another epoch with more objects, in another life: objects of these lines, whose places are those of
-    /// these texts, come after those that there are, at the initial states of their types. The same goes over as at `renew`. All of
-    /// it is in one commit, and no text that the file has is written again. The answer is the number of the first
-    /// new object.
+    /// these texts, come after those that there are, at the initial states of their types. The same goes over as at `renew`, and
+    /// the same outcomes are let go. All of it is in one commit, and no text that the file has is written again. The answer is the
+    /// number of the first new object.
     ///
     /// # Errors
     ///

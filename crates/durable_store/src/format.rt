@@ -8,7 +8,8 @@ use crate::open_error::OpenError;
 use journal::{FORMAT, FileContents, JournalError};
 
 /// The first version. It and those after it are read as the newest: in the first no type is a number, in the second
-/// no operation has an amount, in the third no object has a name, and in the fourth each event has a row of its own.
+/// no operation has an amount, in the third no object has a name, in the fourth each event has a row of its own, in the
+/// fifth no transaction has a key, in the sixth none is prepared, and in the seventh no outcome has a number.
 const FIRST_FORMAT: u32 = 1;
 
 /// That a file is of one of these versions.

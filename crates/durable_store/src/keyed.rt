@@ -1,4 +1,4 @@
-//! Commits under keys, which are done once.
+//! Commits under keys, which are done once while what became of them is kept.
 
 ghost use Rattle.std.specs.Prelude.{◌≡◌, ◌++◌, IfOk, None, OnOk, Some};
 ghost use Rattle.journal.specs.Journal.{Clean, written};
@@ -20,10 +20,10 @@ use store::Store;
 use transaction_key::TransactionKey;
 use type_table::{Op, Operation};
 
-/// What came of work that is done at most once, under a key.
+/// What came of work that is done at most once under a key, while what became of it is kept.
 #[derive(Drop)]
 pub enum Keyed<T: Drop> {
-    /// The key was free and the work was done: the key says from now on what became of its transaction.
+    /// The key was free and the work was done: the key says from now on what became of its transaction, until that is let go.
     Done(Outcome),
     /// The key was free and the work wasn't done: the key stays free.
     Undone(T),
@@ -59,7 +59,8 @@ pub enum Unfinished {
 }
 
 impl<S: Alter> Durable<S> {
-    /// What became of the transaction that has this key, as far as the file knows.
+    /// What became of the transaction that has this key, as far as the file knows: an epoch's end lets outcomes go since which
+    /// as many were kept as stay at least, and their keys are unknown then.
     ///
     /// # Errors
     ///
@@ -88,6 +89,7 @@ impl<S: Alter> Durable<S> {
 
     /// Commits transaction t under a key, as `commit`, where the key is free. Where its transaction has committed, t, whose work
     /// was so done before, is aborted if it is open and isn't prepared. The client is answered after `settle` only, also where the key is known.
+    /// A key whose outcome an epoch's end has let go is free again, and work under it is done once more.
     ///
     /// # Errors
     ///
@@ -127,7 +129,7 @@ impl<S: Alter> Durable<S> {
     }
 
     /// A whole transaction under a key, as `attempt`, where the key is free: its replies are kept. The client is answered
-    /// after `settle` only, also where the key is known.
+    /// after `settle` only, also where the key is known. A key is free again once it is let go, as at `commit_under`.
     ///
     /// # Errors
     ///

@@ -10,6 +10,7 @@ mod extension;
 mod format;
 mod growth;
 mod held_list;
+mod kept_outcomes;
 mod keyed;
 mod limits;
 mod new_file;

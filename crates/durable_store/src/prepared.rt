@@ -62,9 +62,9 @@ impl<S: Alter> Durable<S> {
         Ok(Vote::Prepared)
     }
 
-    /// Decides what becomes of the transaction that is prepared under a key. What was decided is answered the same each time;
-    /// to abort under a key that isn't known keeps that it is aborted, so that none is prepared or commits under it later. A
-    /// crash may still take it away: whoever asks is answered after `settle` only.
+    /// Decides what becomes of the transaction that is prepared under a key. What was decided is answered the same each time
+    /// while it is kept; to abort under a key that isn't known keeps that it is aborted, so that none is prepared or commits
+    /// under it later. A crash may still take it away: whoever asks is answered after `settle` only.
     ///
     /// # Errors
     ///
@@ -106,7 +106,7 @@ impl<S: Alter> Durable<S> {
     /// and no later answer can tell it; else what is prepared goes over, and what else is open is let go, as by an abort. What
     /// goes over begins there by the numbers 0, 1, 2 and so on, in the order of the numbers before, and what survives of it is
     /// done again. The file begins anew at the committed states, with these events, and with what is prepared by its new
-    /// numbers, all of it in one commit.
+    /// numbers, all of it in one commit. Outcomes of keys are let go in it since which as many were kept as stay at least.
     ///
     /// # Errors
     ///

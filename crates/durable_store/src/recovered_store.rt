@@ -207,7 +207,7 @@ fn has_own_place<S: Alter>(
     key: &TransactionKey,
 ) -> Result<bool, OpenError>
     requires { IsJournal S.Store journal.old }
-    ensures own { IfOk result (λ own. Clean S.Store journal.new → IsTrue own ↔ ((first_passing (has_place key.now) prepared.now ≡ None) × ((written S.Store journal.old).outcomes (key_place key.now) ≡ None))) }
+    ensures own { IfOk result (λ own. Clean S.Store journal.new → IsTrue own ↔ ((first_passing (has_place key.now) prepared.now ≡ None) × ((written S.Store journal.old).outcomes.at (key_place key.now) ≡ None))) }
     ensures strays { IfErr result (λ e. IsStrayError e → ⊥) }
     ensures kept { OnOk result (IsJournal S.Store journal.new) }
     ensures written { OnOk result (Clean S.Store journal.new → written S.Store journal.new ≡ written S.Store journal.old) }

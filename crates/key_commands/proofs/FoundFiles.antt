@@ -11,13 +11,13 @@ use Rattle.key_commands.specs.Held.{prepared_in}
 use Rattle.key_commands.specs.Reading.{ReadsPath, StaysAs, ReadsFile}
 
 -- what is kept at the place of a key, in the same contents
-kept_in : (key : Option (List ℕ)) (kept : Option KeyedOutcome) (c d : Contents) → c ≡ d → IfSome key (λ k. kept ≡ c.outcomes (key_place k)) → IfSome key (λ k. kept ≡ d.outcomes (key_place k))
-kept_in key kept c d same is = subst (λ (e : Contents). IfSome key (λ k. kept ≡ e.outcomes (key_place k))) same is
+kept_in : (key : Option (List ℕ)) (kept : Option KeyedOutcome) (c d : Contents) → c ≡ d → IfSome key (λ k. kept ≡ c.outcomes.at (key_place k)) → IfSome key (λ k. kept ≡ d.outcomes.at (key_place k))
+kept_in key kept c d same is = subst (λ (e : Contents). IfSome key (λ k. kept ≡ e.outcomes.at (key_place k))) same is
 
 -- what was read of a journal is read of the file of which it was opened
 pub read_of : {E : Type 0} (r : Result Reading E) (back clean : Type 0) (c written durable : Contents) (said : FileContents) (key : Option (List ℕ)) → (back → clean) → (clean → durable ≡ c)
     → (clean → durable ≡ contents_beside durable.outcomes said) → (clean → written ≡ durable) → IfOk r (λ x. x.held.items ≡ prepared_in (contents said))
-    → IfOk r (λ x. clean → IfSome key (λ k. x.kept ≡ written.outcomes (key_place k))) → IfOk r (λ x. back → ReadsFile c key x)
+    → IfOk r (λ x. clean → IfSome key (λ k. x.kept ≡ written.outcomes.at (key_place k))) → IfOk r (λ x. back → ReadsFile c key x)
 read_of (Ok x) back clean c written durable said key closes same is settled those kept = λ b. let now = closes b in record {
   held_are = those ∙ ap prepared_in (sym (is now) ∙ same now);
   kept_is = kept_in key x.kept written c (settled now ∙ same now) (kept now);

@@ -13,4 +13,4 @@ outcome_for key (Some kept) = cond (bytes_eq kept.key key) (Some kept.outcome) N
 
 -- what became of the transaction that has this key
 abbrev pub outcome_under : Contents → List ℕ → Option Outcome
-outcome_under c key = outcome_for key (c.outcomes (key_place key))
+outcome_under c key = outcome_for key (c.outcomes.at (key_place key))

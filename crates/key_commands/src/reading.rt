@@ -86,7 +86,7 @@ fn read_journal<'a, S: Alter>(
 ) -> Result<Reading, Fault<'a>>
     requires { IsJournal S.Store journal.old }
     ensures held { IfOk result (λ reading. reading.held.items ≡ prepared_in (contents said.now)) }
-    ensures kept { IfOk result (λ reading. Clean S.Store journal.new → IfSome (option_copied key.entry) (λ k. reading.kept ≡ (written S.Store journal.old).outcomes (key_place k))) }
+    ensures kept { IfOk result (λ reading. Clean S.Store journal.new → IfSome (option_copied key.entry) (λ k. reading.kept ≡ (written S.Store journal.old).outcomes.at (key_place k))) }
     ensures same { IfOk result (λ _. Clean S.Store journal.new → durable S.Store journal.new ≡ durable S.Store journal.old) }
     ensures clean { Clean S.Store journal.new → Clean S.Store journal.old }
     ensures refused { IfErr result (IsEarlyFault ⊤) }
@@ -104,7 +104,7 @@ fn kept_under<'a, S: Alter>(
     journal: &mut Journal<S>,
 ) -> Result<Option<KeyedOutcome>, Fault<'a>>
     requires { IsJournal S.Store journal.old }
-    ensures kept { IfOk result (λ kept. Clean S.Store journal.new → IfSome (option_copied key.entry) (λ k. kept ≡ (written S.Store journal.old).outcomes (key_place k))) }
+    ensures kept { IfOk result (λ kept. Clean S.Store journal.new → IfSome (option_copied key.entry) (λ k. kept ≡ (written S.Store journal.old).outcomes.at (key_place k))) }
     ensures same { IfOk result (λ _. Clean S.Store journal.new → durable S.Store journal.new ≡ durable S.Store journal.old) }
     ensures clean { Clean S.Store journal.new → Clean S.Store journal.old }
     ensures refused { IfErr result (IsEarlyFault ⊤) }

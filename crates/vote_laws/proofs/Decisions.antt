@@ -47,14 +47,14 @@ decision_is_kept old new c now key d done =
 
 module _ (c : Contents) (key : List ℕ) (outcome : Outcome) (known : outcome_under c key ≡ Some outcome) where
   -- something of this key is kept at its place
-  kept : (o : KeyedOutcome) × (c.outcomes (key_place key) ≡ Some o) × (bytes_eq o.key key ≡ true)
-  kept = by (c.outcomes (key_place key)) refl known
+  kept : (o : KeyedOutcome) × (c.outcomes.at (key_place key) ≡ Some o) × (bytes_eq o.key key ≡ true)
+  kept = by (c.outcomes.at (key_place key)) refl known
     where
       own : (o : KeyedOutcome) (b : Bool) → cond b (Some o.outcome) None ≡ Some outcome → b ≡ true
       own o true is = refl
       own o false is = absurd (none-some outcome is)
 
-      by : (at : Option KeyedOutcome) → c.outcomes (key_place key) ≡ at → outcome_for key at ≡ Some outcome → (o : KeyedOutcome) × (c.outcomes (key_place key) ≡ Some o) × (bytes_eq o.key key ≡ true)
+      by : (at : Option KeyedOutcome) → c.outcomes.at (key_place key) ≡ at → outcome_for key at ≡ Some outcome → (o : KeyedOutcome) × (c.outcomes.at (key_place key) ≡ Some o) × (bytes_eq o.key key ≡ true)
       by None at is = absurd (none-some outcome is)
       by (Some o) at is = (o, at, own o (bytes_eq o.key key) is)
 
@@ -65,8 +65,8 @@ module _ (c : Contents) (key : List ℕ) (outcome : Outcome) (known : outcome_un
   -- and nobody is prepared under a key of its place
   nobody : KnowsPrepared c → (p : Prepared) → first_passing (has_place key) (prepared_in c) ≡ Some p → ⊥
   nobody sound p found =
-      let its = first-is (λ (p : Prepared). c.outcomes (key_place p.key) ≡ None) (has_place key) (prepared_in c) p sound.free found in
-      none-some (kept.0) (sym its.0 ∙ ap c.outcomes (eqb-true (key_place p.key) (key_place key) its.1) ∙ kept.1)
+      let its = first-is (λ (p : Prepared). c.outcomes.at (key_place p.key) ≡ None) (has_place key) (prepared_in c) p sound.free found in
+      none-some (kept.0) (sym its.0 ∙ ap c.outcomes.at (eqb-true (key_place p.key) (key_place key) its.1) ∙ kept.1)
 
   not-taken : KnowsPrepared c → IsTaken c key → ⊥
   not-taken sound (inl other) =
@@ -76,8 +76,8 @@ module _ (c : Contents) (key : List ℕ) (outcome : Outcome) (known : outcome_un
 
   not-held : KnowsPrepared c → (p : Prepared) → first_passing (has_key key) (prepared_in c) ≡ Some p → ⊥
   not-held sound p found =
-      let its = first-is (λ (p : Prepared). c.outcomes (key_place p.key) ≡ None) (has_key key) (prepared_in c) p sound.free found in
-      none-some (kept.0) (sym its.0 ∙ ap c.outcomes (eqb-true (key_place p.key) (key_place key) (same-place key p its.1)) ∙ kept.1)
+      let its = first-is (λ (p : Prepared). c.outcomes.at (key_place p.key) ≡ None) (has_key key) (prepared_in c) p sound.free found in
+      none-some (kept.0) (sym its.0 ∙ ap c.outcomes.at (eqb-true (key_place p.key) (key_place key) (same-place key p its.1)) ∙ kept.1)
 
   answered : (old new : Stored) (now : Contents) (d : Decision) (came : Verdict) → KnowsPrepared c → Decides old new c now key d came
       → MatchBool (agrees d outcome) (came ≡ verdict.Decided) (came ≡ verdict.Otherwise outcome) × (new ≡ old) × (now ≡ c)

@@ -1,7 +1,8 @@
-use Rattle.std.proofs.Common.{◌≡◌, ◌∙◌, [], ◌∷◌, None, ap, length, map, refl, subst, sym}
+use Rattle.std.proofs.Common.{◌≡◌, ◌∙◌, [], ◌∷◌, ap, length, map, refl, subst, sym}
 use Rattle.std.proofs.lemmas.List.{length-map}
 use Rattle.object_types.specs.Types.{AreTypesOf, value_of}
 use Rattle.journal.specs.Contents.{Contents}
+use Rattle.journal.specs.Outcomes.{no_outcomes}
 use Rattle.durable_store.specs.Begun.{BeginAt, AreRead}
 use Rattle.durable_store.specs.Created.{first_header}
 use Rattle.durable_store.specs.Epochs.{firsts}
@@ -23,7 +24,7 @@ returns c =
     let are : states ≡ firsts types = c.in_ok-states.ensures ∙ ap (λ ts. firsts (map value_of ts)) c.deref-4.ensures.value in
     let at : BeginAt types states types = subst (λ ss. BeginAt types ss types) (sym are) (at-own types (types_checked declared lines types of)) in
     let as-many : length states ≡ length lines = ap length are ∙ length-map types first-of ∙ of.as_many in
-    let said : Contents = record { events = c.new.result.items; headers = first_header c.args.id ∷ []; types = texts; objects = lines; states = states; prepared = c.new-2.result.items; outcomes = λ n. None } in
+    let said : Contents = record { events = c.new.result.items; headers = first_header c.args.id ∷ []; types = texts; objects = lines; states = states; prepared = c.new-2.result.items; outcomes = no_outcomes } in
     record {
       headers = refl;
       texts = refl;

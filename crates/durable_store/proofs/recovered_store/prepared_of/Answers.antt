@@ -21,7 +21,7 @@ returns-then-not-branch-clause-strays g c = λ stray clean prepared.
     let there : slice_get c.args.said.now c.loop-place.place ≡ Some row = slice_get_read c.args.said.now (length c.args.said.now) c.loop-place.place row refl c.loop-place-test.true c.index-said-place.is in
     let own = own-place c.args.store.now.history (written g.S.Store c.args.journal.now) c.args.said.now c.loop-place.place row c.loop-place.prepared.items there (sym c.is_open.ensures ∙ c.if-is_open.true)
     c.loop-place.invariant.rows prepared in
-    let kept = ap (λ (c : Contents). c.outcomes (key_place row.key)) (c.loop-place.invariant.written (c.has_own_place.ensures.clean clean)) ∙ own.1 in
+    let kept = ap (λ (c : Contents). c.outcomes.at (key_place row.key)) (c.loop-place.invariant.written (c.has_own_place.ensures.clean clean)) ∙ own.1 in
     false≢true (sym c.if-not-branch.true ∙ (c.in_ok-has_own_place.ensures.own clean).1 (ap (first_passing (has_place row.key)) c.deref.ensures.value ∙ own.0, kept))
 
 pub loop-place-preserved : goal.loop-place-preserved

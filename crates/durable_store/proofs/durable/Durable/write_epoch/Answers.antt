@@ -2,6 +2,7 @@ use Rattle.std.proofs.Common.{◌≡◌, ◌∙◌, ap, inl, inr, refl}
 use Rattle.std.proofs.lemmas.Result.{on_ok_weaker}
 use Rattle.store_laws.specs.Stored.{Stored}
 use Rattle.journal.specs.Journal.{Clean, written}
+use Rattle.journal.proofs.StaysKnown.{let-go-none}
 use Rattle.durable_store.specs.Durable.{kinds, with_all}
 use Rattle.durable_store.specs.Epochs.{renewed, renewed_with, with_all_prepared}
 use Rattle.durable_store.proofs.EpochWrites.{first-prepared, first-written}
@@ -13,7 +14,7 @@ write_first-requires-clause-prepared g c = λ clean.
     let old = c.args.self.now in
     let begun = c.begin_epoch.new.self in
     first-prepared old.store.history begun.store.history (written g.S.Store old.journal) (written g.S.Store begun.journal) (renewed (written g.S.Store old.journal) old.store.types) old.prepared.items begun.prepared.items
-    (ap (λ (s : Stored). s.history) c.in_ok-begin_epoch.ensures.store) (ap (λ ps. ps.items) c.in_ok-begin_epoch.ensures.prepared) (c.in_ok-begin_epoch.ensures.written clean) refl refl
+    (ap (λ (s : Stored). s.history) c.in_ok-begin_epoch.ensures.store) (ap (λ ps. ps.items) c.in_ok-begin_epoch.ensures.prepared) (c.in_ok-begin_epoch.ensures.written clean) refl (let-go-none (written g.S.Store old.journal).outcomes)
     (c.requires.prepared (c.begin_epoch.ensures.clean clean))
 
 -- all of it is written by the one commit
