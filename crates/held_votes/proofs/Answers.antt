@@ -15,6 +15,7 @@ use Rattle.journal.specs.declared.outcome_row.Outcome.{Outcome}
 use Rattle.journal.specs.declared.outcome_row.Outcome.TheVariants.{Aborted, Committed}
 use Rattle.journal.specs.declared.prepared_row.Prepared.{Prepared}
 use Rattle.journal.specs.Contents.{Contents}
+use Rattle.journal.specs.Outcomes.{Outcomes}
 use Rattle.durable_store.specs.Durable.{prepared_in}
 use Rattle.durable_store.specs.Held.{has_key, prepared_numbers}
 use Rattle.durable_store.specs.Keys.{IsFree, IsInState, KnowsKey, outcome_under}
@@ -61,15 +62,15 @@ use Rattle.held_votes.proofs.Rows.{HaveBegun, Holds, IsBesideRow, holds-among, h
 -- ---- what becomes of a row
 
 -- it is held in a store, with what survived of its transaction in another
-abbrev pub IsStill : Prepared → Stored → Stored → List Prepared → (ℕ → Option KeyedOutcome) → Type 0
+abbrev pub IsStill : Prepared → Stored → Stored → List Prepared → Outcomes → Type 0
 IsStill p old new rows outcomes = Holds new.history rows outcomes p × ((x : ℕ) → operations_at new.history p.number x ≡ operations_at old.history p.number x)
 
 -- or its key is known
-abbrev pub IsStillOrKnown : Prepared → Stored → Stored → List Prepared → (ℕ → Option KeyedOutcome) → Type 0
+abbrev pub IsStillOrKnown : Prepared → Stored → Stored → List Prepared → Outcomes → Type 0
 IsStillOrKnown p old new rows outcomes = IsKnown outcomes p.key ⊎ IsStill p old new rows outcomes
 
 -- events that don't concern it
-pub goes-still : (p : Prepared) (old new : Stored) (rows : List Prepared) (outcomes : ℕ → Option KeyedOutcome) → Holds old.history rows outcomes p → HaveBegun old.history rows → GoesBeside p.number old new
+pub goes-still : (p : Prepared) (old new : Stored) (rows : List Prepared) (outcomes : Outcomes) → Holds old.history rows outcomes p → HaveBegun old.history rows → GoesBeside p.number old new
     → IsStill p old new rows outcomes
 goes-still p old new rows outcomes holds began (es, is, beside) = (
   subst (λ H. Holds H rows outcomes p) (sym is) (holds-beside old.history rows outcomes p holds es began beside),
@@ -77,22 +78,22 @@ goes-still p old new rows outcomes holds began (es, is, beside) = (
 )
 
 -- with other outcomes, where nothing is kept at its place
-still-kept : (p : Prepared) (old new : Stored) (rows : List Prepared) (outcomes now : ℕ → Option KeyedOutcome) → IsStill p old new rows outcomes → now (key_place p.key) ≡ None → IsStill p old new rows now
+still-kept : (p : Prepared) (old new : Stored) (rows : List Prepared) (outcomes now : Outcomes) → IsStill p old new rows outcomes → now.at (key_place p.key) ≡ None → IsStill p old new rows now
 still-kept p old new rows outcomes now (holds, works) free = (holds-kept new.history rows outcomes p holds now free, works)
 
 -- ---- what is kept under other keys
 
 module _ (c : Contents) (old : Stored) (p : Prepared) (holds : Holds old.history c.prepared c.outcomes p) where
   -- under a free key
-  free-leaves : (o : KeyedOutcome) → IsFree (now_says c old) o.key → outcomes_after (Some o) c.outcomes (key_place p.key) ≡ None
+  free-leaves : (o : KeyedOutcome) → IsFree (now_says c old) o.key → (outcomes_after (Some o) c.outcomes).at (key_place p.key) ≡ None
   free-leaves o free = other-place c.outcomes o (key_place p.key) (place-apart old.history c.prepared c.outcomes p holds o.key free.1) holds.free
 
   -- under one that is known
-  known-leaves : (o : KeyedOutcome) (known : Outcome) → outcome_under (now_says c old) o.key ≡ Some known → outcomes_after (Some o) c.outcomes (key_place p.key) ≡ None
+  known-leaves : (o : KeyedOutcome) (known : Outcome) → outcome_under (now_says c old) o.key ≡ Some known → (outcomes_after (Some o) c.outcomes).at (key_place p.key) ≡ None
   known-leaves o known is = known-place c.outcomes o known (key_place p.key) is holds.free
 
   commit-leaves : (t : TransactionName) (key : List ℕ) (came : Keyed Denial) → KnowsKey (now_says c old) key came
-      → outcomes_after (kept_by (request.CommitUnder t key) (commit_under_answer came)) c.outcomes (key_place p.key) ≡ None
+      → (outcomes_after (kept_by (request.CommitUnder t key) (commit_under_answer came)) c.outcomes).at (key_place p.key) ≡ None
   commit-leaves t key (keyed.Done kept) knows = free-leaves (record { key = key; outcome = Committed [] }) knows
   commit-leaves t key (keyed.Undone denied.Prepared) knows = holds.free
   commit-leaves t key (keyed.Undone (denied.Refused refusal)) knows = holds.free
@@ -102,20 +103,20 @@ module _ (c : Contents) (old : Stored) (p : Prepared) (holds : Holds old.history
   commit-leaves t key keyed.Taken knows = holds.free
 
   unknown-leaves : (t : TransactionName) (key : List ℕ) (known : KeyState) → IsInState (now_says c old) key known
-      → outcomes_after (kept_by (request.CommitUnder t key) (unknown_under known)) c.outcomes (key_place p.key) ≡ None
+      → (outcomes_after (kept_by (request.CommitUnder t key) (unknown_under known)) c.outcomes).at (key_place p.key) ≡ None
   unknown-leaves t key state.Free knows = holds.free
   unknown-leaves t key (state.Known (Committed replies)) knows = known-leaves (record { key = key; outcome = Committed [] }) (Committed replies) knows
   unknown-leaves t key (state.Known Aborted) knows = holds.free
   unknown-leaves t key state.Prepared knows = holds.free
   unknown-leaves t key state.Taken knows = holds.free
 
-  ended-leaves : (key : List ℕ) (names : KnownNames) (at : ℕ) (how : Ending) → outcomes_after (kept_by (request.DoUnder key) (ended_answer names at how)) c.outcomes (key_place p.key) ≡ None
+  ended-leaves : (key : List ℕ) (names : KnownNames) (at : ℕ) (how : Ending) → (outcomes_after (kept_by (request.DoUnder key) (ended_answer names at how)) c.outcomes).at (key_place p.key) ≡ None
   ended-leaves key names at (ending.Busy u) = holds.free
   ended-leaves key names at ending.None = holds.free
   ended-leaves key names at (ending.Refused refusal) = holds.free
 
   do-leaves : (key : List ℕ) (names : KnownNames) (came : Keyed Unfinished) → KnowsKey (now_says c old) key came
-      → outcomes_after (kept_by (request.DoUnder key) (do_under_answer names came)) c.outcomes (key_place p.key) ≡ None
+      → (outcomes_after (kept_by (request.DoUnder key) (do_under_answer names came)) c.outcomes).at (key_place p.key) ≡ None
   do-leaves key names (keyed.Done (Committed replies)) knows = free-leaves (record { key = key; outcome = Committed replies }) knows
   do-leaves key names (keyed.Done Aborted) knows = holds.free
   do-leaves key names (keyed.Undone (unfinished.Ended at how)) knows = ended-leaves key names at how
@@ -126,7 +127,7 @@ module _ (c : Contents) (old : Stored) (p : Prepared) (holds : Holds old.history
   do-leaves key names keyed.Taken knows = holds.free
 
   draining-leaves : (key : List ℕ) (known : KeyState) → IsInState (now_says c old) key known
-      → outcomes_after (kept_by (request.DoUnder key) (draining_under known)) c.outcomes (key_place p.key) ≡ None
+      → (outcomes_after (kept_by (request.DoUnder key) (draining_under known)) c.outcomes).at (key_place p.key) ≡ None
   draining-leaves key state.Free knows = holds.free
   draining-leaves key (state.Known (Committed replies)) knows = known-leaves (record { key = key; outcome = Committed replies }) (Committed replies) knows
   draining-leaves key (state.Known Aborted) knows = holds.free
@@ -151,7 +152,7 @@ module _ (c : Contents) (old : Stored) (p : Prepared) (holds : Holds old.history
       by ((inl closed, opened), mine) = absurd (false≢true (sym closed ∙ opened))
       by ((inr (inl same), opened), mine) =
           let keys : p.key ≡ key = ap (λ (q : Prepared). q.key) (sym same) ∙ (bytes_eq-Decides ends.p.key key).0 mine in
-          inl (subst (λ k. IsKnown (outcomes_after (Some o) c.outcomes) k) (sym keys) (known-now c.outcomes key (decided_outcome (decision_of d)) (ap (λ k. c.outcomes (key_place k)) (sym keys) ∙ holds.free)))
+          inl (subst (λ k. IsKnown (outcomes_after (Some o) c.outcomes) k) (sym keys) (known-now c.outcomes key (decided_outcome (decision_of d)) (ap (λ k. c.outcomes.at (key_place k)) (sym keys) ∙ holds.free)))
       by ((inr (inr (number, place)), opened), mine) =
           let other : (ends.p.number == p.number) ≡ false = ne_eqb ends.p.number p.number number in
           let beside = step-beside p.number old (decided_command (decision_of d) ends.p.number) (Ok (tt {0})) new (decided-other (decision_of d) ends.p.number other) ends.step in
@@ -161,7 +162,7 @@ module _ (c : Contents) (old : Stored) (p : Prepared) (holds : Holds old.history
       let o : KeyedOutcome = record { key = key; outcome = decided_outcome (decision_of d) } in
       inr (still-kept p old new c.prepared c.outcomes (outcomes_after (Some o) c.outcomes) (goes-still p old new c.prepared c.outcomes holds began (stays-beside p.number old new same)) (by before))
     where
-      by : IsDecidedElse (now_says c old) now key (decision_of d) → outcomes_after (Some (record { key = key; outcome = decided_outcome (decision_of d) })) c.outcomes (key_place p.key) ≡ None
+      by : IsDecidedElse (now_says c old) now key (decision_of d) → (outcomes_after (Some (record { key = key; outcome = decided_outcome (decision_of d) })) c.outcomes).at (key_place p.key) ≡ None
       by (inl known) = known-leaves (record { key = key; outcome = decided_outcome (decision_of d) }) known.0 known.1
       by (inr aborted) = free-leaves (record { key = key; outcome = decided_outcome (decision_of d) }) aborted.1
   decide-still began key d new now (verdict.Otherwise known) did = inr (goes-still p old new c.prepared c.outcomes holds began (stays-beside p.number old new did.2))
@@ -196,18 +197,18 @@ module _ (c : Contents) (old : Stored) (p : Prepared) (holds : Holds old.history
   request-still began most names ps line (request.CommitUnder t key) a new are does =
       let among = subst (λ (qs : List Prepared). is_among (prepared_numbers qs) p.number ≡ true) (sym are) (holds-among old.history c.prepared c.outcomes p holds) in
       let beside = request-beside most names c ps line old (request.CommitUnder t key) a new p.number does among (holds-began old.history c.prepared c.outcomes p holds) in
-      let leaves : outcomes_after (kept_by (request.CommitUnder t key) a) c.outcomes (key_place p.key) ≡ None =
+      let leaves : (outcomes_after (kept_by (request.CommitUnder t key) a) c.outcomes).at (key_place p.key) ≡ None =
       if-known (number_named names t) does
-      (λ q. subst (λ x. outcomes_after (kept_by (request.CommitUnder t key) x) c.outcomes (key_place p.key) ≡ None) (sym q.2) (unknown-leaves t key q.0 (q.1 tt)))
-      (λ n q. subst (λ x. outcomes_after (kept_by (request.CommitUnder t key) x) c.outcomes (key_place p.key) ≡ None) (sym q.3) (commit-leaves t key q.0 (q.1 tt))) in
+      (λ q. subst (λ x. (outcomes_after (kept_by (request.CommitUnder t key) x) c.outcomes).at (key_place p.key) ≡ None) (sym q.2) (unknown-leaves t key q.0 (q.1 tt)))
+      (λ n q. subst (λ x. (outcomes_after (kept_by (request.CommitUnder t key) x) c.outcomes).at (key_place p.key) ≡ None) (sym q.3) (commit-leaves t key q.0 (q.1 tt))) in
       inr (still-kept p old new c.prepared c.outcomes (outcomes_after (kept_by (request.CommitUnder t key) a) c.outcomes) (goes-still p old new c.prepared c.outcomes holds began beside) leaves)
   request-still began most names ps line (request.DoUnder key) a new are does =
       let among = subst (λ (qs : List Prepared). is_among (prepared_numbers qs) p.number ≡ true) (sym are) (holds-among old.history c.prepared c.outcomes p holds) in
       let beside = request-beside most names c ps line old (request.DoUnder key) a new p.number does among (holds-began old.history c.prepared c.outcomes p holds) in
-      let leaves : outcomes_after (kept_by (request.DoUnder key) a) c.outcomes (key_place p.key) ≡ None =
+      let leaves : (outcomes_after (kept_by (request.DoUnder key) a) c.outcomes).at (key_place p.key) ≡ None =
       either (is_epoch_full most old) does
-      (λ q. subst (λ x. outcomes_after (kept_by (request.DoUnder key) x) c.outcomes (key_place p.key) ≡ None) (sym q.2) (draining-leaves key q.0 (q.1 tt)))
-      (λ q. subst (λ x. outcomes_after (kept_by (request.DoUnder key) x) c.outcomes (key_place p.key) ≡ None) (sym q.5) (do-leaves key names q.2 (q.3 tt))) in
+      (λ q. subst (λ x. (outcomes_after (kept_by (request.DoUnder key) x) c.outcomes).at (key_place p.key) ≡ None) (sym q.2) (draining-leaves key q.0 (q.1 tt)))
+      (λ q. subst (λ x. (outcomes_after (kept_by (request.DoUnder key) x) c.outcomes).at (key_place p.key) ≡ None) (sym q.5) (do-leaves key names q.2 (q.3 tt))) in
       inr (still-kept p old new c.prepared c.outcomes (outcomes_after (kept_by (request.DoUnder key) a) c.outcomes) (goes-still p old new c.prepared c.outcomes holds began beside) leaves)
   request-still began most names ps line (request.Decide key d) a new are does =
       let decides = does.1 tt in

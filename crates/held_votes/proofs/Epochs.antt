@@ -13,7 +13,7 @@ use Rattle.carried_runs.proofs.Renumbering.{number-below}
 use Rattle.store_laws.specs.Stored.{Stored}
 use Rattle.store.specs.CarriesAll.{began_by, open_ones}
 use Rattle.store.proofs.CarriedAll.{open-all}
-use Rattle.journal.specs.declared.outcome_row.KeyedOutcome.{KeyedOutcome}
+use Rattle.journal.specs.Outcomes.{Outcomes}
 use Rattle.journal.specs.declared.prepared_row.Prepared.{Prepared}
 use Rattle.durable_store.specs.Epochs.{GoesOver}
 use Rattle.durable_store.specs.Held.{moved_among, prepared_numbers}
@@ -93,7 +93,7 @@ module _ (goes : Bool) (s : Stored) (rows : List Prepared) (new : Stored) (now :
       (λ q inside. subst (λ n. number_in next.those q.number < n) (sym (ap begins next.is ∙ carried-begins next.worker next.those next.order)) (number-below next.those q.number inside))
       (open_rows s.history rows) all-go))
 
-  module _ (outcomes : ℕ → Option KeyedOutcome) (p : Prepared) (holds : Holds s.history rows outcomes p) where
+  module _ (outcomes : Outcomes) (p : Prepared) (holds : Holds s.history rows outcomes p) where
     mine : is_among next.those p.number ≡ true
     mine = goes-over p (holds-prepared s.history rows outcomes p holds) holds.opened
 

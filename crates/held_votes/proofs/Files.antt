@@ -4,9 +4,9 @@ use Rattle.std.specs.Prelude.{Contains}
 use Rattle.object_trait.specs.declared.event.Event.{Event}
 use Rattle.serial_order.specs.History.{is_open, summary}
 use Rattle.store_laws.specs.Stored.{Stored}
-use Rattle.journal.specs.declared.outcome_row.KeyedOutcome.{KeyedOutcome}
 use Rattle.journal.specs.declared.prepared_row.Prepared.{Prepared}
 use Rattle.journal.specs.Contents.{Contents}
+use Rattle.journal.specs.Outcomes.{Outcomes}
 use Rattle.durable_store.specs.Durable.{events_of_kinds, prepared_in}
 use Rattle.durable_store.specs.Held.{moved_among}
 use Rattle.durable_store.specs.Recovered.{IsStoreOf}
@@ -14,8 +14,6 @@ use Rattle.serving.specs.declared.extension.Extension.{Extension}
 use Rattle.serving.specs.Epochs.{closings}
 use Rattle.serving.specs.Left.{IsStoreFile, closed_store}
 use Rattle.serving.specs.NextEpoch.{SaysNext}
-use Rattle.serving.specs.Prepared.{now_says}
-use Rattle.serving.proofs.KeysFound.{next-outcomes}
 use Rattle.serving.proofs.NextEpochs.{next-events, next-says, next-store}
 use Rattle.held_votes.specs.VotesHeld.{operations_at}
 use Rattle.held_votes.proofs.Epochs.{closings-beside, holds-over, next-begins, works-over}
@@ -40,7 +38,7 @@ pub record HasRow (c : Contents) (s : Stored) (p : Prepared) : Type 0 where
   pub until : row.until ≡ p.until
   pub works : (x : ℕ) → operations_at (events_of_kinds c.events) row.number x ≡ operations_at s.history p.number x
 
-has-there : (H : List Event) (rows : List Prepared) (outcomes : ℕ → Option KeyedOutcome) (p : Prepared) (c : Contents) → Holds H rows outcomes p → c.prepared ≡ rows
+has-there : (H : List Event) (rows : List Prepared) (outcomes : Outcomes) (p : Prepared) (c : Contents) → Holds H rows outcomes p → c.prepared ≡ rows
     → is_open (summary (events_of_kinds c.events)) p.number ≡ is_open (summary H) p.number → Contains (prepared_in c) p
 has-there H rows outcomes p c holds same going =
     let those : List Prepared = prepared_in c in
@@ -48,7 +46,7 @@ has-there H rows outcomes p c holds same going =
     (in-filter (λ (q : Prepared). is_open (summary (events_of_kinds c.events)) q.number) c.prepared p (subst (λ (rs : List Prepared). IsIn p rs) (sym same) holds.there) (going ∙ holds.opened))
 
 -- of a store whose history its events are
-of-store : (c : Contents) (s : Stored) (rows : List Prepared) (outcomes : ℕ → Option KeyedOutcome) (p : Prepared) → IsStoreOf c s → c.prepared ≡ rows → Holds s.history rows outcomes p → HasRow c s p
+of-store : (c : Contents) (s : Stored) (rows : List Prepared) (outcomes : Outcomes) (p : Prepared) → IsStoreOf c s → c.prepared ≡ rows → Holds s.history rows outcomes p → HasRow c s p
 of-store c s rows outcomes p is same holds = record {
   row = p;
   there = has-there s.history rows outcomes p c holds same (ap (λ H. is_open (summary H) p.number) (sym is.history));
@@ -83,11 +81,3 @@ file-has {waits = waits} {said = said} {s = s} (IsStoreFile.anew goes c now next
       until = refl;
       works = λ x. ap (λ ks. operations_at (events_of_kinds ks) q.number x) events ∙ works-same next.history q.number x ∙ works-over goes s said.prepared next ps it said.outcomes p holds x;
     }
-
--- ---- keys
-
-pub file-outcomes : {over : Bool → Type 0} {waits : Option Extension} {life : ℕ} {said : Contents} {s : Stored} {c : Contents} → IsStoreFile over waits life said s c → c.outcomes ≡ said.outcomes
-file-outcomes (IsStoreFile.present c is lives knows) = knows.0
-file-outcomes (IsStoreFile.closed goes c so is lives knows) = knows.0
-file-outcomes {waits = waits} {said = said} {s = s} (IsStoreFile.anew goes c now next ps so is lives knows begins) =
-    next-outcomes waits ps c now (next-says waits (prepared_in (now_says said s)) (closed_store goes said s) next ps c now begins) ∙ knows.0

@@ -1,5 +1,5 @@
 -- A row of those that are prepared, and the others beside it.
-use Rattle.std.proofs.Common.{◌≡◌, ◌≢◌, ◌∙◌, ◌⊎◌, inl, inr, ℕ, ◌<◌, Bool, true, false, cond, ◌||◌, List, [], ◌∷◌, ◌++◌, filter, map, Option, Some, None, refl, sym, ap, subst}
+use Rattle.std.proofs.Common.{◌≡◌, ◌≢◌, ◌∙◌, ◌⊎◌, inl, inr, ℕ, ◌<◌, Bool, true, false, cond, ◌||◌, List, [], ◌∷◌, ◌++◌, filter, map, Some, None, refl, sym, ap, subst}
 use Rattle.std.specs.Prelude.{◌==◌, Contains}
 use Rattle.std.specs.List.{AllByRecursion}
 use Rattle.std.proofs.lemmas.Bool.{cases_Bool, eq-eqb, false≢true}
@@ -10,7 +10,8 @@ use Rattle.transaction_key.specs.TransactionKey.{key_place}
 use Rattle.serial_order.specs.History.{begins, is_open, summary}
 use Rattle.serial_order.specs.Operations.{is_among}
 use Rattle.serial_order.proofs.Runs.{of_open}
-use Rattle.journal.specs.declared.outcome_row.KeyedOutcome.{KeyedOutcome}
+use Rattle.journal.specs.Outcomes.{Outcomes, let_go}
+use Rattle.journal.proofs.StaysKnown.{let-go-none}
 use Rattle.journal.specs.declared.prepared_row.Prepared.{Prepared}
 use Rattle.durable_store.specs.Durable.{events_of_kinds, kinds}
 use Rattle.durable_store.specs.Held.{first_passing, has_number, has_place, prepared_numbers, undecided}
@@ -108,13 +109,13 @@ abbrev pub IsBesideRow : List Event → Prepared → Prepared → Type 0
 IsBesideRow H p q = (is_open (summary H) q.number ≡ false) ⊎ ((q ≡ p) ⊎ ((q.number ≢ p.number) × (key_place q.key ≢ key_place p.key)))
 
 -- this row is one of these, its transaction is open, nothing is kept at the place of its key, and the others are beside it
-pub record Holds (H : List Event) (rows : List Prepared) (outcomes : ℕ → Option KeyedOutcome) (p : Prepared) : Type 0 where
+pub record Holds (H : List Event) (rows : List Prepared) (outcomes : Outcomes) (p : Prepared) : Type 0 where
   pub there : IsIn p rows
   pub opened : is_open (summary H) p.number ≡ true
-  pub free : outcomes (key_place p.key) ≡ None
+  pub free : outcomes.at (key_place p.key) ≡ None
   pub alone : AllByRecursion (IsBesideRow H p) rows
 
-module _ (H : List Event) (rows : List Prepared) (outcomes : ℕ → Option KeyedOutcome) (p : Prepared) (holds : Holds H rows outcomes p) where
+module _ (H : List Event) (rows : List Prepared) (outcomes : Outcomes) (p : Prepared) (holds : Holds H rows outcomes p) where
   -- it is prepared
   pub holds-prepared : IsIn p (open_rows H rows)
   holds-prepared = in-filter (λ (q : Prepared). is_open (summary (events_of_kinds (kinds H))) q.number) rows p holds.there (open-same H p.number ∙ holds.opened)
@@ -169,13 +170,17 @@ module _ (H : List Event) (rows : List Prepared) (outcomes : ℕ → Option Keye
   }
 
   -- outcomes more, at other places
-  pub holds-kept : (now : ℕ → Option KeyedOutcome) → now (key_place p.key) ≡ None → Holds H rows now p
+  pub holds-kept : (now : Outcomes) → now.at (key_place p.key) ≡ None → Holds H rows now p
   holds-kept now free = record { there = holds.there; opened = holds.opened; free = free; alone = holds.alone }
+
+  -- where some are let go
+  pub holds-let-go : Holds H rows (let_go outcomes) p
+  holds-let-go = holds-kept (let_go outcomes) (let-go-none outcomes (key_place p.key) holds.free)
 
 -- ---- a new row
 
 -- an open transaction of a number and a place that nobody has who is prepared
-pub holds-new : (H : List Event) (rows : List Prepared) (outcomes : ℕ → Option KeyedOutcome) (p : Prepared) → is_open (summary H) p.number ≡ true → outcomes (key_place p.key) ≡ None
+pub holds-new : (H : List Event) (rows : List Prepared) (outcomes : Outcomes) (p : Prepared) → is_open (summary H) p.number ≡ true → outcomes.at (key_place p.key) ≡ None
     → first_passing (has_number p.number) (open_rows H rows) ≡ None → first_passing (has_place p.key) (open_rows H rows) ≡ None → Holds H (rows ++ p ∷ []) outcomes p
 holds-new H rows outcomes p opened free no_number no_place = record {
   there = in-last rows p;

@@ -1,5 +1,5 @@
--- Votes that were answered are held after a crash: each transaction that was prepared is prepared still, with the same operations, or it is decided.
-use Rattle.std.specs.Prelude.{◌≡◌, ◌⊎◌, ◌<◌, ℕ, List, Some, Ok, Contains}
+-- Votes that were answered are held after a crash: each transaction that was prepared is prepared still, with the same operations, or it was decided.
+use Rattle.std.specs.Prelude.{◌≡◌, ◌⊎◌, ◌<◌, ℕ, List, ◌++◌, Option, Some, Ok, Contains}
 use Rattle.std.specs.List.{AllByRecursion}
 use Rattle.sqlite_trees.specs.declared.store.Store.{Ghosts}
 use Rattle.sqlite_trees.specs.Tree.{Trees}
@@ -11,18 +11,23 @@ use Rattle.journal.specs.declared.outcome_row.Outcome.{Outcome}
 use Rattle.journal.specs.declared.prepared_row.Prepared.{Prepared}
 use Rattle.journal.specs.Contents.{Contents, contents_of}
 use Rattle.journal.specs.Journal.{Clean, may_leave}
+use Rattle.journal.specs.Outcomes.{StaysKnown}
+use Rattle.store_laws.specs.Stored.{Stored}
 use Rattle.durable_store.specs.declared.durable.Durable.{Durable}
 use Rattle.durable_store.specs.Durable.{IsDurable, events_of_kinds, prepared_in}
 use Rattle.durable_store.specs.Keys.{outcome_under}
+use Rattle.request_text.specs.declared.request.Asked.{Asked}
 use Rattle.request_text.specs.Requests.{asked_by}
 use Rattle.request_text.specs.declared.request.Request.TheVariants as request
 use Rattle.request_text.specs.declared.request.TransactionName.{TransactionName}
 use Rattle.serving.specs.declared.answer_line.AnswerLine.TheVariants.{Voted}
 use Rattle.serving.specs.declared.answer_line.Answered.{Answered}
+use Rattle.serving.specs.declared.extension.Extension.{Extension}
 use Rattle.serving.specs.AnswersFound.{HasMoment, IsIt}
-use Rattle.serving.specs.Left.{Began, began_at}
-use Rattle.serving.specs.Names.{named, number_named}
+use Rattle.serving.specs.Left.{Began, IsFileAfter, began_at}
+use Rattle.serving.specs.Names.{KnownNames, named, number_named}
 use Rattle.serving.specs.Places.{TellsSuch}
+use Rattle.serving.specs.Served.{Serves}
 use Rattle.serving.specs.Whole.{session_of}
 
 -- ---- votes
@@ -41,6 +46,23 @@ operations_at H number x = ops (of number (surviving_at x H))
 abbrev pub IsDecided : Contents → List ℕ → Type 0
 IsDecided c key = (how : Outcome) × (outcome_under c key ≡ Some how)
 
+-- at a moment since serving began the file knew it. This is the file after the lines that were done by then and maybe more, which knows it still, unless since it was
+-- kept as many outcomes were as stay at least
+pub record WasDecided (b : Began) (last : List (List ℕ) → Type 0) (c : Contents) (key : List ℕ) : Type 0 where
+  pub lines : List (List ℕ)
+  pub answers : List Answered
+  pub names : KnownNames
+  pub said : Contents
+  pub reached : Stored
+  pub ended : Option Asked
+  pub waits : Option Extension
+  pub serves : Serves (Unit {0}) b.most b.file b.names lines b.store answers names said reached ended waits
+  pub decided : IsDecided said key
+  pub more : List (List ℕ)
+  pub later : List Answered
+  pub file : IsFileAfter b last (lines ++ more) (answers ++ later) c
+  pub stays : StaysKnown said.outcomes c.outcomes
+
 -- a row of those that are prepared and not decided is of this transaction, as was asked
 pub record IsItsRow (t : TransactionName) (key : List ℕ) (until : ℕ) (row : Prepared) : Type 0 where
   pub under : row.key ≡ key
@@ -58,11 +80,11 @@ pub record IsVoteHeld (b : Began) (last : List (List ℕ) → Type 0) (c : Conte
   pub known : number_named found.names t ≡ Some number
   pub works : (x : ℕ) → operations_at (events_of_kinds c.events) row.number x ≡ operations_at found.new.history number x
 
--- whatever a crash leaves has each vote that was answered: its transaction is decided, or prepared still
+-- whatever a crash leaves has each vote that was answered: its transaction was decided, or is prepared still
 abbrev pub VotesAreHeld : {S : Type 0} (g : Ghosts S) → Began → (List (List ℕ) → Type 0) → List (List ℕ) → List Answered → Durable S → Type 0
 VotesAreHeld g b last lines answers now =
     (line : List ℕ) (a : Answered) (t : TransactionName) (key : List ℕ) (until : ℕ) → AnswersVote line a t key until → TellsSuch lines answers (IsIt line a)
-    → (db : Trees) → may_leave g now.journal db → IsDecided (contents_of db) key ⊎ IsVoteHeld b last (contents_of db) line a t key until
+    → (db : Trees) → may_leave g now.journal db → WasDecided b last (contents_of db) key ⊎ IsVoteHeld b last (contents_of db) line a t key until
 
 -- ---- where serving began
 

@@ -55,8 +55,8 @@ free-under outcomes key (q ∷ ps) p free there =
     ] refl there
 
 pub free-of : {S : Type 0} (g : Ghosts S) (d : Durable S) → IsDurable g d → Clean g d.journal → (key : List ℕ) (p : Prepared) → first_passing (has_key key) (prepared_in (written g d.journal)) ≡ Some p
-    → (written g d.journal).outcomes (key_place key) ≡ None
+    → (written g d.journal).outcomes.at (key_place key) ≡ None
 free-of g d sound clean key p there =
     let is = sound.prepared clean in
     let listed = held-written g d sound clean in
-    free-under (written g d.journal).outcomes key d.prepared.items p is.free (subst (λ ps. first_passing (has_key key) ps ≡ Some p) (sym listed) there)
+    free-under (written g d.journal).outcomes.at key d.prepared.items p is.free (subst (λ ps. first_passing (has_key key) ps ≡ Some p) (sym listed) there)

@@ -48,12 +48,12 @@ pub writes-more : {S : Type 0} (g : Ghosts S) (old new : Durable S) → WritesSi
 writes-more g old new since clean = subst (λ c. HasMore (written g old.journal) c) (sym (since clean)) (follows-with_all (written g old.journal) (drop (length old.store.history) new.store.history))
 
 -- the same, where what became of a transaction is kept too, at a place that was free
-pub follows-kept : (c : Contents) (es : List Event) (o : KeyedOutcome) → c.outcomes (key_place o.key) ≡ None → HasMore c (with_outcome (with_all c es) o)
+pub follows-kept : (c : Contents) (es : List Event) (o : KeyedOutcome) → c.outcomes.at (key_place o.key) ≡ None → HasMore c (with_outcome (with_all c es) o)
 follows-kept c es o free = record {
   more = kinds es;
   events = refl;
   outcomes = λ n kept is. elim (cases_eq n (key_place o.key)) [
-    | inl same ↦ absurd (let it : None ≡ Some kept = sym free ∙ ap c.outcomes (sym same) ∙ is in cc)
+    | inl same ↦ absurd (let it : None ≡ Some kept = sym free ∙ ap c.outcomes.at (sym same) ∙ is in cc)
     | inr differs ↦ rw (ne_eqb n (key_place o.key) differs) is
   ];
   rows = [];
@@ -62,11 +62,11 @@ follows-kept c es o free = record {
 }
 
 -- where nothing else happened
-follows-outcome : (c : Contents) (key : List ℕ) (outcome : Outcome) → c.outcomes (key_place key) ≡ None → HasMore c (with_key key (Some outcome) c)
+follows-outcome : (c : Contents) (key : List ℕ) (outcome : Outcome) → c.outcomes.at (key_place key) ≡ None → HasMore c (with_key key (Some outcome) c)
 follows-outcome c key outcome free =
     subst (λ es. HasMore c (with_key key (Some outcome) (record c { events = es }))) (append-nil c.events) (follows-kept c [] (record { key = key; outcome = outcome }) free)
 
-pub follows-key : (c : Contents) (es : List Event) (key : List ℕ) (outcome : Option Outcome) → c.outcomes (key_place key) ≡ None → HasMore c (with_key key outcome (with_all c es))
+pub follows-key : (c : Contents) (es : List Event) (key : List ℕ) (outcome : Option Outcome) → c.outcomes.at (key_place key) ≡ None → HasMore c (with_key key outcome (with_all c es))
 follows-key c es key None free = follows-with_all c es
 follows-key c es key (Some outcome) free = follows-kept c es (record { key = key; outcome = outcome }) free
 
@@ -135,7 +135,7 @@ writes-decision g key d came old new sound was decides clean = by-verdict came (
     same : now ≡ c → HasMore c now
     same is = subst (HasMore c) (sym is) (follows-none c)
 
-    kept-free : (p : Prepared) → first_passing (has_key key) (prepared_in c) ≡ Some p → c.outcomes (key_place key) ≡ None
+    kept-free : (p : Prepared) → first_passing (has_key key) (prepared_in c) ≡ Some p → c.outcomes.at (key_place key) ≡ None
     kept-free p there = free-of g old sound (was clean) key p there
 
     by-verdict : (came : Verdict) → Decides old.store new.store c now key d came → HasMore c now

@@ -1,7 +1,8 @@
 -- What begins where an epoch is over.
 use Rattle.std.proofs.Common.{◌≡◌, ◌∙◌, Bool, Option, None, Some, List, [], ◌++◌, map, length, refl, ap, subst}
 use Rattle.journal.specs.declared.header.Header.{Header}
-use Rattle.journal.specs.Contents.{Contents, newest_format}
+use Rattle.journal.specs.Contents.{Contents, newest_format, with_let_go}
+use Rattle.journal.specs.Outcomes.{let_go}
 use Rattle.store_laws.specs.Stored.{Stored}
 use Rattle.journal.specs.declared.prepared_row.Prepared.{Prepared}
 use Rattle.durable_store.specs.Durable.{kinds}
@@ -28,10 +29,10 @@ pub more-same : {a b : Contents} → HasMore a b → b.outcomes ≡ a.outcomes �
 more-same more outcomes prepared = (ap (λ (x : Contents). x.objects) more.others, ap (λ (x : Contents). x.types) more.others, outcomes, prepared)
 
 pub says-next-then : (waits : Option Extension) (ps : List Prepared) (a b c : Contents) → SaysSame a b → SaysNext waits ps b c → SaysNext waits ps a c
-says-next-then None ps a b c first second = (second.0 ∙ first.0, second.1 ∙ first.1, second.2 ∙ first.2, second.3)
+says-next-then None ps a b c first second = (second.0 ∙ first.0, second.1 ∙ first.1, second.2 ∙ ap let_go first.2, second.3)
 says-next-then (Some e) ps a b c first second = (more-then e a b c first second.0, second.1)
   where
-    more-then : (e : Extension) (a b c : Contents) → SaysSame a b → HasMoreObjects e.added b c → HasMoreObjects e.added a c
+    more-then : (e : Extension) (a b c : Contents) → SaysSame a b → HasMoreObjects e.added (with_let_go b) c → HasMoreObjects e.added (with_let_go a) c
     more-then e a b c first second = record {
       fresh = second.fresh;
       unknown = subst (λ ts. AreUnknown ts second.fresh) first.1 second.unknown;
@@ -39,7 +40,7 @@ says-next-then (Some e) ps a b c first second = (more-then e a b c first second.
       are_placed = subst (λ ts. ArePlaced e.added.texts.items (ts ++ second.fresh) e.added.lines.items second.placed) first.1 second.are_placed;
       objects = second.objects ∙ ap (λ os. os ++ second.placed) first.0;
       types = second.types ∙ ap (λ ts. ts ++ second.fresh) first.1;
-      outcomes = second.outcomes ∙ first.2;
+      outcomes = second.outcomes ∙ ap let_go first.2;
     }
 
 -- ---- a file that begins anew

@@ -1,11 +1,11 @@
 -- What is known of a key, and what a vote and a decision come to, where a file says the same of keys and of who was prepared.
 use Rattle.std.proofs.Common.{◌≡◌, inl, inr, ℕ, Bool, List, Option, Some, None, refl, subst}
 use Rattle.store_laws.specs.Stored.{Stored}
-use Rattle.journal.specs.declared.outcome_row.KeyedOutcome.{KeyedOutcome}
 use Rattle.journal.specs.declared.outcome_row.Outcome.{Outcome}
 use Rattle.journal.specs.declared.outcome_row.Outcome.TheVariants.{Aborted}
 use Rattle.journal.specs.declared.prepared_row.Prepared.{Prepared}
 use Rattle.journal.specs.Contents.{Contents, with_prepared}
+use Rattle.journal.specs.Outcomes.{Outcomes}
 use Rattle.durable_store.specs.Durable.{prepared_in, kinds, with_all}
 use Rattle.durable_store.specs.Held.{first_passing}
 use Rattle.durable_store.specs.Keys.{IsFree, IsInState, IsPreparedUnder, IsTaken, KnowsKey, outcome_under, with_key}
@@ -24,11 +24,11 @@ use Rattle.serving.specs.NextEpoch.{SaysSame}
 use Rattle.serving.specs.Prepared.{now_says}
 
 -- what another file says, with these outcomes and prepared transactions, where its history is that of this store
-abbrev with_said : Contents → Stored → (ℕ → Option KeyedOutcome) → List Prepared → Contents
+abbrev with_said : Contents → Stored → Outcomes → List Prepared → Contents
 with_said d s outcomes prepared = record d { events = kinds s.history; outcomes = outcomes; prepared = prepared }
 
 module _ (c d : Contents) (s : Stored) (same : SaysSame c d) where
-  turned : (P : (ℕ → Option KeyedOutcome) → List Prepared → Type 0) → P d.outcomes d.prepared → P c.outcomes c.prepared
+  turned : (P : Outcomes → List Prepared → Type 0) → P d.outcomes d.prepared → P c.outcomes c.prepared
   turned P it = subst (λ outcomes. P outcomes c.prepared) same.2 (subst (λ prepared. P d.outcomes prepared) same.3 it)
 
   -- ---- a key

@@ -4,8 +4,8 @@ use Rattle.std.proofs.lemmas.List.{append_assoc, take_more}
 use Rattle.std.proofs.lemmas.Bool.{eqb-true}
 use Rattle.std.specs.Prelude.{◌==◌, MatchBool, MatchResult, nat_lt, if◌then◌else◌}
 use Rattle.sqlite_trees.specs.declared.store.Store.{Ghosts}
-use Rattle.journal.specs.declared.outcome_row.KeyedOutcome.{KeyedOutcome}
 use Rattle.journal.specs.Contents.{Contents}
+use Rattle.journal.specs.Outcomes.{Outcomes}
 use Rattle.journal.specs.Journal.{Clean, written}
 use Rattle.request_text.specs.Requests.{asked_by}
 use Rattle.request_text.specs.declared.fault.RequestFault.{RequestFault}
@@ -92,7 +92,7 @@ line-answered {S} {g} {began} {told} {bytes} {old} {new} b a is none ended clear
           let others = (stays.follows now).others in (
             ap (λ (x : Contents). x.objects) others ∙ before.0,
             ap (λ (x : Contents). x.types) others ∙ before.1,
-            (keeps now).0 ∙ ap₂ (λ (q : Result Request RequestFault) (outcomes : ℕ → Option KeyedOutcome). outcomes_after (kept_answered q a.answer) outcomes) (ap (λ (x : Asked). x.request) same) before.2,
+            (keeps now).0 ∙ ap₂ (λ (q : Result Request RequestFault) (outcomes : Outcomes). outcomes_after (kept_answered q a.answer) outcomes) (ap (λ (x : Asked). x.request) same) before.2,
             (keeps now).1 ∙ ap₂ (λ (q : Result Request RequestFault) (ps : List Prepared). prepared_answered old.session.names q a.answer ps) (ap (λ (x : Asked). x.request) same) before.3,
           );
       serves =

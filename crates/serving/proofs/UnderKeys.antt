@@ -12,7 +12,7 @@ use Rattle.journal.specs.declared.outcome_row.KeyedOutcome.{KeyedOutcome}
 use Rattle.journal.specs.declared.outcome_row.Outcome.{Outcome}
 use Rattle.journal.specs.declared.outcome_row.Outcome.TheVariants.{Aborted, Committed}
 use Rattle.journal.specs.declared.prepared_row.Prepared.{Prepared}
-use Rattle.journal.specs.OutcomeRow.{outcomes_with}
+use Rattle.journal.specs.Outcomes.{outcomes_with}
 use Rattle.journal.specs.Contents.{Contents}
 use Rattle.durable_store.specs.Durable.{prepared_in, with_all}
 use Rattle.durable_store.specs.Held.{first_passing, has_key}
@@ -50,7 +50,7 @@ commit-keeps c es prepared old n t key (keyed.Done kept) new free did =
     ap (λ o. (with_key key (Some o) (with_all c es)).outcomes) did.1 ∙ sym (ap (λ there. outcomes_where_free there (record { key = key; outcome = Committed [] }) c.outcomes) free.0)
 commit-keeps c es prepared old n t key (keyed.Undone denied.Prepared) new free did = refl
 commit-keeps c es prepared old n t key (keyed.Undone (denied.Refused refusal)) new free did = refl
-commit-keeps c es prepared old n t key (keyed.Known (Committed replies)) new knows did = sym (known-kept c key (Committed []) (Committed replies) (c.outcomes (key_place key)) knows)
+commit-keeps c es prepared old n t key (keyed.Known (Committed replies)) new knows did = sym (known-kept c key (Committed []) (Committed replies) (c.outcomes.at (key_place key)) knows)
 commit-keeps c es prepared old n t key (keyed.Known Aborted) new knows did = refl
 commit-keeps c es prepared old n t key keyed.Prepared new knows did = refl
 commit-keeps c es prepared old n t key keyed.Taken new knows did = refl
@@ -59,7 +59,7 @@ commit-keeps c es prepared old n t key keyed.Taken new knows did = refl
 pub unknown-keeps : (c : Contents) (t : TransactionName) (key : List ℕ) (known : KeyState) → IsInState c key known
     → c.outcomes ≡ outcomes_after (kept_by (request.CommitUnder t key) (unknown_under known)) c.outcomes
 unknown-keeps c t key state.Free knows = refl
-unknown-keeps c t key (state.Known (Committed replies)) knows = sym (known-kept c key (Committed []) (Committed replies) (c.outcomes (key_place key)) knows)
+unknown-keeps c t key (state.Known (Committed replies)) knows = sym (known-kept c key (Committed []) (Committed replies) (c.outcomes.at (key_place key)) knows)
 unknown-keeps c t key (state.Known Aborted) knows = refl
 unknown-keeps c t key state.Prepared knows = refl
 unknown-keeps c t key state.Taken knows = refl
@@ -75,7 +75,7 @@ ended-keeps c key names at (ending.Busy u) = refl
 ended-keeps c key names at ending.None = refl
 ended-keeps c key names at (ending.Refused refusal) = refl
 
-kept-replies : (c : Contents) (es : List Event) (key : List ℕ) (names : KnownNames) (kept : Outcome) (replies : List ℕ) → kept ≡ Committed replies → c.outcomes (key_place key) ≡ None
+kept-replies : (c : Contents) (es : List Event) (key : List ℕ) (names : KnownNames) (kept : Outcome) (replies : List ℕ) → kept ≡ Committed replies → c.outcomes.at (key_place key) ≡ None
     → (with_key key (Some kept) (with_all c es)).outcomes ≡ outcomes_after (kept_by (request.DoUnder key) (do_under_answer names (keyed.Done kept))) c.outcomes
 kept-replies c es key names (Committed told) replies is free = sym (ap (λ there. outcomes_where_free there (record { key = key; outcome = Committed told }) c.outcomes) free)
 kept-replies c es key names Aborted replies is free = absurd (cc)
@@ -87,7 +87,7 @@ do-keeps c es old calls names key (keyed.Done kept) new free did =
     kept-replies c es key names kept it.0 it.1 free.0
 do-keeps c es old calls names key (keyed.Undone (unfinished.Ended at how)) new free did = ended-keeps c key names at how
 do-keeps c es old calls names key (keyed.Undone (unfinished.NotBegun refusal)) new free did = refl
-do-keeps c es old calls names key (keyed.Known (Committed replies)) new knows did = sym (known-kept c key (Committed replies) (Committed replies) (c.outcomes (key_place key)) knows)
+do-keeps c es old calls names key (keyed.Known (Committed replies)) new knows did = sym (known-kept c key (Committed replies) (Committed replies) (c.outcomes.at (key_place key)) knows)
 do-keeps c es old calls names key (keyed.Known Aborted) new knows did = refl
 do-keeps c es old calls names key keyed.Prepared new knows did = refl
 do-keeps c es old calls names key keyed.Taken new knows did = refl
@@ -95,7 +95,7 @@ do-keeps c es old calls names key keyed.Taken new knows did = refl
 -- where no transaction begins
 pub draining-keeps : (c : Contents) (key : List ℕ) (known : KeyState) → IsInState c key known → c.outcomes ≡ outcomes_after (kept_by (request.DoUnder key) (draining_under known)) c.outcomes
 draining-keeps c key state.Free knows = refl
-draining-keeps c key (state.Known (Committed replies)) knows = sym (known-kept c key (Committed replies) (Committed replies) (c.outcomes (key_place key)) knows)
+draining-keeps c key (state.Known (Committed replies)) knows = sym (known-kept c key (Committed replies) (Committed replies) (c.outcomes.at (key_place key)) knows)
 draining-keeps c key (state.Known Aborted) knows = refl
 draining-keeps c key state.Prepared knows = refl
 draining-keeps c key state.Taken knows = refl
@@ -103,14 +103,14 @@ draining-keeps c key state.Taken knows = refl
 -- ---- a decision
 
 -- what is written is what its answer says: nothing was kept at the place of a key under which a transaction is prepared
-pub decide-keeps : (old new : Stored) (c now : Contents) (key : List ℕ) (asked : Asked) (came : Verdict) → ((p : Prepared) → first_passing (has_key key) (prepared_in c) ≡ Some p → c.outcomes (key_place key) ≡ None)
+pub decide-keeps : (old new : Stored) (c now : Contents) (key : List ℕ) (asked : Asked) (came : Verdict) → ((p : Prepared) → first_passing (has_key key) (prepared_in c) ≡ Some p → c.outcomes.at (key_place key) ≡ None)
     → Decides old new c now key (decision_of asked) came → now.outcomes ≡ outcomes_after (kept_by (request.Decide key asked) (verdict_answer came)) c.outcomes
 decide-keeps old new c now key asked verdict.Decided free did =
     let kept : KeyedOutcome = record { key = key; outcome = decided_outcome (decision_of asked) } in
     elim did [
       | inl ends ↦ ap (λ (x : Contents). x.outcomes) ends.written ∙ sym (ap (λ there. outcomes_where_free there kept c.outcomes) (free ends.p ends.there))
       | inr before ↦ elim before.0 [
-        | inl known ↦ ap (λ (x : Contents). x.outcomes) known.3 ∙ sym (known-kept c key (decided_outcome (decision_of asked)) known.0 (c.outcomes (key_place key)) known.1)
+        | inl known ↦ ap (λ (x : Contents). x.outcomes) known.3 ∙ sym (known-kept c key (decided_outcome (decision_of asked)) known.0 (c.outcomes.at (key_place key)) known.1)
         | inr aborted ↦
             ap (λ (x : Contents). x.outcomes) aborted.2
             ∙ (ap (λ d. outcomes_with c.outcomes (record { key = key; outcome = decided_outcome d })) (sym aborted.0) ∙ sym (ap (λ there. outcomes_where_free there kept c.outcomes) aborted.1.0))

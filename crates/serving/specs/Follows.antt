@@ -13,7 +13,7 @@ use Rattle.durable_store.specs.declared.durable.Durable.{Durable}
 pub record HasMore (old new : Contents) : Type 0 where
   pub more : List EventKind
   pub events : new.events ≡ old.events ++ more
-  pub outcomes : (n : ℕ) (kept : KeyedOutcome) → old.outcomes n ≡ Some kept → new.outcomes n ≡ Some kept
+  pub outcomes : (n : ℕ) (kept : KeyedOutcome) → old.outcomes.at n ≡ Some kept → new.outcomes.at n ≡ Some kept
   pub rows : List Prepared
   pub prepared : new.prepared ≡ old.prepared ++ rows
   pub others : new ≡ record old { events = new.events; outcomes = new.outcomes; prepared = new.prepared }

@@ -14,7 +14,7 @@ use Rattle.transaction_key.specs.TransactionKey.{key_place}
 use Rattle.journal.specs.declared.outcome_row.KeyedOutcome.{KeyedOutcome}
 use Rattle.journal.specs.declared.outcome_row.Outcome.{Outcome}
 use Rattle.journal.specs.declared.outcome_row.Outcome.TheVariants as outcome
-use Rattle.journal.specs.OutcomeRow.{outcomes_with}
+use Rattle.journal.specs.Outcomes.{Outcomes, outcomes_with}
 use Rattle.journal.specs.Contents.{Contents}
 use Rattle.durable_store.specs.Keys.{AttemptsUnder, CommitsUnder, IsInState, KnowsKey}
 use Rattle.durable_store.specs.declared.keyed.Keyed.{Keyed}
@@ -120,13 +120,13 @@ kept_answered (Ok r) answer = kept_by r answer
 kept_answered (Err fault) answer = None
 
 -- it is kept where nothing was at its key's place
-abbrev pub outcomes_where_free : Option KeyedOutcome → KeyedOutcome → (ℕ → Option KeyedOutcome) → ℕ → Option KeyedOutcome
+abbrev pub outcomes_where_free : Option KeyedOutcome → KeyedOutcome → Outcomes → Outcomes
 outcomes_where_free None o outcomes = outcomes_with outcomes o
 outcomes_where_free (Some kept) o outcomes = outcomes
 
-abbrev pub outcomes_after : Option KeyedOutcome → (ℕ → Option KeyedOutcome) → ℕ → Option KeyedOutcome
+abbrev pub outcomes_after : Option KeyedOutcome → Outcomes → Outcomes
 outcomes_after None outcomes = outcomes
-outcomes_after (Some o) outcomes = outcomes_where_free (outcomes (key_place o.key)) o outcomes
+outcomes_after (Some o) outcomes = outcomes_where_free (outcomes.at (key_place o.key)) o outcomes
 
 -- what a file says after a line that was so answered, by these names
 abbrev pub said_after : KnownNames → Contents → List ℕ → AnswerLine → Contents

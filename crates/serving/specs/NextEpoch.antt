@@ -4,7 +4,7 @@ use Rattle.table_checker.specs.Checked.{Checked}
 use Rattle.store_laws.specs.Stored.{Stored}
 use Rattle.carried_orders.specs.Orders.{AreStrong}
 use Rattle.store_text.specs.declared.line.ObjectLine.{ObjectLine}
-use Rattle.journal.specs.Contents.{Contents}
+use Rattle.journal.specs.Contents.{Contents, with_let_go}
 use Rattle.durable_store.specs.Durable.{kinds}
 use Rattle.durable_store.specs.Epochs.{GoesOver, renewed_with}
 use Rattle.journal.specs.declared.prepared_row.Prepared.{Prepared}
@@ -62,10 +62,10 @@ pub record HasMoreObjects (a : Added) (c now : Contents) : Type 0 where
   pub types : now.types ≡ c.types ++ fresh
   pub outcomes : now.outcomes ≡ c.outcomes
 
--- what it says of these where another epoch begins, in which these are prepared
+-- what it says of these where another epoch begins, in which these are prepared: outcomes are let go since which as many were kept as stay at least
 abbrev pub SaysNext : Option Extension → List Prepared → Contents → Contents → Type 0
-SaysNext None ps c now = SaysSame (record c { prepared = ps }) now
-SaysNext (Some e) ps c now = HasMoreObjects e.added c now × (now.prepared ≡ ps)
+SaysNext None ps c now = SaysSame (record (with_let_go c) { prepared = ps }) now
+SaysNext (Some e) ps c now = HasMoreObjects e.added (with_let_go c) now × (now.prepared ≡ ps)
 
 -- ---- what is answered
 

@@ -41,10 +41,10 @@ pub fn told_transactions_are_found<S: Alter>()
 {}
 
 /// So is what became of a transaction that has a key: whatever file a crash leaves knows each that was answered as committed under
-/// a key, with the replies that were told.
+/// a key, with the replies that were told, where fewer outcomes were kept since than stay at least.
 pub fn told_keys_are_found<S: Alter>()
     ensures { (b : Began) (all : List (List ℕ)) (ended : Option Asked) (given_now : Option (List ℕ)) (seen rest half : List ℕ) (lines : List (List ℕ)) (answers : List Answered) (now : Durable S)
-        → AreLines seen lines half → Survives S.Store b (AreLast all ended given_now) (seen ++ rest) answers now → KeysAreFound S.Store lines answers now }
+        → AreLines seen lines half → Survives S.Store b (AreLast all ended given_now) (seen ++ rest) answers now → KeysAreFound S.Store b (AreLast all ended given_now) lines answers now }
 {}
 
 /// Where all that is open goes over, no begin is told to wait for the end of an epoch, whether it is full or an extension waits.
