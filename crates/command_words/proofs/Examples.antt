@@ -48,30 +48,32 @@ creates = (omega arith, refl)
 no_types_of_new : AskFor (codes "create" ∷ codes "a.db" ∷ codes "a.objects" ∷ []) (order (create (codes "a.db") (codes "a.objects") [])) → ⊥
 no_types_of_new (some, are) = omega (arith, some)
 
--- a store is served by its path, where what is open has five seconds
-serves : AskFor (codes "serve" ∷ codes "a.db" ∷ []) (serve (record { database = codes "a.db"; fast = false; archive = None; drain = 5 }))
+-- a store is served by its path, where what is open has five seconds and a million outcomes stay
+serves : AskFor (codes "serve" ∷ codes "a.db" ∷ []) (serve (record { database = codes "a.db"; fast = false; archive = None; drain = 5; outcomes = 1000000 }))
 serves = (
   codes "a.db" ∷ [],
   refl,
   record {
-    parts = record { database = Some (codes "a.db"); fast = false; archive = None; drain = None };
+    parts = record { database = Some (codes "a.db"); fast = false; archive = None; drain = None; outcomes = None };
     say = says.database (codes "a.db") [] no_parts says.nothing refl refl;
-    whole = record { database = refl; fast = refl; archive = refl; drain = refl };
+    whole = record { database = refl; fast = refl; archive = refl; drain = refl; outcomes = refl };
   },
 )
 
 -- its options may be anywhere, and a path that begins with a hyphen follows `--`
-serves_fast : AskFor (codes "serve" ∷ codes "--drain" ∷ codes "7" ∷ codes "--archive" ∷ codes "old" ∷ codes "--" ∷ codes "-a.db" ∷ codes "--fast" ∷ [])
-    (serve (record { database = codes "-a.db"; fast = true; archive = Some (codes "old"); drain = 7 }))
+serves_fast : AskFor (codes "serve" ∷ codes "--drain" ∷ codes "7" ∷ codes "--outcomes" ∷ codes "9" ∷ codes "--archive" ∷ codes "old" ∷ codes "--" ∷ codes "-a.db" ∷ codes "--fast" ∷ [])
+    (serve (record { database = codes "-a.db"; fast = true; archive = Some (codes "old"); drain = 7; outcomes = 9 }))
 serves_fast = (
-  codes "--drain" ∷ codes "7" ∷ codes "--archive" ∷ codes "old" ∷ codes "--" ∷ codes "-a.db" ∷ codes "--fast" ∷ [],
+  codes "--drain" ∷ codes "7" ∷ codes "--outcomes" ∷ codes "9" ∷ codes "--archive" ∷ codes "old" ∷ codes "--" ∷ codes "-a.db" ∷ codes "--fast" ∷ [],
   refl,
   record {
-    parts = record { database = Some (codes "-a.db"); fast = true; archive = Some (codes "old"); drain = Some 7 };
+    parts = record { database = Some (codes "-a.db"); fast = true; archive = Some (codes "old"); drain = Some 7; outcomes = Some 9 };
     say =
-        says.drain (codes "7") 7 _ _ (says.archive (codes "old") _ _ (says.dashes (codes "-a.db") _ _ (says.fast [] no_parts says.nothing refl) refl) refl) refl
-        ((omega arith, (omega arith, tt)), refl) (omega arith);
-    whole = record { database = refl; fast = refl; archive = refl; drain = refl };
+        says.drain (codes "7") 7 _ _
+        (says.outcomes (codes "9") 9 _ _ (says.archive (codes "old") _ _ (says.dashes (codes "-a.db") _ _ (says.fast [] no_parts says.nothing refl) refl) refl) refl
+        ((omega arith, (omega arith, tt)), refl) (omega arith))
+        refl ((omega arith, (omega arith, tt)), refl) (omega arith);
+    whole = record { database = refl; fast = refl; archive = refl; drain = refl; outcomes = refl };
   },
 )
 

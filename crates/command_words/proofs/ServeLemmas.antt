@@ -5,7 +5,7 @@ use Rattle.std.specs.Prelude.{codes, get_or, Option, Some, None, Result, Ok, Err
 use Rattle.std.specs.Str.{bytes_eq}
 use Rattle.clap.specs.Walk.{texts}
 use Rattle.command_words.specs.Lines.{SpellsNumber, IsPlain, line_words, work_name}
-use Rattle.command_words.specs.Serve.{AreWhole, ServeParts, Say, SayServe, Serve, no_parts, nothing, fast, drain, database, archive, dashes, said_by}
+use Rattle.command_words.specs.Serve.{AreWhole, ServeParts, Say, SayServe, Serve, no_parts, nothing, fast, drain, outcomes, database, archive, dashes, said_by}
 use Rattle.command_words.specs.declared.serve.Parts.{Parts as Found}
 use Rattle.command_words.specs.declared.task.Task.{Task}
 use Rattle.command_words.specs.declared.task.Topic.{Topic}
@@ -32,6 +32,7 @@ fast_says _ rest _ nothing is = absurd cc
 fast_says _ rest _ (fast more q said not) is = (q, subst (λ (ws : List Text). Say ws q) (ap tail is) said, not, refl)
 fast_says _ rest _ (archive folder more q said none) is = absurd cc
 fast_says _ rest _ (drain text n more q said none number small) is = absurd cc
+fast_says _ rest _ (outcomes text n more q said none number small) is = absurd cc
 fast_says _ rest _ (database path more q said none plain) is =
     absurd (not_plain path (codes "--fast") (let first : path ≡ codes "--fast" = cc in first) plain (λ (p : IsPlain (codes "--fast")). cc))
 fast_says _ rest _ (dashes path more q said none) is = absurd cc
@@ -44,9 +45,23 @@ drain_says _ rest text _ (archive folder more q said none) is = absurd cc
 drain_says _ rest text _ (drain other n more q said none number small) is =
     let same : other ≡ text = cc in
     (q, n, subst (λ (ws : List Text). Say ws q) (ap (λ (ws : List Text). tail (tail ws)) is) said, none, subst (λ (t : Text). SpellsNumber t n) same number, small, refl)
+drain_says _ rest text _ (outcomes other n more q said none number small) is = absurd cc
 drain_says _ rest text _ (database path more q said none plain) is =
     absurd (not_plain path (codes "--drain") (let first : path ≡ codes "--drain" = cc in first) plain (λ (p : IsPlain (codes "--drain")). cc))
 drain_says _ rest text _ (dashes path more q said none) is = absurd cc
+
+pub outcomes_says : (words rest : List Text) (text : Text) (p : ServeParts) → Say words p → words ≡ codes "--outcomes" ∷ text ∷ rest
+    → (q : ServeParts) × (n : ℕ) × Say rest q × (q.outcomes ≡ None) × SpellsNumber text n × (n < 2 ^ 32) × (p ≡ record q { outcomes = Some n })
+outcomes_says _ rest text _ nothing is = absurd cc
+outcomes_says _ rest text _ (fast more q said not) is = absurd cc
+outcomes_says _ rest text _ (archive folder more q said none) is = absurd cc
+outcomes_says _ rest text _ (drain other n more q said none number small) is = absurd cc
+outcomes_says _ rest text _ (outcomes other n more q said none number small) is =
+    let same : other ≡ text = cc in
+    (q, n, subst (λ (ws : List Text). Say ws q) (ap (λ (ws : List Text). tail (tail ws)) is) said, none, subst (λ (t : Text). SpellsNumber t n) same number, small, refl)
+outcomes_says _ rest text _ (database path more q said none plain) is =
+    absurd (not_plain path (codes "--outcomes") (let first : path ≡ codes "--outcomes" = cc in first) plain (λ (p : IsPlain (codes "--outcomes")). cc))
+outcomes_says _ rest text _ (dashes path more q said none) is = absurd cc
 
 pub archive_says : (words rest : List Text) (folder : Text) (p : ServeParts) → Say words p → words ≡ codes "--archive" ∷ folder ∷ rest
     → (q : ServeParts) × Say rest q × (q.archive ≡ None) × (p ≡ record q { archive = Some folder })
@@ -56,6 +71,7 @@ archive_says _ rest folder _ (archive other more q said none) is =
     let same : other ≡ folder = cc in
     (q, subst (λ (ws : List Text). Say ws q) (ap (λ (ws : List Text). tail (tail ws)) is) said, none, ap (λ (o : Text). record q { archive = Some o }) same)
 archive_says _ rest folder _ (drain text n more q said none number small) is = absurd cc
+archive_says _ rest folder _ (outcomes text n more q said none number small) is = absurd cc
 archive_says _ rest folder _ (database path more q said none plain) is =
     absurd (not_plain path (codes "--archive") (let first : path ≡ codes "--archive" = cc in first) plain (λ (p : IsPlain (codes "--archive")). cc))
 archive_says _ rest folder _ (dashes path more q said none) is = absurd cc
@@ -66,6 +82,7 @@ dashes_say _ rest path _ nothing is = absurd cc
 dashes_say _ rest path _ (fast more q said not) is = absurd cc
 dashes_say _ rest path _ (archive folder more q said none) is = absurd cc
 dashes_say _ rest path _ (drain text n more q said none number small) is = absurd cc
+dashes_say _ rest path _ (outcomes text n more q said none number small) is = absurd cc
 dashes_say _ rest path _ (database other more q said none plain) is =
     absurd (not_plain other (codes "--") (let first : other ≡ codes "--" = cc in first) plain (λ (p : IsPlain (codes "--")). cc))
 dashes_say _ rest path _ (dashes other more q said none) is =
@@ -81,6 +98,8 @@ database_says _ rest path _ (archive folder more q said none) is plain =
     absurd (not_plain path (codes "--archive") (let first : path ≡ codes "--archive" = cc in first) plain (λ (p : IsPlain (codes "--archive")). cc))
 database_says _ rest path _ (drain text n more q said none number small) is plain =
     absurd (not_plain path (codes "--drain") (let first : path ≡ codes "--drain" = cc in first) plain (λ (p : IsPlain (codes "--drain")). cc))
+database_says _ rest path _ (outcomes text n more q said none number small) is plain =
+    absurd (not_plain path (codes "--outcomes") (let first : path ≡ codes "--outcomes" = cc in first) plain (λ (p : IsPlain (codes "--outcomes")). cc))
 database_says _ rest path _ (database other more q said none is_plain) is plain =
     let same : other ≡ path = cc in
     (q, subst (λ (ws : List Text). Say ws q) (ap tail is) said, none, ap (λ (o : Text). record q { database = Some o }) same)
@@ -92,6 +111,7 @@ nothing_says _ _ nothing is = refl
 nothing_says _ _ (fast more q said not) is = absurd cc
 nothing_says _ _ (archive folder more q said none) is = absurd cc
 nothing_says _ _ (drain text n more q said none number small) is = absurd cc
+nothing_says _ _ (outcomes text n more q said none number small) is = absurd cc
 nothing_says _ _ (database path more q said none plain) is = absurd cc
 nothing_says _ _ (dashes path more q said none) is = absurd cc
 
@@ -106,6 +126,7 @@ alone_says _ word is no_fast hyphen _ nothing = absurd cc
 alone_says _ word is no_fast hyphen _ (fast more q said not) = no_fast (let same : codes "--fast" ≡ word = cc in sym same)
 alone_says _ word is no_fast hyphen _ (archive folder more q said none) = absurd cc
 alone_says _ word is no_fast hyphen _ (drain text n more q said none number small) = absurd cc
+alone_says _ word is no_fast hyphen _ (outcomes text n more q said none number small) = absurd cc
 alone_says _ word is no_fast hyphen _ (database path more q said none plain) = hyphen (let same : path ≡ word = cc in subst IsPlain same plain)
 alone_says _ word is no_fast hyphen _ (dashes path more q said none) = absurd cc
 
@@ -116,13 +137,14 @@ no_value words (more ∷ behind) word is none no_fast hyphen p = absurd (omega (
 
 -- and of two the first has to be an option, or `--`
 pub no_option : (words rest : List Text) (word value : Text) → words ≡ word ∷ value ∷ rest → word ≢ codes "--fast" → ¬ (IsPlain word)
-    → word ≢ codes "--archive" → word ≢ codes "--drain" → word ≢ codes "--" → (p : ServeParts) → ¬ (Say words p)
-no_option _ rest word value is no_fast hyphen no_archive no_drain no_dashes _ nothing = absurd cc
-no_option _ rest word value is no_fast hyphen no_archive no_drain no_dashes _ (fast more q said not) = no_fast (let same : codes "--fast" ≡ word = cc in sym same)
-no_option _ rest word value is no_fast hyphen no_archive no_drain no_dashes _ (archive folder more q said none) = no_archive (let same : codes "--archive" ≡ word = cc in sym same)
-no_option _ rest word value is no_fast hyphen no_archive no_drain no_dashes _ (drain text n more q said none number small) = no_drain (let same : codes "--drain" ≡ word = cc in sym same)
-no_option _ rest word value is no_fast hyphen no_archive no_drain no_dashes _ (database path more q said none plain) = hyphen (let same : path ≡ word = cc in subst IsPlain same plain)
-no_option _ rest word value is no_fast hyphen no_archive no_drain no_dashes _ (dashes path more q said none) = no_dashes (let same : codes "--" ≡ word = cc in sym same)
+    → word ≢ codes "--archive" → word ≢ codes "--drain" → word ≢ codes "--outcomes" → word ≢ codes "--" → (p : ServeParts) → ¬ (Say words p)
+no_option _ rest word value is no_fast hyphen no_archive no_drain no_outcomes no_dashes _ nothing = absurd cc
+no_option _ rest word value is no_fast hyphen no_archive no_drain no_outcomes no_dashes _ (fast more q said not) = no_fast (let same : codes "--fast" ≡ word = cc in sym same)
+no_option _ rest word value is no_fast hyphen no_archive no_drain no_outcomes no_dashes _ (archive folder more q said none) = no_archive (let same : codes "--archive" ≡ word = cc in sym same)
+no_option _ rest word value is no_fast hyphen no_archive no_drain no_outcomes no_dashes _ (drain text n more q said none number small) = no_drain (let same : codes "--drain" ≡ word = cc in sym same)
+no_option _ rest word value is no_fast hyphen no_archive no_drain no_outcomes no_dashes _ (outcomes text n more q said none number small) = no_outcomes (let same : codes "--outcomes" ≡ word = cc in sym same)
+no_option _ rest word value is no_fast hyphen no_archive no_drain no_outcomes no_dashes _ (database path more q said none plain) = hyphen (let same : path ≡ word = cc in subst IsPlain same plain)
+no_option _ rest word value is no_fast hyphen no_archive no_drain no_outcomes no_dashes _ (dashes path more q said none) = no_dashes (let same : codes "--" ≡ word = cc in sym same)
 
 -- ---- one thing at most
 
@@ -142,6 +164,10 @@ one_said _ _ q (drain text n rest a first none number small) said =
     let s = drain_says _ rest text q said refl in
     s.6 ∙ ap (λ (x : ServeParts). record x { drain = Some s.1 }) (one_said rest a s.0 first s.2)
     ∙ ap (λ (m : ℕ). record a { drain = Some m }) (same_number text s.1 n s.4 number)
+one_said _ _ q (outcomes text n rest a first none number small) said =
+    let s = outcomes_says _ rest text q said refl in
+    s.6 ∙ ap (λ (x : ServeParts). record x { outcomes = Some s.1 }) (one_said rest a s.0 first s.2)
+    ∙ ap (λ (m : ℕ). record a { outcomes = Some m }) (same_number text s.1 n s.4 number)
 one_said _ _ q (database path rest a first none plain) said =
     let s = database_says _ rest path q said refl plain in
     s.3 ∙ ap (λ (x : ServeParts). record x { database = Some path }) (one_said rest a s.0 first s.1)
@@ -211,6 +237,17 @@ module _ (words rest : List Text) (parts result : Option Found) (said : IfSome p
             (subst (λ (x : Found). Say (codes "--drain" ∷ text ∷ rest) (said_by x)) (sym made) (drain text n rest (said_by q) (found_said rest parts q there said) none number small))
       ] more
 
+  pub outcomes_said : (text : Text) → words ≡ codes "--outcomes" ∷ text ∷ rest
+      → IfSome result (λ p. (q : Found) × (n : ℕ) × (parts ≡ Some q) × (q.outcomes ≡ None) × SpellsNumber text n × (n < 2 ^ 32) × (p ≡ record q { outcomes = Some n }))
+      → IfSome result (λ p. Say words (said_by p))
+  outcomes_said text is more = elim result as (λ (r : Option Found). IfSome r (λ p. (q : Found) × (n : ℕ) × (parts ≡ Some q) × (q.outcomes ≡ None) × SpellsNumber text n × (n < 2 ^ 32) × (p ≡ record q { outcomes = Some n }))
+      → IfSome r (λ p. Say words (said_by p))) [
+        | None ↦ λ _. tt
+        | Some p ↦ λ (q, n, there, none, number, small, made).
+            subst (λ (ws : List Text). Say ws (said_by p)) (sym is)
+            (subst (λ (x : Found). Say (codes "--outcomes" ∷ text ∷ rest) (said_by x)) (sym made) (outcomes text n rest (said_by q) (found_said rest parts q there said) none number small))
+      ] more
+
   -- with the path of the store, by what says it
   path_said : (path : Bor Text) → ((q : ServeParts) → Say rest q → q.database ≡ None → Say words (record q { database = Some path.now }))
       → IfSome result (λ p. (q : Found) × (parts ≡ Some q) × (q.database ≡ None) × (p ≡ record q { database = Some path }))
@@ -262,6 +299,15 @@ module _ (words rest : List Text) (parts result : Option Found) (said : IfSome p
         | Some q ↦ λ no goes. no goes.0 goes.1 goes.3 goes.2
       ] w))
 
+  pub outcomes_other : (text : Text) → words ≡ codes "--outcomes" ∷ text ∷ rest → IfNone result (IfSome parts (λ q. q.outcomes ≡ None → (n : ℕ) → n < 2 ^ 32 → ¬ (SpellsNumber text n)))
+      → IfNone result ((p : ServeParts) → ¬ (Say words p))
+  outcomes_other text is why = by_none _ why (λ w. none_more (λ q. (q.outcomes ≡ None) × (n : ℕ) × SpellsNumber text n × (n < 2 ^ 32))
+      (λ p all. let s = outcomes_says words rest text p all is in (s.0, s.2, (s.3, s.1, s.4, s.5)))
+      (elim parts as (λ (o : Option Found). IfSome o (λ q. q.outcomes ≡ None → (n : ℕ) → n < 2 ^ 32 → ¬ (SpellsNumber text n)) → IfSome o (λ q. ¬ ((q.outcomes ≡ None) × (n : ℕ) × SpellsNumber text n × (n < 2 ^ 32)))) [
+        | None ↦ λ _. tt
+        | Some q ↦ λ no goes. no goes.0 goes.1 goes.3 goes.2
+      ] w))
+
   -- a text isn't there twice
   some_text : (o : Option (Bor Text)) → IsSome o → option_map (λ (b : Bor Text). b.now) o ≡ None → ⊥
   some_text None some none = absurd cc
@@ -290,13 +336,15 @@ module _ (words rest : List Text) (parts result : Option Found) (said : IfSome p
 -- ---- the whole
 
 -- parts with the path of the store say how it is to be served
-pub whole_parts : (path : Bor Text) (parts : Found) (fast_too : Bool) (folder : Option (Bor Text)) (seconds : ℕ) → folder ≡ parts.archive → parts.database ≡ Some path → fast_too ≡ parts.fast → seconds ≡ unwrap_or parts.drain 5
-    → AreWhole (said_by parts) (record { database = path.now; fast = fast_too; archive = option_map (λ (b : Bor Text). b.now) folder; drain = seconds })
-whole_parts path parts fast_too folder seconds archived there same many = record {
+pub whole_parts : (path : Bor Text) (parts : Found) (fast_too : Bool) (folder : Option (Bor Text)) (seconds least : ℕ)
+    → folder ≡ parts.archive → parts.database ≡ Some path → fast_too ≡ parts.fast → seconds ≡ unwrap_or parts.drain 5 → least ≡ unwrap_or parts.outcomes 1000000
+    → AreWhole (said_by parts) (record { database = path.now; fast = fast_too; archive = option_map (λ (b : Bor Text). b.now) folder; drain = seconds; outcomes = least })
+whole_parts path parts fast_too folder seconds least archived there same many stay = record {
   database = ap (option_map (λ (b : Bor Text). b.now)) there;
   fast = sym same;
   archive = ap (option_map (λ (b : Bor Text). b.now)) (sym archived);
   drain = many;
+  outcomes = stay;
 }
 
 -- where the words say them

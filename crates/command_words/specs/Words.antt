@@ -137,7 +137,8 @@ asked_of (task.Stress jobs types workers tries seed) =
     work (record { jobs = jobs.now; types = texts types.items; workers = workers; tries = tries; seed = Some seed })
 asked_of (task.Create database objects types) = order (create database.now objects.now (texts types.items))
 asked_of (task.Extend database objects types) = order (extend database.now objects.now (texts types.items))
-asked_of (task.Serve database fast archive drain) = serve (record { database = database.now; fast = fast; archive = option_map (λ (folder : Bor Text). folder.now) archive; drain = drain })
+asked_of (task.Serve database fast archive drain outcomes) =
+    serve (record { database = database.now; fast = fast; archive = option_map (λ (folder : Bor Text). folder.now) archive; drain = drain; outcomes = outcomes })
 asked_of (task.History database) = order (history database.now)
 asked_of (task.Prepared database) = order (prepared database.now)
 asked_of (task.Outcome database key) = order (outcome database.now key.now)

@@ -46,7 +46,8 @@ memory, or an output that failed.
 pub(crate) const SERVE: &str = "\
 Answer requests at the store in a file.
 
-Usage: colock serve [--fast] [--archive FOLDER] [--drain S] DATABASE
+Usage: colock serve [--fast] [--archive FOLDER] [--drain S] [--outcomes N]
+                    DATABASE
 
 DATABASE is the path of the file of a store, as colock create makes it. The
 store is opened, and what was open in it is aborted. Then the requests on
@@ -65,6 +66,9 @@ with a hyphen follows --.
   --drain S          How many seconds what is open may go on in an epoch that is
                      full, where the yes of some type is one-way: 0 to
                      4294967295, and 5 by default.
+  --outcomes N       How many of the last outcomes of keys stay at least, where
+                     as many are kept: the oldest go at an epoch's end. 0 to
+                     4294967295, and 1000000 by default.
 
 One line on standard error says what was found: how many events, how many
 transactions were open and are aborted, and how many milliseconds it took.

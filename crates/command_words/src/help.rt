@@ -35,7 +35,7 @@ Commands:
                              Make the file of a new store.
   extend DATABASE OBJECTS TYPE...
                              Add objects to the store in a file.
-  serve [--fast] [--archive FOLDER] [--drain S] DATABASE
+  serve [--fast] [--archive FOLDER] [--drain S] [--outcomes N] DATABASE
                              Answer requests at the store in a file.
   history DATABASE           Write the history of the store in a file.
   prepared DATABASE          List the transactions that are prepared in a file.

@@ -13,12 +13,16 @@ use std::alloc::Global;
 /// How many seconds what is open may go on in an epoch that is full, where the words don't say it.
 const DRAIN: u32 = 5;
 
+/// How many of the last outcomes of keys stay at least, where the words don't say it.
+const OUTCOMES: u32 = 1_000_000;
+
 /// What is said of words after `serve` that aren't those of the command.
 const USAGE: &str = "\
-error: the words after serve are [--fast] [--archive FOLDER] [--drain S] DATABASE,
-each at most once
+error: the words after serve are [--fast] [--archive FOLDER] [--drain S]
+[--outcomes N] DATABASE, each at most once
 
-Usage: colock serve [--fast] [--archive FOLDER] [--drain S] DATABASE
+Usage: colock serve [--fast] [--archive FOLDER] [--drain S] [--outcomes N]
+                    DATABASE
 
 For more information, try '--help'.
 ";
@@ -30,6 +34,7 @@ struct Parts<'a> {
     fast: bool,
     archive: Option<&'a str>,
     drain: Option<u32>,
+    outcomes: Option<u32>,
 }
 
 /// Reads the words after `serve`.
@@ -56,6 +61,7 @@ fn task_of(parts: Parts<'_>) -> Option<Task<'_>>
         fast,
         archive,
         drain,
+        outcomes,
     } = parts;
     match database {
         Some(database) => Some(Task::Serve {
@@ -63,6 +69,7 @@ fn task_of(parts: Parts<'_>) -> Option<Task<'_>>
             fast,
             archive,
             drain: drain.unwrap_or(DRAIN),
+            outcomes: outcomes.unwrap_or(OUTCOMES),
         }),
         None => None,
     }
@@ -79,6 +86,7 @@ fn parts_of<'a>(words: &[&'a str]) -> Option<Parts<'a>>
             fast: false,
             archive: None,
             drain: None,
+            outcomes: None,
         });
     };
     if *word == "--fast" {
@@ -91,6 +99,7 @@ fn parts_of<'a>(words: &[&'a str]) -> Option<Parts<'a>>
     match *word {
         "--archive" => with_archive(value, parts_of(rest)),
         "--drain" => with_drain(value, parts_of(rest)),
+        "--outcomes" => with_outcomes(value, parts_of(rest)),
         "--" => with_database(value, parts_of(rest)),
         _ => None,
     }
@@ -102,18 +111,9 @@ fn with_fast(parts: Option<Parts<'_>>) -> Option<Parts<'_>>
     ensures other { IfNone result (IfSome parts.entry (λ q. q.fast ≡ true)) }
 {
     match parts {
-        Some(
-            Parts {
-                database,
-                fast: false,
-                archive,
-                drain,
-            },
-        ) => Some(Parts {
-            database,
+        Some(parts) if !parts.fast => Some(Parts {
             fast: true,
-            archive,
-            drain,
+            ..parts
         }),
         _ => None,
     }
@@ -125,18 +125,9 @@ fn with_archive<'a>(folder: &'a str, parts: Option<Parts<'a>>) -> Option<Parts<'
     ensures other { IfNone result (IfSome parts.entry (λ q. IsSome q.archive)) }
 {
     match parts {
-        Some(
-            Parts {
-                database,
-                fast,
-                archive: None,
-                drain,
-            },
-        ) => Some(Parts {
-            database,
-            fast,
+        Some(parts) if parts.archive.is_none() => Some(Parts {
             archive: Some(folder),
-            drain,
+            ..parts
         }),
         _ => None,
     }
@@ -148,18 +139,23 @@ fn with_drain<'a>(seconds: &str, parts: Option<Parts<'a>>) -> Option<Parts<'a>>
     ensures other { IfNone result (IfSome parts.entry (λ q. q.drain ≡ None → (n : ℕ) → n < 2 ^ 32 → ¬ (SpellsNumber seconds.now n))) }
 {
     match parts {
-        Some(
-            Parts {
-                database,
-                fast,
-                archive,
-                drain: None,
-            },
-        ) => Some(Parts {
-            database,
-            fast,
-            archive,
+        Some(parts) if parts.drain.is_none() => Some(Parts {
             drain: Some(number_of(seconds)?),
+            ..parts
+        }),
+        _ => None,
+    }
+}
+
+/// The same, with this number of outcomes that stay.
+fn with_outcomes<'a>(least: &str, parts: Option<Parts<'a>>) -> Option<Parts<'a>>
+    ensures said { IfSome result (λ p. (q : Found) × (n : ℕ) × (parts.entry ≡ Some q) × (q.outcomes ≡ None) × SpellsNumber least.now n × (n < 2 ^ 32) × (p ≡ record q { outcomes = Some n })) }
+    ensures other { IfNone result (IfSome parts.entry (λ q. q.outcomes ≡ None → (n : ℕ) → n < 2 ^ 32 → ¬ (SpellsNumber least.now n))) }
+{
+    match parts {
+        Some(parts) if parts.outcomes.is_none() => Some(Parts {
+            outcomes: Some(number_of(least)?),
+            ..parts
         }),
         _ => None,
     }
@@ -179,18 +175,9 @@ fn with_database<'a>(path: &'a str, parts: Option<Parts<'a>>) -> Option<Parts<'a
     ensures other { IfNone result (IfSome parts.entry (λ q. IsSome q.database)) }
 {
     match parts {
-        Some(
-            Parts {
-                database: None,
-                fast,
-                archive,
-                drain,
-            },
-        ) => Some(Parts {
+        Some(parts) if parts.database.is_none() => Some(Parts {
             database: Some(path),
-            fast,
-            archive,
-            drain,
+            ..parts
         }),
         _ => None,
     }

@@ -114,6 +114,8 @@ pub enum Task<'a> {
         archive: Option<&'a str>,
         /// How many seconds what is open may go on in an epoch that is full.
         drain: u32,
+        /// How many of the last outcomes of keys stay at least.
+        outcomes: u32,
     },
     /// What is the history of the present epoch of the store in a file?
     History {

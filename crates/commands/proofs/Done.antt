@@ -78,7 +78,7 @@ may_be_amiss given (task.Audit history later types) is = absurd is
 may_be_amiss given (task.AuditOrdered order history types) is = absurd is
 may_be_amiss given (task.Create database objects types) is = absurd is
 may_be_amiss given (task.Extend database objects types) is = absurd is
-may_be_amiss given (task.Serve database fast archive drain) is = tt
+may_be_amiss given (task.Serve database fast archive drain outcomes) is = tt
 may_be_amiss given (task.History database) is = tt
 may_be_amiss given (task.Prepared database) is = tt
 may_be_amiss given (task.Outcome database key) is = tt
@@ -101,7 +101,7 @@ unchanged given (task.Audit history later types) err = refl
 unchanged given (task.AuditOrdered order history types) err = refl
 unchanged given (task.Create database objects types) err = refl
 unchanged given (task.Extend database objects types) err = refl
-unchanged given (task.Serve database fast archive drain) err = nothing_said given.clean (given.databases database.now) database.now err
+unchanged given (task.Serve database fast archive drain outcomes) err = nothing_said given.clean (given.databases database.now) database.now err
 unchanged given (task.History database) err = refl
 unchanged given (task.Prepared database) err = refl
 unchanged given (task.Outcome database key) err = refl
@@ -121,7 +121,7 @@ of_serving given (task.Audit history later types) v err new_err says = absurd sa
 of_serving given (task.AuditOrdered order history types) v err new_err says = absurd says
 of_serving given (task.Create database objects types) v err new_err says = absurd says
 of_serving given (task.Extend database objects types) v err new_err says = absurd says
-of_serving given (task.Serve database fast archive drain) v err new_err says = says
+of_serving given (task.Serve database fast archive drain outcomes) v err new_err says = says
 of_serving given (task.History database) v err new_err says = absurd says
 of_serving given (task.Prepared database) v err new_err says = absurd says
 of_serving given (task.Outcome database key) v err new_err says = absurd says
@@ -130,18 +130,18 @@ of_serving given (task.Help topic) v err new_err says = absurd says
 of_serving given task.Version v err new_err says = absurd says
 
 -- of a store that was served
-pub served : (given : Shown) (database : Bor (List ℕ)) (fast : Bool) (archive : Option (Bor (List ℕ))) (drain : ℕ) (answer : Result Verdict Fault) (err new_err : Option (List ℕ))
-    → OnOk answer (SaysFound given.clean (given.databases database.now) database.now err new_err) → PassesOn given (task.Serve database fast archive drain) answer err new_err
-served given database fast archive drain (Ok v) err new_err says = inr says
-served given database fast archive drain (Err fault) err new_err says = inr tt
+pub served : (given : Shown) (database : Bor (List ℕ)) (fast : Bool) (archive : Option (Bor (List ℕ))) (drain outcomes : ℕ) (answer : Result Verdict Fault) (err new_err : Option (List ℕ))
+    → OnOk answer (SaysFound given.clean (given.databases database.now) database.now err new_err) → PassesOn given (task.Serve database fast archive drain outcomes) answer err new_err
+served given database fast archive drain outcomes (Ok v) err new_err says = inr says
+served given database fast archive drain outcomes (Err fault) err new_err says = inr tt
 
 -- a yes of serving, with what the archive has kept then
-pub keeps_too : (given : Shown) (path : List ℕ) (folder : Option (List ℕ)) (begins : List ℕ → Type 0) (answer : Result Verdict Fault) (old new : Option (List ℕ))
-    → ComesOfServing begins (ServesDatabase given.clean (given.databases path) (given.made path) given.input given.rest) answer old new
-    → OnOk answer (ArchivesEpochs given.clean (given.databases path) (given.made path) (given.kept folder) (given.kept_now folder))
-    → ComesOfServing begins (ServesAndKeeps given path folder) answer old new
-keeps_too given path folder begins (Ok v) old new comes keeps = (comes.0, (comes.1, keeps), comes.2)
-keeps_too given path folder begins (Err fault) old new comes keeps = comes
+pub keeps_too : (given : Shown) (least : ℕ) (path : List ℕ) (folder : Option (List ℕ)) (begins : List ℕ → Type 0) (answer : Result Verdict Fault) (old new : Option (List ℕ))
+    → ComesOfServing begins (ServesDatabase least given.clean (given.databases path) (given.made path) given.input given.rest) answer old new
+    → OnOk answer (ArchivesEpochs least given.clean (given.databases path) (given.made path) (given.kept folder) (given.kept_now folder))
+    → ComesOfServing begins (ServesAndKeeps given least path folder) answer old new
+keeps_too given least path folder begins (Ok v) old new comes keeps = (comes.0, (comes.1, keeps), comes.2)
+keeps_too given least path folder begins (Err fault) old new comes keeps = comes
 
 passed_on : (given : Shown) (task : Task) (answer : Result Verdict Fault) (err new_err : Option (List ℕ)) → PassesOn given task answer err new_err → OnOk answer (SaysOnError given task err new_err)
 passed_on given task (Ok v) err new_err passes = elim passes [

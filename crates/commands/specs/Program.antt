@@ -53,10 +53,11 @@ abbrev pub shown : Held → (List ℕ → Option Trees) → (List ℕ → Option
 shown files databases made clean input rest kept kept_now =
     record { files = files; databases = databases; made = made; clean = clean; input = input; rest = rest; kept = kept; kept_now = kept_now }
 
--- a yes of serving, and the archive in the folder has kept the history of each epoch that ended, and nothing else
-abbrev pub ServesAndKeeps : Shown → List ℕ → Option (List ℕ) → Answers
-ServesAndKeeps given path folder v text = ServesDatabase given.clean (given.databases path) (given.made path) given.input given.rest v text
-    × ArchivesEpochs given.clean (given.databases path) (given.made path) (given.kept folder) (given.kept_now folder)
+-- a yes of serving where at least so many of the last outcomes stay, and the archive in the folder has kept the history of each epoch that ended, and
+-- nothing else
+abbrev pub ServesAndKeeps : Shown → ℕ → List ℕ → Option (List ℕ) → Answers
+ServesAndKeeps given least path folder v text = ServesDatabase least given.clean (given.databases path) (given.made path) given.input given.rest v text
+    × ArchivesEpochs least given.clean (given.databases path) (given.made path) (given.kept folder) (given.kept_now folder)
 
 -- the texts that answer a task, with a yes or with a no, by what is given
 abbrev pub Answer : Shown → Task → Answers
@@ -75,7 +76,7 @@ Answer given (History database) = TellsHistory given.clean (given.databases data
 Answer given (Prepared database) = TellsPrepared given.clean (given.databases database.now) (given.made database.now)
 Answer given (Outcome database key) = TellsOutcome given.clean (given.databases database.now) (given.made database.now) key.now
 Answer given (AuditDatabase database) = AuditsDatabase given.clean (given.databases database.now)
-Answer given (Serve database fast archive drain) = ServesAndKeeps given database.now (option_map (λ f. f.now) archive)
+Answer given (Serve database fast archive drain outcomes) = ServesAndKeeps given outcomes database.now (option_map (λ f. f.now) archive)
 Answer given (Help topic) = IsThis verdict.Yes (text_of_topic topic)
 Answer given Version = IsThis verdict.Yes version_text
 
@@ -98,7 +99,7 @@ IsAmiss given (History database) = ⊤
 IsAmiss given (Prepared database) = ⊤
 IsAmiss given (Outcome database key) = ⊤
 IsAmiss given (AuditDatabase database) = ⊤
-IsAmiss given (Serve database fast archive drain) = ⊤
+IsAmiss given (Serve database fast archive drain outcomes) = ⊤
 IsAmiss given task = ⊥
 
 -- the texts that may have been written as a whole where memory was refused: of a run without an audit, and of workers of which one
@@ -114,7 +115,7 @@ abbrev pub Begun : Shown → Task → List ℕ → Type 0
 Begun given (Run script types) text = BeginsRunFile given.files script.now (texts types.items) text
 Begun given (Work jobs types workers tries) text = BeginsWorkFile given.files workers tries jobs.now (texts types.items) text
 Begun given (Stress jobs types workers tries seed) text = BeginsWorkFile given.files workers tries jobs.now (texts types.items) text
-Begun given (Serve database fast archive drain) text = BeginsServing given.clean (given.databases database.now) (given.made database.now) given.input given.rest text
+Begun given (Serve database fast archive drain outcomes) text = BeginsServing outcomes given.clean (given.databases database.now) (given.made database.now) given.input given.rest text
 Begun given task text = AnyAnswer (Answer given task) text
 
 -- a text that the output may have begun where the program failed
@@ -123,7 +124,7 @@ Started given task text = AnyAnswer (Answer given task) text ⊎ (Begun given ta
 
 -- what standard error took of a task that has an answer: of serving the line that says what was found, and else nothing
 abbrev pub SaysOnError : Shown → Task → Option (List ℕ) → Option (List ℕ) → Type 0
-SaysOnError given (Serve database fast archive drain) err new_err = SaysFound given.clean (given.databases database.now) database.now err new_err
+SaysOnError given (Serve database fast archive drain outcomes) err new_err = SaysFound given.clean (given.databases database.now) database.now err new_err
 SaysOnError given task err new_err = new_err ≡ err
 
 -- by the status of a task, what the output took, if known: yes or no, a text that answers it, and standard error took what is said; what
@@ -150,7 +151,7 @@ DoesNothing fault status old new = ((status ≡ status_of fault) ⊎ (status ≡
 
 -- the task is to serve
 abbrev pub IsToServe : Task → Type 0
-IsToServe (Serve database fast archive drain) = ⊤
+IsToServe (Serve database fast archive drain outcomes) = ⊤
 IsToServe task = ⊥
 
 -- what comes of a task before the output hands on what it gathered; what is served is answered while it is done
@@ -161,8 +162,8 @@ DoesTask given task result old new =
 
 -- what standard error took before the task's end: nothing, or what is said where a store is served
 abbrev pub SaysOfServing : Shown → Task → Result Verdict Fault → Option (List ℕ) → Option (List ℕ) → Type 0
-SaysOfServing given (Serve database fast archive drain) (Ok verdict) err new_err = SaysFound given.clean (given.databases database.now) database.now err new_err
-SaysOfServing given (Serve database fast archive drain) (Err fault) err new_err = ⊤
+SaysOfServing given (Serve database fast archive drain outcomes) (Ok verdict) err new_err = SaysFound given.clean (given.databases database.now) database.now err new_err
+SaysOfServing given (Serve database fast archive drain outcomes) (Err fault) err new_err = ⊤
 SaysOfServing given task result err new_err = ⊥
 
 abbrev pub PassesOn : Shown → Task → Result Verdict Fault → Option (List ℕ) → Option (List ℕ) → Type 0

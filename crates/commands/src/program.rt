@@ -145,11 +145,18 @@ fn task_of<'a>(alloc: Global, words: &'a [&'a str]) -> Result<Task<'a>, Fault<'a
 }
 
 /// How a store is to be served: `drain` is the seconds of `--drain`.
-fn serving<'a>(path: &'a str, fast: bool, archive: Option<&'a str>, drain: u32) -> Serving<'a>
+fn serving<'a>(
+    path: &'a str,
+    fast: bool,
+    archive: Option<&'a str>,
+    drain: u32,
+    outcomes: u32,
+) -> Serving<'a>
     ensures path { result.path ≡ path.entry }
     ensures torn { result.torn ≡ (if fast then TornWrites.OldOrNew else TornWrites.AnyBytes) }
     ensures archive { result.archive ≡ archive.entry }
     ensures drain { as_nanos result.drain ≡ drain * 1_000_000_000 }
+    ensures outcomes { result.outcomes ≡ outcomes }
 {
     let torn = if fast {
         TornWrites::OldOrNew
@@ -161,6 +168,7 @@ fn serving<'a>(path: &'a str, fast: bool, archive: Option<&'a str>, drain: u32) 
         torn,
         archive,
         drain: Duration::from_secs(u64::from(drain)),
+        outcomes,
     }
 }
 
@@ -183,12 +191,12 @@ fn do_serve<
 ) -> (Result<Verdict, Fault<'a>>, Console<W, E>)
     requires out_takes { W.fault (under console.out) ≡ None }
     requires err_takes { E.fault console.err ≡ None }
-    ensures comes { let path = asked.entry.path in ComesOfServing (BeginsServing (D.is_clean given.new.databases) (D.holds given.old.databases path.now) (D.holds given.new.databases path.now) (I.remaining given.old.input) (I.remaining given.new.input))
-        (ServesDatabase (D.is_clean given.new.databases) (D.holds given.old.databases path.now) (D.holds given.new.databases path.now) (I.remaining given.old.input) (I.remaining given.new.input))
+    ensures comes { let path = asked.entry.path in ComesOfServing (BeginsServing asked.entry.outcomes (D.is_clean given.new.databases) (D.holds given.old.databases path.now) (D.holds given.new.databases path.now) (I.remaining given.old.input) (I.remaining given.new.input))
+        (ServesDatabase asked.entry.outcomes (D.is_clean given.new.databases) (D.holds given.old.databases path.now) (D.holds given.new.databases path.now) (I.remaining given.old.input) (I.remaining given.new.input))
         result.0 (taken_by W.taken console.out) (taken_by W.taken result.1.out) }
     ensures source { given.new.source ≡ given.old.source }
     ensures archives { let path = asked.entry.path in let folder = option_map (λ f. f.now) asked.entry.archive in
-        OnOk result.0 (ArchivesEpochs (D.is_clean given.new.databases) (D.holds given.old.databases path.now) (D.holds given.new.databases path.now) (K.kept_in given.old.archives folder) (K.kept_in given.new.archives folder)) }
+        OnOk result.0 (ArchivesEpochs asked.entry.outcomes (D.is_clean given.new.databases) (D.holds given.old.databases path.now) (D.holds given.new.databases path.now) (K.kept_in given.old.archives folder) (K.kept_in given.new.archives folder)) }
     ensures says { OnOk result.0 (SaysFound (D.is_clean given.new.databases) (D.holds given.old.databases asked.entry.path.now) asked.entry.path.now (E.taken console.err) (E.taken result.1.err)) }
 {
     let Console { out, mut err } = console;
@@ -355,7 +363,11 @@ fn do_task<
             fast,
             archive,
             drain,
-        } => do_serve(rt, serving(database, fast, archive, drain), given, console),
+            outcomes,
+        } => {
+            let asked = serving(database, fast, archive, drain, outcomes);
+            do_serve(rt, asked, given, console)
+        }
         Task::Help { topic } => {
             (
                 put_answer(Verdict::Yes, topic.text().as_bytes(), out),

@@ -2,3 +2,4 @@ pub mod NewEpochs
 pub mod ServedLemmas
 pub mod Unsaid
 pub mod ArchivedEpochs
+pub mod StayingOutcomes

@@ -17,7 +17,6 @@ use Rattle.store.specs.Ends.{closing_but}
 use Rattle.durable_store.specs.Held.{prepared_numbers}
 use Rattle.durable_store.specs.Durable as durable
 use Rattle.durable_store.specs.Durable.{IsDurable, events_of_kinds, with_all}
-use Rattle.durable_store.specs.Recovered.{IsRecovered}
 use Rattle.request_text.specs.declared.request.Asked.{Asked}
 use Rattle.serving.specs.declared.answer_line.Answered.{Answered}
 use Rattle.serving.specs.declared.extension.Extension.{Extension}
@@ -42,7 +41,7 @@ use Rattle.serve_command.specs.Served.{BeginsEpoch, BeginsBefore, BeginsServing,
 
 -- ---- under another premise
 
-abbrev work-under : {clean clean' : Type 0} {held : Option Trees} → (clean' → clean) → ClientWork clean held → ClientWork clean' held
+abbrev work-under : {least : ℕ} {clean clean' : Type 0} {held : Option Trees} → (clean' → clean) → ClientWork least clean held → ClientWork least clean' held
 work-under sure w = record {
   names = w.names;
   file = w.file;
@@ -65,10 +64,10 @@ pub at-path : (db : Trees) (P : Trees → Type 0) (left : Option Trees) → IfSo
 at-path db P (Some x) same p = subst P same p
 at-path db P None same p = tt
 
-ends-under : {clean clean' : Type 0} {held : Option Trees} (db : Trees) (left : Option Trees) (sure : clean' → clean) → (clean' → IfSome left (λ x. db ≡ x)) → (w : ClientWork clean held) (prepared : List Prepared)
+ends-under : {least : ℕ} {clean clean' : Type 0} {held : Option Trees} (db : Trees) (left : Option Trees) (sure : clean' → clean) → (clean' → IfSome left (λ x. db ≡ x)) → (w : ClientWork least clean held) (prepared : List Prepared)
     → MatchBool (ends_epoch w.waits w.ended) (RenewsFile w prepared (Some db)) (KeepsFile w prepared (Some db))
     → MatchBool (ends_epoch w.waits w.ended) (RenewsFile (work-under sure w) prepared left) (KeepsFile (work-under sure w) prepared left)
-ends-under {clean} {clean'} {held} db left sure same w prepared ends =
+ends-under {least} {clean} {clean'} {held} db left sure same w prepared ends =
     elim (ends_epoch w.waits w.ended) as (λ v. MatchBool v (RenewsFile w prepared (Some db)) (KeepsFile w prepared (Some db)) → MatchBool v (RenewsFile (work-under sure w) prepared left) (KeepsFile (work-under sure w) prepared left)) [
       | true ↦ λ it. record {
         now = it.now;
@@ -79,9 +78,9 @@ ends-under {clean} {clean'} {held} db left sure same w prepared ends =
       | false ↦ λ it c. at-path db (StaysInLife w.file w.said w.last.life (closed_by false prepared w.reached)) left (same c) (it (sure c))
     ] ends
 
-served-under : {clean clean' : Type 0} {held : Option Trees} {db : Trees} {given given_now : Option (List ℕ)} {text : List ℕ} (left : Option Trees) → (clean' → clean) → (clean' → IfSome left (λ x. db ≡ x))
-    → IsServed clean held (Some db) given given_now text → IsServed clean' held left given given_now text
-served-under {clean} {clean'} {held} {db} {given} {given_now} {text} left sure same s = record {
+served-under : {least : ℕ} {clean clean' : Type 0} {held : Option Trees} {db : Trees} {given given_now : Option (List ℕ)} {text : List ℕ} (left : Option Trees) → (clean' → clean) → (clean' → IfSome left (λ x. db ≡ x))
+    → IsServed least clean held (Some db) given given_now text → IsServed least clean' held left given given_now text
+served-under {least} {clean} {clean'} {held} {db} {given} {given_now} {text} left sure same s = record {
   work = work-under sure s.work;
   seen = s.seen;
   half = s.half;
@@ -99,12 +98,12 @@ served-under {clean} {clean'} {held} {db} {given} {given_now} {text} left sure s
 is-left : (left : Option Trees) (may_be_left : Trees → Type 0) (x : Trees) → IfSome left may_be_left → left ≡ Some x → may_be_left x
 is-left left may_be_left x may is = subst (λ (held : Option Trees). IfSome held may_be_left) is may
 
-under : {clean clean' : Type 0} (held left : Option Trees) (db : Trees) (may_be_left : Trees → Type 0) (given given_now taken taken_now : Option (List ℕ)) (r : Result Verdict Fault) → (clean' → clean)
+under : (least : ℕ) {clean clean' : Type 0} (held left : Option Trees) (db : Trees) (may_be_left : Trees → Type 0) (given given_now taken taken_now : Option (List ℕ)) (r : Result Verdict Fault) → (clean' → clean)
     → OnOk r (clean' → IfSome left (λ x. db ≡ x)) → OnErr r (clean' → IfSome left may_be_left)
-    → ComesOfServing (BeginsBefore clean held may_be_left given given_now) (ServesDatabase clean held (Some db) given given_now) r taken taken_now
-    → ComesOfServing (BeginsServing clean' held left given given_now) (ServesDatabase clean' held left given given_now) r taken taken_now
-under held left db may_be_left given given_now taken taken_now (Ok v) sure same may c = (c.0, (c.1.0, served-under left sure same c.1.1), c.2)
-under held left db may_be_left given given_now taken taken_now (Err fault) sure same may c = elim c [
+    → ComesOfServing (BeginsBefore least clean held may_be_left given given_now) (ServesDatabase least clean held (Some db) given given_now) r taken taken_now
+    → ComesOfServing (BeginsServing least clean' held left given given_now) (ServesDatabase least clean' held left given given_now) r taken taken_now
+under least held left db may_be_left given given_now taken taken_now (Ok v) sure same may c = (c.0, (c.1.0, served-under left sure same c.1.1), c.2)
+under least held left db may_be_left given given_now taken taken_now (Err fault) sure same may c = elim c [
   | inl none ↦ inl none
   | inr part ↦
       let it = part.1.1 in
@@ -129,14 +128,14 @@ under held left db may_be_left given given_now taken taken_now (Err fault) sure 
 ]
 
 -- and of an output that is this one
-pub comes-under : {clean clean' : Type 0} {taken taken_now taken' taken_now' : Option (List ℕ)} (held left : Option Trees) (db : Trees) (may_be_left : Trees → Type 0) (given given_now : Option (List ℕ)) (r : Result Verdict Fault)
+pub comes-under : (least : ℕ) {clean clean' : Type 0} {taken taken_now taken' taken_now' : Option (List ℕ)} (held left : Option Trees) (db : Trees) (may_be_left : Trees → Type 0) (given given_now : Option (List ℕ)) (r : Result Verdict Fault)
     → taken ≡ taken' → taken_now ≡ taken_now' → (clean' → clean) → OnOk r (clean' → IfSome left (λ x. db ≡ x)) → OnErr r (clean' → IfSome left may_be_left)
-    → ComesOfServing (BeginsBefore clean held may_be_left given given_now) (ServesDatabase clean held (Some db) given given_now) r taken taken_now
-    → ComesOfServing (BeginsServing clean' held left given given_now) (ServesDatabase clean' held left given given_now) r taken' taken_now'
-comes-under {clean} {clean'} {taken} {taken_now} {taken'} {taken_now'} held left db may_be_left given given_now r is is_now sure same may c =
-    subst (λ t. ComesOfServing (BeginsServing clean' held left given given_now) (ServesDatabase clean' held left given given_now) r t taken_now') is
-    (subst (λ t. ComesOfServing (BeginsServing clean' held left given given_now) (ServesDatabase clean' held left given given_now) r taken t) is_now
-    (under held left db may_be_left given given_now taken taken_now r sure same may c))
+    → ComesOfServing (BeginsBefore least clean held may_be_left given given_now) (ServesDatabase least clean held (Some db) given given_now) r taken taken_now
+    → ComesOfServing (BeginsServing least clean' held left given given_now) (ServesDatabase least clean' held left given given_now) r taken' taken_now'
+comes-under least {clean} {clean'} {taken} {taken_now} {taken'} {taken_now'} held left db may_be_left given given_now r is is_now sure same may c =
+    subst (λ t. ComesOfServing (BeginsServing least clean' held left given given_now) (ServesDatabase least clean' held left given given_now) r t taken_now') is
+    (subst (λ t. ComesOfServing (BeginsServing least clean' held left given given_now) (ServesDatabase least clean' held left given given_now) r taken t) is_now
+    (under least held left db may_be_left given given_now taken taken_now r sure same may c))
 
 -- ---- by how it ended
 
@@ -147,10 +146,10 @@ of-fault P (Err x) e is p = p
 -- ---- from a store to its trees
 
 -- the work of lines that were served
-abbrev work-of : {S : Type 0} (g : Ghosts S) (clean : Type 0) (lines : List (List ℕ)) (told : List Answered) (last : KnownNames) (said : Contents) (reached : Stored) (ended : Option Asked) (waits : Option Extension) (held : Option Trees) (db : Trees) (began : Durable S)
-    → IsDurable g began → ShowsCommit g began.journal → (clean → Clean g began.journal) → (Clean g began.journal → IfSome held (λ x. db ≡ x)) → (Clean g began.journal → IsRecovered g (contents_of db) began)
-    → Serves clean epoch_events (written g began.journal) (first_names began) lines began.store told last said reached ended waits → ClientWork clean held
-work-of g clean lines told last said reached ended waits held db began sound shows sure same found serves = record {
+abbrev work-of : {S : Type 0} (g : Ghosts S) (least : ℕ) (clean : Type 0) (lines : List (List ℕ)) (told : List Answered) (last : KnownNames) (said : Contents) (reached : Stored) (ended : Option Asked) (waits : Option Extension) (held : Option Trees) (db : Trees) (began : Durable S)
+    → IsDurable g began → ShowsCommit g began.journal → (clean → Clean g began.journal) → (Clean g began.journal → IfSome held (λ x. db ≡ x)) → (Clean g began.journal → IsOpened least (contents_of db) (written g began.journal) began.store)
+    → Serves clean epoch_events (written g began.journal) (first_names began) lines began.store told last said reached ended waits → ClientWork least clean held
+work-of g least clean lines told last said reached ended waits held db began sound shows sure same found serves = record {
   names = first_names began;
   file = written g began.journal;
   began = began.store;
@@ -163,21 +162,19 @@ work-of g clean lines told last said reached ended waits held db began sound sho
   waits = waits;
   lives = λ c. let now = sure c in (began.journal.header, (sound.journal now).0.header_is (shows now).0.sound, refl);
   named = λ c. ap (given_names (life_of began)) (held-written g began sound (sure c));
-  opened = λ c.
-      let is = found (sure c) in
-      at-path db (λ x. IsOpened (contents_of x) (written g began.journal) began.store) held (same (sure c)) (record { types = is.types; history = is.history; left = is.written });
+  opened = λ c. at-path db (λ x. IsOpened least (contents_of x) (written g began.journal) began.store) held (same (sure c)) (found (sure c));
   serves = serves;
 }
 
 -- a client that was served
-served-at : {S : Type 0} {g : Ghosts S} {given taken given_now taken_now : Option (List ℕ)} {trees : S} (db : Trees) (began : Durable S) (held : Option Trees) → IsDurable g began → ShowsCommit g began.journal → (Clean g began.journal → IfSome held (λ x. db ≡ x))
-    → (Clean g began.journal → IsRecovered g (contents_of db) began) → ServesIn g began given taken trees given_now taken_now
-    → (text : List ℕ) × IsServed (IsClean (g.view trees)) held (Some (g.view trees).committed) given given_now text × Appends taken taken_now text
-served-at {S} {g} {given} {taken} {given_now} {taken_now} {trees} db began held sound shows same found s =
-    subst (λ (x : S). (text : List ℕ) × IsServed (IsClean (g.view x)) held (Some (g.view x).committed) given given_now text × Appends taken taken_now text) (sym s.are)
+served-at : {S : Type 0} {g : Ghosts S} {least : ℕ} {given taken given_now taken_now : Option (List ℕ)} {trees : S} (db : Trees) (began : Durable S) (held : Option Trees) → IsDurable g began → ShowsCommit g began.journal → (Clean g began.journal → IfSome held (λ x. db ≡ x))
+    → (Clean g began.journal → IsOpened least (contents_of db) (written g began.journal) began.store) → ServesIn g began given taken trees given_now taken_now
+    → (text : List ℕ) × IsServed least (IsClean (g.view trees)) held (Some (g.view trees).committed) given given_now text × Appends taken taken_now text
+served-at {S} {g} {least} {given} {taken} {given_now} {taken_now} {trees} db began held sound shows same found s =
+    subst (λ (x : S). (text : List ℕ) × IsServed least (IsClean (g.view x)) held (Some (g.view x).committed) given given_now text × Appends taken taken_now text) (sym s.are)
     (let sc = s.serves in
     let has = sc.tells in
-    let work : ClientWork (Clean g s.now.journal) held = work-of g (Clean g s.now.journal) has.served.lines has.told sc.served.session.names has.served.said sc.served.session.store.store sc.served.end sc.served.session.waiting held db began sound shows s.clean same found
+    let work : ClientWork least (Clean g s.now.journal) held = work-of g least (Clean g s.now.journal) has.served.lines has.told sc.served.session.names has.served.said sc.served.session.store.store sc.served.end sc.served.session.waiting held db began sound shows s.clean same found
     (serves-weaker sc.clean
     (subst (λ all. Serves (Clean g sc.served.session.store.journal) epoch_events (written g began.journal) (first_names began) has.served.lines began.store all sc.served.session.names has.served.said sc.served.session.store.store sc.served.end sc.served.session.waiting)
     (ap (λ more. has.told ++ more) has.waits ∙ append-nil has.told) has.served.serves)) in
@@ -221,13 +218,13 @@ served-at {S} {g} {given} {taken} {given_now} {taken_now} {trees} db began held 
 part-more : (a b : Option (List ℕ)) (x y : List ℕ) → AppendsPart a b x → AppendsPart a b (x ++ y)
 part-more a b x y (n, within, part) = (n, omega (arith, length-append x y), subst (Appends a b) (sym (take-append-le n x y within)) part)
 
-cut-at : {S : Type 0} {g : Ghosts S} {given taken given_now taken_now : Option (List ℕ)} {trees : S} (db : Trees) (began : Durable S) (held : Option Trees) → IsDurable g began → ShowsCommit g began.journal → (Clean g began.journal → IfSome held (λ x. db ≡ x))
-    → (Clean g began.journal → IsRecovered g (contents_of db) began) → StopsIn g began given taken trees given_now taken_now
-    → (text : List ℕ) × BeginsBefore (IsClean (g.view trees)) held (g.recovers trees) given given_now text × AppendsPart taken taken_now text
-cut-at {S} {g} {given} {taken} {given_now} {taken_now} {trees} db began held sound shows same found s =
-    subst (λ (x : S). (text : List ℕ) × BeginsBefore (IsClean (g.view x)) held (g.recovers x) given given_now text × AppendsPart taken taken_now text) (sym s.are)
+cut-at : {S : Type 0} {g : Ghosts S} {least : ℕ} {given taken given_now taken_now : Option (List ℕ)} {trees : S} (db : Trees) (began : Durable S) (held : Option Trees) → IsDurable g began → ShowsCommit g began.journal → (Clean g began.journal → IfSome held (λ x. db ≡ x))
+    → (Clean g began.journal → IsOpened least (contents_of db) (written g began.journal) began.store) → StopsIn g began given taken trees given_now taken_now
+    → (text : List ℕ) × BeginsBefore least (IsClean (g.view trees)) held (g.recovers trees) given given_now text × AppendsPart taken taken_now text
+cut-at {S} {g} {least} {given} {taken} {given_now} {taken_now} {trees} db began held sound shows same found s =
+    subst (λ (x : S). (text : List ℕ) × BeginsBefore least (IsClean (g.view x)) held (g.recovers x) given given_now text × AppendsPart taken taken_now text) (sym s.are)
     (let stops = s.stops in
-    let work : ClientWork (Clean g s.now.journal) held = work-of g (Clean g s.now.journal) stops.lines stops.answers stops.names stops.said stops.reached stops.ended stops.waits held db began sound shows s.clean same found stops.serves in (
+    let work : ClientWork least (Clean g s.now.journal) held = work-of g least (Clean g s.now.journal) stops.lines stops.answers stops.names stops.said stops.reached stops.ended stops.waits held db began sound shows s.clean same found stops.serves in (
       told_text work,
       record { work = work; told = refl; read = stops.read; leaves = λ clean. record { left = s.left clean; found = s.found clean } },
       elim stops.told [
@@ -237,10 +234,10 @@ cut-at {S} {g} {given} {taken} {given_now} {taken_now} {trees} db began held sou
     ))
 
 -- what comes of a store that was opened
-pub comes-at : {S : Type 0} {g : Ghosts S} (given taken given_now taken_now : Option (List ℕ)) (trees : S) (db : Trees) (began : Durable S) (held : Option Trees) (r : Result Verdict Fault)
-    → IsDurable g began → ShowsCommit g began.journal → (Clean g began.journal → IfSome held (λ x. db ≡ x)) → (Clean g began.journal → IsRecovered g (contents_of db) began) → IfOk r (λ v. v ≡ Yes)
+pub comes-at : {S : Type 0} {g : Ghosts S} {least : ℕ} (given taken given_now taken_now : Option (List ℕ)) (trees : S) (db : Trees) (began : Durable S) (held : Option Trees) (r : Result Verdict Fault)
+    → IsDurable g began → ShowsCommit g began.journal → (Clean g began.journal → IfSome held (λ x. db ≡ x)) → (Clean g began.journal → IsOpened least (contents_of db) (written g began.journal) began.store) → IfOk r (λ v. v ≡ Yes)
     → OnOk r (ServesIn g began given taken trees given_now taken_now) → IfErr r (λ fault. (taken_now ≡ taken) ⊎ ((is_input fault ≡ false) × StopsIn g began given taken trees given_now taken_now))
-    → ComesOfServing (BeginsBefore (IsClean (g.view trees)) held (g.recovers trees) given given_now) (ServesDatabase (IsClean (g.view trees)) held (Some (g.view trees).committed) given given_now) r taken taken_now
+    → ComesOfServing (BeginsBefore least (IsClean (g.view trees)) held (g.recovers trees) given given_now) (ServesDatabase least (IsClean (g.view trees)) held (Some (g.view trees).committed) given given_now) r taken taken_now
 comes-at given taken given_now taken_now trees db began held (Ok v) sound shows same found says told cut = let (text, served, more) = served-at db began held sound shows same found told in (text, (says, served), more)
 comes-at given taken given_now taken_now trees db began held (Err fault) sound shows same found says told cut = elim cut [ inl none ↦ inl none | inr part ↦ inr (part.0, cut-at db began held sound shows same found part.1) ]
 
@@ -266,11 +263,11 @@ is-no-input Output refused = refl
 -- ---- what was found
 
 -- of the file that the store was opened of
-found-at : {S : Type 0} (g : Ghosts S) (db : Trees) (began : Durable S) (held : Option Trees) (clean : Type 0) (count aborted time : ℕ) (path : List ℕ) (err err_now : Option (List ℕ))
-    → (clean → Clean g began.journal) → (Clean g began.journal → IfSome held (λ x. db ≡ x)) → (Clean g began.journal → IsRecovered g (contents_of db) began)
+found-at : {S : Type 0} (g : Ghosts S) (least : ℕ) (db : Trees) (began : Durable S) (held : Option Trees) (clean : Type 0) (count aborted time : ℕ) (path : List ℕ) (err err_now : Option (List ℕ))
+    → (clean → Clean g began.journal) → (Clean g began.journal → IfSome held (λ x. db ≡ x)) → (Clean g began.journal → IsOpened least (contents_of db) (written g began.journal) began.store)
     → (Clean g began.journal → count ≡ length (contents_of db).events) → aborted ≡ length began.store.history - count → AppendsPart err err_now (found_text path count aborted time)
     → SaysFound clean held path err err_now
-found-at g db began held clean count aborted time path err err_now sure same found counted rest said = record {
+found-at g least db began held clean count aborted time path err err_now sure same found counted rest said = record {
   count = count;
   aborted = aborted;
   time = time;
@@ -285,13 +282,13 @@ found-at g db began held clean count aborted time path err err_now sure same fou
 }
 
 -- where it was served
-pub says-at : {S : Type 0} {g : Ghosts S} (given taken given_now taken_now : Option (List ℕ)) (trees : S) (db : Trees) (began : Durable S) (held : Option Trees) (r : Result Verdict Fault) (count aborted time : ℕ)
-    (path : List ℕ) (err err_now : Option (List ℕ)) → (Clean g began.journal → IfSome held (λ x. db ≡ x)) → (Clean g began.journal → IsRecovered g (contents_of db) began)
+pub says-at : {S : Type 0} (g : Ghosts S) (least : ℕ) (given taken given_now taken_now : Option (List ℕ)) (trees : S) (db : Trees) (began : Durable S) (held : Option Trees) (r : Result Verdict Fault) (count aborted time : ℕ)
+    (path : List ℕ) (err err_now : Option (List ℕ)) → (Clean g began.journal → IfSome held (λ x. db ≡ x)) → (Clean g began.journal → IsOpened least (contents_of db) (written g began.journal) began.store)
     → (Clean g began.journal → count ≡ length (contents_of db).events) → aborted ≡ length began.store.history - count → AppendsPart err err_now (found_text path count aborted time)
     → OnOk r (ServesIn g began given taken trees given_now taken_now) → OnOk r (SaysFound (IsClean (g.view trees)) held path err err_now)
-says-at {S} {g} given taken given_now taken_now trees db began held (Ok v) count aborted time path err err_now same found counted rest said s =
-    found-at g db began held (IsClean (g.view trees)) count aborted time path err err_now (λ c. s.clean (subst (λ (x : S). IsClean (g.view x)) s.are c)) same found counted rest said
-says-at given taken given_now taken_now trees db began held (Err fault) count aborted time path err err_now same found counted rest said s = tt
+says-at {S} g least given taken given_now taken_now trees db began held (Ok v) count aborted time path err err_now same found counted rest said s =
+    found-at g least db began held (IsClean (g.view trees)) count aborted time path err err_now (λ c. s.clean (subst (λ (x : S). IsClean (g.view x)) s.are c)) same found counted rest said
+says-at g least given taken given_now taken_now trees db began held (Err fault) count aborted time path err err_now same found counted rest said s = tt
 
 -- under another premise
 pub says-under : {clean clean' : Type 0} (held : Option Trees) (r : Result Verdict Fault) (path : List ℕ) (err err_now : Option (List ℕ)) → (clean' → clean)

@@ -12,8 +12,8 @@ use Rattle.sqlite_trees.specs.View.{IsClean, View}
 use Rattle.store_laws.specs.Stored.{Stored}
 use Rattle.store.specs.Ends.{closing_but}
 use Rattle.journal.specs.declared.prepared_row.Prepared.{Prepared}
-use Rattle.journal.specs.Contents.{Contents, IsFile, contents_of}
-use Rattle.journal.specs.Journal.{Clean, ShowsCommit}
+use Rattle.journal.specs.Contents.{Contents, IsFile, contents_of, with_least}
+use Rattle.journal.specs.Journal.{Clean, ShowsCommit, may_leave, written}
 use Rattle.journal.specs.declared.header.Header.{Header}
 use Rattle.durable_store.specs.declared.durable.Durable.{Durable}
 use Rattle.durable_store.specs.Durable.{IsDurable, events_of_kinds, kinds}
@@ -44,15 +44,15 @@ use Rattle.serving.specs.Whole.{ServesClient, StopsServing, session_of}
 abbrev pub epoch_events : ℕ
 epoch_events = 32768
 
--- the store that was opened of what a file said, and the file as it was left then
-pub record IsOpened (said file : Contents) (began : Stored) : Type 0 where
+-- the store that was opened of what a file said, and the file as it was left then: at least so many of the last outcomes stay from now on
+pub record IsOpened (least : ℕ) (said file : Contents) (began : Stored) : Type 0 where
   pub types : HasTypes said began.types
   pub history : began.history ≡ events_of_kinds said.events ++ closing_but (prepared_numbers (durable.prepared_in said)) (events_of_kinds said.events)
-  pub left : file ≡ recovered said
+  pub left : file ≡ with_least (recovered said) least
 
 -- lines of a client that were done, in their order, by a store, and so they were answered, epoch after epoch; if no wrong answer of a disk was
 -- taken as true, it is the store of what a file said, the client knows who is prepared by the names that the file says, and what is read of the file is so
-pub record ClientWork (clean : Type 0) (held : Option Trees) : Type 0 where
+pub record ClientWork (least : ℕ) (clean : Type 0) (held : Option Trees) : Type 0 where
   pub names : KnownNames
   pub file : Contents
   pub began : Stored
@@ -65,11 +65,11 @@ pub record ClientWork (clean : Type 0) (held : Option Trees) : Type 0 where
   pub waits : Option Extension
   pub lives : clean → IsInLife file names.life
   pub named : clean → names ≡ given_names names.life (durable.prepared_in file)
-  pub opened : clean → IfSome held (λ db. IsOpened (contents_of db) file began)
+  pub opened : clean → IfSome held (λ db. IsOpened least (contents_of db) file began)
   pub serves : Serves clean epoch_events file names lines began told last said reached ended waits
 
 -- the lines that a client gets of it
-abbrev pub told_text : {clean : Type 0} {held : Option Trees} → ClientWork clean held → List ℕ
+abbrev pub told_text : {least : ℕ} {clean : Type 0} {held : Option Trees} → ClientWork least clean held → List ℕ
 told_text w = (greeting w.names.life ++ answers_text w.told) ++ answers_text (last_answers (late_answer w.waits w.reached) w.ended)
 
 -- the ids of stores in the headers of a file
@@ -93,21 +93,21 @@ pub record StaysInLife (file said : Contents) (life : ℕ) (s : Stored) (db : Tr
   pub lives : IsInLife (contents_of db) life
 
 -- after this work the file begins a new epoch, in which what was prepared goes on
-pub record RenewsFile {clean : Type 0} {held : Option Trees} (work : ClientWork clean held) (prepared : List Prepared) (left : Option Trees) : Type 0 where
+pub record RenewsFile {least : ℕ} {clean : Type 0} {held : Option Trees} (work : ClientWork least clean held) (prepared : List Prepared) (left : Option Trees) : Type 0 where
   pub now : Stored
   pub goes_on : List Prepared
   pub renews : IsNextStore work.waits prepared (closed_by false prepared work.reached) now goes_on
   pub left_is : clean → IfSome left (λ db. BeginsEpoch work.file work.said work.waits work.last.life db now goes_on)
 
 -- or its epoch goes on
-abbrev pub KeepsFile : {clean : Type 0} {held : Option Trees} → ClientWork clean held → List Prepared → Option Trees → Type 0
-KeepsFile {clean} work prepared left = clean → IfSome left (StaysInLife work.file work.said work.last.life (closed_by false prepared work.reached))
+abbrev pub KeepsFile : {least : ℕ} {clean : Type 0} {held : Option Trees} → ClientWork least clean held → List Prepared → Option Trees → Type 0
+KeepsFile {least} {clean} work prepared left = clean → IfSome left (StaysInLife work.file work.said work.last.life (closed_by false prepared work.reached))
 
 -- a text that a client gets: the greeting, the answers and that of the end; of the input these bytes were taken, which are those lines and
 -- after them a half one, or what comes after the end; what was open and wasn't prepared is aborted; and the file begins a new epoch where the end was asked for
 -- or an extension waited
-pub record IsServed (clean : Type 0) (held left : Option Trees) (given given_now : Option (List ℕ)) (text : List ℕ) : Type 0 where
-  pub work : ClientWork clean held
+pub record IsServed (least : ℕ) (clean : Type 0) (held left : Option Trees) (given given_now : Option (List ℕ)) (text : List ℕ) : Type 0 where
+  pub work : ClientWork least clean held
   pub seen : List ℕ
   pub half : List ℕ
   pub rest : List ℕ
@@ -120,29 +120,29 @@ pub record IsServed (clean : Type 0) (held left : Option Trees) (given given_now
   pub ends : MatchBool (ends_epoch work.waits work.ended) (RenewsFile work prepared left) (KeepsFile work prepared left)
 
 -- what serving answers: never no
-abbrev pub ServesDatabase : Type 0 → Option Trees → Option Trees → Option (List ℕ) → Option (List ℕ) → Answers
-ServesDatabase clean held left given given_now v text = (v ≡ Yes) × IsServed clean held left given given_now text
+abbrev pub ServesDatabase : ℕ → Type 0 → Option Trees → Option Trees → Option (List ℕ) → Option (List ℕ) → Answers
+ServesDatabase least clean held left given given_now v text = (v ≡ Yes) × IsServed least clean held left given given_now text
 
 -- where it began
-abbrev pub work_began : {clean : Type 0} {held : Option Trees} → ClientWork clean held → Began
+abbrev pub work_began : {least : ℕ} {clean : Type 0} {held : Option Trees} → ClientWork least clean held → Began
 work_began w = record { most = epoch_events; file = w.file; names = w.names; store = w.began }
 
 -- whatever may be left is the file after the lines of the first bytes that were read, and has each commit that was answered
-pub record LeavesWork {clean : Type 0} {held : Option Trees} (w : ClientWork clean held) (bytes : List ℕ) (given_now : Option (List ℕ)) (may_be_left : Trees → Type 0) : Type 0 where
+pub record LeavesWork {least : ℕ} {clean : Type 0} {held : Option Trees} (w : ClientWork least clean held) (bytes : List ℕ) (given_now : Option (List ℕ)) (may_be_left : Trees → Type 0) : Type 0 where
   pub left : (db : Trees) → may_be_left db → IsFile db × ((waiting : List Answered) × IsLeftAfter (work_began w) (AreLast w.lines w.ended given_now) bytes w.told waiting (contents_of db))
   pub found : (t : TransactionName) → TellsCommit w.lines w.told t → (db : Trees) → may_be_left db → HasCommit (work_began w) (AreLast w.lines w.ended given_now) (contents_of db) t
 
 -- a text of which a client may have got a beginning, where serving stopped: the greeting, the answers to the first lines of its input, which
 -- were done, and that of the end; and what may be left then is what these lines and others that were read asked for
-pub record BeginsBefore (clean : Type 0) (held : Option Trees) (may_be_left : Trees → Type 0) (given given_now : Option (List ℕ)) (text : List ℕ) : Type 0 where
-  pub work : ClientWork clean held
+pub record BeginsBefore (least : ℕ) (clean : Type 0) (held : Option Trees) (may_be_left : Trees → Type 0) (given given_now : Option (List ℕ)) (text : List ℕ) : Type 0 where
+  pub work : ClientWork least clean held
   pub told : text ≡ told_text work
   pub read : AreFirstLines given work.lines
   pub leaves : clean → LeavesWork work (read.seen ++ read.rest) given_now may_be_left
 
 -- this, and what is held at the path then is what may be left
-abbrev pub BeginsServing : Type 0 → Option Trees → Option Trees → Option (List ℕ) → Option (List ℕ) → List ℕ → Type 0
-BeginsServing clean held left given given_now text = BeginsBefore clean held (λ db. left ≡ Some db) given given_now text
+abbrev pub BeginsServing : ℕ → Type 0 → Option Trees → Option Trees → Option (List ℕ) → Option (List ℕ) → List ℕ → Type 0
+BeginsServing least clean held left given given_now text = BeginsBefore least clean held (λ db. left ≡ Some db) given given_now text
 
 -- what comes of serving: an answer with its text; or a fault before anything was written, or one that is nothing of what the user gave, and
 -- the output took a beginning of such a text
@@ -155,6 +155,11 @@ ComesOfServing begun answers (Err fault) old new = (new ≡ old) ⊎ ((is_input 
 -- what is held at the path of these trees is their last commit
 abbrev pub IsHeld : View → Option Trees → Type 0
 IsHeld v held = IsClean v → IsTrue v.is_open → IfSome held (λ db. v.committed ≡ db)
+
+-- a crash at this moment leaves the file where at least so many of the last outcomes stay, or what it could have left before
+abbrev pub LeavesStaying : {S : Type 0} (g : Ghosts S) → ℕ → Durable S → Durable S → Type 0
+LeavesStaying g least old new =
+    (db : Trees) → may_leave g new.journal db → (IsFile db × (contents_of db ≡ with_least (written g old.journal) least)) ⊎ may_leave g old.journal db
 
 -- a client was served, and these are the trees
 pub record ServesIn {S : Type 0} (g : Ghosts S) (began : Durable S) (given taken : Option (List ℕ)) (trees : S) (given_now taken_now : Option (List ℕ)) : Type 0 where

@@ -4,12 +4,12 @@ ghost use Rattle.std.specs.Prelude.{◌≡◌, ◌⊎◌, false, Option, None, S
 ghost use Rattle.sqlite_trees.specs.Tree.{Trees};
 ghost use Rattle.sqlite_trees.specs.View.{IsClean};
 ghost use Rattle.outputs.specs.Gathered.{taken_by, under};
-ghost use Rattle.journal.specs.Contents.{contents_of};
-ghost use Rattle.journal.specs.Journal.{ShowsCommit, written};
+ghost use Rattle.journal.specs.Contents.{contents_of, with_least};
+ghost use Rattle.journal.specs.Journal.{Clean, ShowsCommit, written};
 ghost use Rattle.durable_store.specs.Durable.{IsDurable};
 ghost use Rattle.serve_command.specs.Archived.{ArchivesEpochs, KeepsBetween};
 ghost use Rattle.serve_command.specs.Found.{SaysFound};
-ghost use Rattle.serve_command.specs.Served.{BeginsBefore, BeginsServing, ComesOfServing, IsHeld, ServesDatabase, ServesIn, StopsIn};
+ghost use Rattle.serve_command.specs.Served.{BeginsBefore, BeginsServing, ComesOfServing, IsHeld, LeavesStaying, ServesDatabase, ServesIn, StopsIn};
 ghost use Rattle.command_files.specs.Answers.{IsEarlyFault};
 ghost use Rattle.command_files.specs.Status.{is_input};
 
@@ -18,6 +18,7 @@ use command_files::{DatabaseFault, Fault, Verdict};
 use database_commands::{fault_of_file, fault_of_making, fault_of_open, fault_of_unopened};
 use database_files::{Databases, TornWrites};
 use durable_store::{Durable, open_counted};
+use journal::JournalError;
 use outputs::{Gathered, Out};
 use serving::{
     Additions, Archive, ArchiveFault, Client, EpochLimits, ServeFault, serve,
@@ -36,16 +37,19 @@ const EPOCH_EVENTS: u32 = 32_768;
 const MOST_READ: usize = 65_536;
 
 /// How a store is to be served: the path of its database, what is supposed of torn writes, the folder of its archive, if
-/// any, and how long what is open may go on in an epoch that is full where it can't go over.
+/// any, how long what is open may go on in an epoch that is full where it can't go over, and how many of the last outcomes
+/// stay at least.
 #[derive(Clone, Copy)]
 pub struct Serving<'a> {
     pub path: &'a str,
     pub torn: TornWrites,
     pub archive: Option<&'a str>,
     pub drain: Duration,
+    pub outcomes: u32,
 }
 
-/// `serve DATABASE`: the store is opened, what was open in it is aborted, and what was found is said in a line. Then the
+/// `serve DATABASE`: the store is opened, what was open in it is aborted, and what was found is said in a line. From then on
+/// at least as many of the last outcomes stay in its file as is asked. Then the
 /// lines of the input are done one after another, and the output takes their answers, until the end is asked for
 /// or the input has ended. What is open then is aborted; and where the end was asked for, or more objects are to be added, the
 /// file begins a new epoch. After 32,768 events another epoch begins too, and where more objects are to be added, with these.
@@ -80,11 +84,11 @@ pub fn serve_database<
 ) -> (Result<Verdict, Fault<'a>>, Gathered<W>)
     requires out_takes { W.fault (under out) ≡ None }
     requires err_takes { E.fault err.old ≡ None }
-    ensures comes { let path = asked.entry.path in ComesOfServing (BeginsServing (D.is_clean databases.new) (D.holds databases.old path.now) (D.holds databases.new path.now) (I.remaining input.old) (I.remaining input.new))
-        (ServesDatabase (D.is_clean databases.new) (D.holds databases.old path.now) (D.holds databases.new path.now) (I.remaining input.old) (I.remaining input.new))
+    ensures comes { let path = asked.entry.path in ComesOfServing (BeginsServing asked.entry.outcomes (D.is_clean databases.new) (D.holds databases.old path.now) (D.holds databases.new path.now) (I.remaining input.old) (I.remaining input.new))
+        (ServesDatabase asked.entry.outcomes (D.is_clean databases.new) (D.holds databases.old path.now) (D.holds databases.new path.now) (I.remaining input.old) (I.remaining input.new))
         result.0 (taken_by W.taken out) (taken_by W.taken result.1) }
     ensures says { OnOk result.0 (SaysFound (D.is_clean databases.new) (D.holds databases.old asked.entry.path.now) asked.entry.path.now (E.taken err.old) (E.taken err.new)) }
-    ensures archives { OnOk result.0 (ArchivesEpochs (D.is_clean databases.new) (D.holds databases.old asked.entry.path.now) (D.holds databases.new asked.entry.path.now) (A.kept archive.old) (A.kept archive.new)) }
+    ensures archives { OnOk result.0 (ArchivesEpochs asked.entry.outcomes (D.is_clean databases.new) (D.holds databases.old asked.entry.path.now) (D.holds databases.new asked.entry.path.now) (A.kept archive.old) (A.kept archive.new)) }
 {
     match databases.open(asked.path, asked.torn) {
         Ok(trees) => {
@@ -141,13 +145,13 @@ fn serve_in<'a, C: Clock, S: Alter, N: Additions, A: Archive, I: Read, W: Out, E
     requires out_takes { W.fault (under client.old.out) ≡ None }
     requires err_takes { E.fault err.old ≡ None }
     ensures comes { (held : Option Trees) → IsHeld (S.Store.view trees) held
-        → ComesOfServing (BeginsBefore (IsClean (S.Store.view result.1)) held (S.Store.recovers result.1) (I.remaining input.old) (I.remaining input.new))
-        (ServesDatabase (IsClean (S.Store.view result.1)) held (Some (S.Store.view result.1).committed) (I.remaining input.old) (I.remaining input.new))
+        → ComesOfServing (BeginsBefore asked.entry.outcomes (IsClean (S.Store.view result.1)) held (S.Store.recovers result.1) (I.remaining input.old) (I.remaining input.new))
+        (ServesDatabase asked.entry.outcomes (IsClean (S.Store.view result.1)) held (Some (S.Store.view result.1).committed) (I.remaining input.old) (I.remaining input.new))
         result.0 (taken_by W.taken client.old.out) (taken_by W.taken client.new.out) }
     ensures says { (held : Option Trees) → IsHeld (S.Store.view trees) held
         → OnOk result.0 (SaysFound (IsClean (S.Store.view result.1)) held asked.entry.path.now (E.taken err.old) (E.taken err.new)) }
     ensures archives { (held : Option Trees) → IsHeld (S.Store.view trees) held
-        → OnOk result.0 (ArchivesEpochs (IsClean (S.Store.view result.1)) held (Some (S.Store.view result.1).committed) (A.kept archive.old) (A.kept archive.new)) }
+        → OnOk result.0 (ArchivesEpochs asked.entry.outcomes (IsClean (S.Store.view result.1)) held (Some (S.Store.view result.1).committed) (A.kept archive.old) (A.kept archive.new)) }
 {
     let began = Instant::now(clock).ok();
     match open_counted(alloc, trees) {
@@ -158,12 +162,40 @@ fn serve_in<'a, C: Clock, S: Alter, N: Additions, A: Archive, I: Read, W: Out, E
                 time: milliseconds_since(clock, began),
             };
             say_found(asked.path, found, err);
-            serve_store(
-                clock, alloc, asked, store, additions, archive, input, client,
-            )
+            let mut store = store;
+            match stay_at_least(&mut store, asked.outcomes) {
+                Ok(()) => serve_store(
+                    clock, alloc, asked, store, additions, archive, input, client,
+                ),
+                Err(error) => (Err(fault_of_file(asked.path, error)), store.into_trees()),
+            }
         }
         Err((error, trees)) => (Err(fault_of_open(asked.path, error)), trees),
     }
+}
+
+/// Lets at least this many of the last outcomes stay from now on, where the file says another number: after `Ok` no crash
+/// takes that away.
+///
+/// # Errors
+///
+/// The file failed, or memory was refused for it.
+fn stay_at_least<S: Alter>(store: &mut Durable<S>, least: u32) -> Result<(), JournalError>
+    requires sound { IsDurable S.Store store.old }
+    requires shows { ShowsCommit S.Store store.old.journal }
+    ensures sound { OnOk result (IsDurable S.Store store.new) }
+    ensures shows { OnOk result (ShowsCommit S.Store store.new.journal) }
+    ensures types { OnOk result (store.new.store.types ≡ store.old.store.types) }
+    ensures history { OnOk result (store.new.store.history ≡ store.old.store.history) }
+    ensures written { OnOk result (Clean S.Store store.new.journal → written S.Store store.new.journal ≡ with_least (written S.Store store.old.journal) least) }
+    ensures clean { Clean S.Store store.new.journal → Clean S.Store store.old.journal }
+    ensures crash { LeavesStaying S.Store least store.old store.new }
+{
+    if store.least_outcomes() == u64::from(least) {
+        return Ok(());
+    }
+    store.keep_at_least(least)?;
+    store.settle()
 }
 
 /// Serves a store that was opened. Its trees come back.

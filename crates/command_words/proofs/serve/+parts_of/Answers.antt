@@ -1,6 +1,6 @@
 use Rattle.std.specs.Cmp.Lexicographic.{same_text}
 use Rattle.std.proofs.Common.{refl}
-use Rattle.command_words.proofs.ServeLemmas.{archive_other, archive_said, dashes_other, dashes_said, differs, database_other, database_said, drain_other, drain_said, fast_other, fast_said, no_option, no_value, none_say, with_first, with_two}
+use Rattle.command_words.proofs.ServeLemmas.{archive_other, archive_said, dashes_other, dashes_said, differs, database_other, database_said, drain_other, drain_said, fast_other, fast_said, no_option, no_value, none_say, outcomes_other, outcomes_said, with_first, with_two}
 use Rattle.command_words.proofs.serve.+parts_of.Goals as goal
 
 pub returns-in_default-clause-said : goal.returns-in_default-clause-said
@@ -42,11 +42,19 @@ returns-in-text-2-clause-other t c =
 
 pub returns-in-text-3-clause-said : goal.returns-in-text-3-clause-said
 returns-in-text-3-clause-said t c =
-    dashes_said _ _ _ _ c.parts_of-in-text-3.ensures.said c.parts_of-in-text-3.ensures.other c.in_ok-value.value.now (with_two _ _ _ _ _ _ c.in-Some.ensures.cases.0 c.in_ok-value.ensures.cases.0 c.in-text-3.is) c.with_database-in-text-3.ensures.said
+    outcomes_said _ _ _ _ c.parts_of-in-text-3.ensures.said c.parts_of-in-text-3.ensures.other _ (with_two _ _ _ _ _ _ c.in-Some.ensures.cases.0 c.in_ok-value.ensures.cases.0 c.in-text-3.is) c.with_outcomes.ensures.said
 
 pub returns-in-text-3-clause-other : goal.returns-in-text-3-clause-other
 returns-in-text-3-clause-other t c =
-    dashes_other _ _ _ _ c.parts_of-in-text-3.ensures.said c.parts_of-in-text-3.ensures.other _ (with_two _ _ _ _ _ _ c.in-Some.ensures.cases.0 c.in_ok-value.ensures.cases.0 c.in-text-3.is) c.with_database-in-text-3.ensures.other
+    outcomes_other _ _ _ _ c.parts_of-in-text-3.ensures.said c.parts_of-in-text-3.ensures.other _ (with_two _ _ _ _ _ _ c.in-Some.ensures.cases.0 c.in_ok-value.ensures.cases.0 c.in-text-3.is) c.with_outcomes.ensures.other
+
+pub returns-in-text-4-clause-said : goal.returns-in-text-4-clause-said
+returns-in-text-4-clause-said t c =
+    dashes_said _ _ _ _ c.parts_of-in-text-4.ensures.said c.parts_of-in-text-4.ensures.other c.in_ok-value.value.now (with_two _ _ _ _ _ _ c.in-Some.ensures.cases.0 c.in_ok-value.ensures.cases.0 c.in-text-4.is) c.with_database-in-text-4.ensures.said
+
+pub returns-in-text-4-clause-other : goal.returns-in-text-4-clause-other
+returns-in-text-4-clause-other t c =
+    dashes_other _ _ _ _ c.parts_of-in-text-4.ensures.said c.parts_of-in-text-4.ensures.other _ (with_two _ _ _ _ _ _ c.in-Some.ensures.cases.0 c.in_ok-value.ensures.cases.0 c.in-text-4.is) c.with_database-in-text-4.ensures.other
 
 pub returns-in_err-value-clause-other : goal.returns-in_err-value-clause-other
 returns-in_err-value-clause-other t c =
@@ -56,4 +64,4 @@ returns-in_err-value-clause-other t c =
 pub returns-in_default-word-clause-other : goal.returns-in_default-word-clause-other
 returns-in_default-word-clause-other t c =
     no_option _ _ _ _ (with_two _ _ _ _ _ _ c.in-Some.ensures.cases.0 c.in_ok-value.ensures.cases.0 refl) (differs _ c.if-eq.ensures) (c.is_plain.ensures.other c.if-is_plain.false)
-    c.in_default-word.not-text c.in_default-word.not-text-2 c.in_default-word.not-text-3
+    c.in_default-word.not-text c.in_default-word.not-text-2 c.in_default-word.not-text-3 c.in_default-word.not-text-4

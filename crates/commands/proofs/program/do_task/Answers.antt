@@ -146,14 +146,17 @@ returns-in-Serve-clause-does g c =
     let old = taken_by g.W.Out.taken c.args.console.out in
     let new = taken_by g.W.Out.taken c.do_serve.result.1.out in
     let Does : Task → Type 0 = λ t. DoesTask given t c.do_serve.result.0 old new in
-    let At : Bor (List ℕ) → Type 0 = λ p. ComesOfServing (BeginsServing given.clean (given.databases p.now) (given.made p.now) given.input given.rest)
-    (ServesDatabase given.clean (given.databases p.now) (given.made p.now) given.input given.rest) c.do_serve.result.0 old new in
-    let Keeps : Bor (List ℕ) → Option (Bor (List ℕ)) → Type 0 = λ p a. let folder = option_map (λ f. f.now) a in
-    OnOk c.do_serve.result.0 (ArchivesEpochs given.clean (given.databases p.now) (given.made p.now) (given.kept folder) (given.kept_now folder)) in
-    let comes = subst At c.serving.ensures.path c.do_serve.ensures.comes in
-    let at_path = subst (λ p. Keeps p c.serving.result.archive) c.serving.ensures.path c.do_serve.ensures.archives in
-    let keeps = subst (Keeps c.in-Serve.database) c.serving.ensures.archive at_path in
-    subst Does (sym c.in-Serve.is) (inl (tt, keeps_too given c.in-Serve.database.now (option_map (λ f. f.now) c.in-Serve.archive) _ c.do_serve.result.0 old new comes keeps))
+    let At : ℕ → Bor (List ℕ) → Type 0 = λ least p. ComesOfServing (BeginsServing least given.clean (given.databases p.now) (given.made p.now) given.input given.rest)
+    (ServesDatabase least given.clean (given.databases p.now) (given.made p.now) given.input given.rest) c.do_serve.result.0 old new in
+    let Keeps : ℕ → Bor (List ℕ) → Option (Bor (List ℕ)) → Type 0 = λ least p a. let folder = option_map (λ f. f.now) a in
+    OnOk c.do_serve.result.0 (ArchivesEpochs least given.clean (given.databases p.now) (given.made p.now) (given.kept folder) (given.kept_now folder)) in
+    let stay = c.serving-asked.ensures.outcomes in
+    let comes_there = subst (At c.serving-asked.result.outcomes) c.serving-asked.ensures.path c.do_serve.ensures.comes in
+    let comes = subst (λ least. At least c.in-Serve.database) stay comes_there in
+    let at_path = subst (λ p. Keeps c.serving-asked.result.outcomes p c.serving-asked.result.archive) c.serving-asked.ensures.path c.do_serve.ensures.archives in
+    let in_folder = subst (Keeps c.serving-asked.result.outcomes c.in-Serve.database) c.serving-asked.ensures.archive at_path in
+    let keeps = subst (λ least. Keeps least c.in-Serve.database c.in-Serve.archive) stay in_folder in
+    subst Does (sym c.in-Serve.is) (inl (tt, keeps_too given c.in-Serve.outcomes c.in-Serve.database.now (option_map (λ f. f.now) c.in-Serve.archive) _ c.do_serve.result.0 old new comes keeps))
 
 pub returns-in-Serve-clause-err : goal.returns-in-Serve-clause-err
 returns-in-Serve-clause-err g c =
@@ -166,4 +169,4 @@ returns-in-Serve-clause-err g c =
     let Passes : Task → Type 0 = λ t. PassesOn given t c.do_serve.result.0 err new_err in
     let Says : Bor (List ℕ) → Type 0 = λ p. OnOk c.do_serve.result.0 (SaysFound given.clean (given.databases p.now) p.now err new_err) in
     subst Passes (sym c.in-Serve.is)
-    (served given c.in-Serve.database c.in-Serve.fast c.in-Serve.archive c.in-Serve.drain c.do_serve.result.0 err new_err (subst Says c.serving.ensures.path c.do_serve.ensures.says))
+    (served given c.in-Serve.database c.in-Serve.fast c.in-Serve.archive c.in-Serve.drain c.in-Serve.outcomes c.do_serve.result.0 err new_err (subst Says c.serving-asked.ensures.path c.do_serve.ensures.says))

@@ -7,7 +7,7 @@ use Rattle.serve_command.proofs.serve.serve_database.Goals as goal
 pub returns-in-Ok-clause-comes : goal.returns-in-Ok-clause-comes
 returns-in-Ok-clause-comes g c =
     let held = g.D.Databases.holds c.args.databases.now c.args.asked.path.now in
-    comes-under held (g.D.Databases.holds c.let_go.new.databases c.args.asked.path.now) _ _ (g.I.Read.remaining c.args.input.now) (g.I.Read.remaining c.serve_in-served.new.input) c.serve_in-served.result.0
+    comes-under c.args.asked.outcomes held (g.D.Databases.holds c.let_go.new.databases c.args.asked.path.now) _ _ (g.I.Read.remaining c.args.input.now) (g.I.Read.remaining c.serve_in-served.new.input) c.serve_in-served.result.0
     (ap (taken_by g.W.Out.taken) c.new-client.ensures) (ap (taken_by g.W.Out.taken) (sym c.into_out.ensures)) c.let_go.ensures.clean c.let_go.ensures.held c.let_go.ensures.left
     (c.serve_in-served.ensures.comes held c.in-Ok.ensures.held)
 
@@ -20,5 +20,5 @@ returns-in-Ok-clause-says g c =
 pub returns-in-Ok-clause-archives : goal.returns-in-Ok-clause-archives
 returns-in-Ok-clause-archives g c =
     let held = g.D.Databases.holds c.args.databases.now c.args.asked.path.now in
-    archives-under held (g.D.Databases.holds c.let_go.new.databases c.args.asked.path.now) _ c.serve_in-served.result.0 (g.A.Archive.kept c.args.archive.now) (g.A.Archive.kept c.serve_in-served.new.archive)
+    archives-under c.args.asked.outcomes held (g.D.Databases.holds c.let_go.new.databases c.args.asked.path.now) _ c.serve_in-served.result.0 (g.A.Archive.kept c.args.archive.now) (g.A.Archive.kept c.serve_in-served.new.archive)
     c.let_go.ensures.clean c.let_go.ensures.held (c.serve_in-served.ensures.archives held c.in-Ok.ensures.held)
