@@ -2,9 +2,11 @@
 
 A vote is a transaction that was asked to be prepared under a key. Threads share the votes. Where a service is killed a vote
 that was asked and not answered is there or not, and so is a decision; the next service says which, and from then on it is
-so for ever.
+so, as long as the key is kept (tools/kill_keys.py).
 """
 import threading
+
+from kill_keys import Old
 
 OBJECTS = ["undo", "undo", "undo", "intentions", "escrow"]
 CALLS = ["inc:1", "dec:1"]
@@ -13,8 +15,8 @@ FULL = 200
 # The operation that an object excludes while another transaction holds one: of these counters the other one under undo,
 # the same one under intentions. In escrow it depends on the number.
 EXCLUDED = {"undo": [1, 0], "intentions": [0, 1]}
-# How many votes wait for a decision at most, and how many keys of each sort a service is asked for.
-WAITING, MOST = 4, 100
+# How many votes wait for a decision at most.
+WAITING = 4
 ENDED = {"commit": "committed", "abort": "aborted"}
 
 
@@ -71,15 +73,15 @@ def counted(states, committed):
 
 
 class Votes:
-    """All votes: those of which more is to be known, and by the keys of the others what became of them."""
+    """All votes: those of which more is to be known, and how many others were decided, under which keys."""
 
-    def __init__(self):
-        self.lock, self.open, self.ended, self.count, self.order = threading.Lock(), [], {}, 0, []
-        self.probed = 0
+    def __init__(self, keys):
+        self.lock, self.open, self.keys, self.count, self.order = threading.Lock(), [], keys, 0, []
+        self.decided, self.probed = 0, 0
 
     def __str__(self):
         kept = len([vote for vote in self.open if vote.is_answered])
-        return f"{self.count} votes of which {len(self.ended)} are decided and {kept} wait, {self.probed} calls kept out"
+        return f"{self.count} votes of which {self.decided} are decided and {kept} wait, {self.probed} calls kept out"
 
     # ---- what clients ask
 
@@ -106,9 +108,12 @@ class Votes:
         """Nobody has the key where it is decided: then nobody is prepared under it."""
         expect(service, f"decide {vote.key} abort", ["ok"])
         with self.lock:
-            self.ended[vote.key] = "abort"
-        expect(service, f"prepare {vote.name} {vote.key} {vote.until}", ["refused", "Aborted"])
-        expect(service, f"decide {vote.key} commit", ["refused", "Decided"])
+            self.count_decided(vote.key, "abort")
+        try:
+            expect(service, f"prepare {vote.name} {vote.key} {vote.until}", ["refused", "Aborted"], key=vote.key)
+            expect(service, f"decide {vote.key} commit", ["refused", "Decided"], key=vote.key)
+        except Old:
+            pass
         vote.t.asked = "abort"
         expect(service, f"abort {vote.name}", ["ok"])
         vote.t.ended = "abort"
@@ -126,15 +131,22 @@ class Votes:
         # Another may decide it meanwhile.
         expect(service, f"call {vote.name} 0 inc:1", ["refused", "Prepared"], ["refused", "NotOpen"])
         expect(service, f"abort {vote.name}", ["refused", "Prepared"], ["refused", "NotOpen"])
-        expect(service, f"outcome {vote.key}", ["prepared"], ["committed"], ["aborted"])
-        expect(service, f"do ={vote.key} 0 inc:1", ["refused", "KeyPrepared"], ["done"], ["refused", "Aborted"])
+        try:
+            expect(service, f"outcome {vote.key}", ["prepared"], ["committed"], ["aborted"], key=vote.key)
+            answers = [["refused", "KeyPrepared"], ["done"], ["refused", "Aborted"]]
+            expect(service, f"do ={vote.key} 0 inc:1", *answers, key=vote.key)
+        except Old:
+            pass  # many came behind its decision
 
     def decide(self, service, vote, source):
         """A vote is decided; another may decide it otherwise, and then one of the two is refused."""
         how = source.choice(["commit", "commit", "abort"])
         with self.lock:
             vote.asked.add(how)
-        answer = expect(service, f"decide {vote.key} {how}", ["ok"], ["refused", "Decided"])
+        try:
+            answer = expect(service, f"decide {vote.key} {how}", ["ok"], ["refused", "Decided"], key=vote.key)
+        except Old:
+            return  # another one decided it, and many came behind
         came = how if answer == ["ok"] else {"commit": "abort", "abort": "commit"}[how]
         with self.lock:
             if came not in vote.asked or vote.decided not in (None, came):
@@ -142,16 +154,21 @@ class Votes:
             self.end(vote, came)
 
     def end(self, vote, how):
-        """It is known for ever how a vote ended."""
-        vote.decided = vote.t.ended = self.ended[vote.key] = how
+        """It is known how a vote ended."""
+        vote.decided = vote.t.ended = how
         if vote in self.open:
             self.open.remove(vote)
+            self.count_decided(vote.key, how)
+
+    def count_decided(self, key, how):
+        self.decided += 1
+        self.keys.know(key, ENDED[how])
 
     # ---- what is found
 
-    def differences(self, service, there, source):
-        """What a service says otherwise of who is prepared, and of keys that were decided, where this is in the history. It
-        comes first in a service."""
+    def differences(self, service, there):
+        """What a service says otherwise of who is prepared, and of votes that were maybe decided, where this is in the history.
+        It comes first in a service."""
         told = service.lines("prepared")[:-1]
         by_key = {vote.key: vote for vote in self.open}
         for words in told:
@@ -166,16 +183,16 @@ class Votes:
         for vote in list(self.open):
             if vote.key in keys:
                 vote.is_answered, vote.is_offered, vote.asked = True, True, set()
+                self.keys.forget(vote.key)
             else:
                 yield from self.settled(vote, service.ask(f"outcome {vote.key}"), there.get(vote.name))
         self.order = keys
-        for key in source.sample(sorted(self.ended), min(len(self.ended), MOST)):
-            if (answer := service.ask(f"outcome {key}")) != [ENDED[self.ended[key]]]:
-                yield f"key {key} is {answer}, and {self.ended[key]} was answered"
 
     def settled(self, vote, answer, found):
         """A vote that isn't prepared was decided, or was never prepared."""
         how = {word: how for how, word in ENDED.items()}.get(answer[0])
+        if answer == ["unknown"] and vote.key in self.keys.stale and found and len(found[1]) == 1:
+            how = found[1][0]  # it was decided, and its key is gone
         if how is None and (answer != ["unknown"] or vote.is_answered):
             yield f"{vote.key} is {answer} and not prepared, and {vote.is_answered and 'ok'} was answered"
         elif how is not None and (how not in vote.asked or found != (vote.t.replies, [how])):
@@ -214,9 +231,9 @@ class Votes:
                     t.ended, self.probed = "abort", self.probed + 1
 
 
-def expect(service, words, *answers):
-    """What is asked has one of these answers, which comes back."""
-    answer = service.ask(words)
+def expect(service, words, *answers, key=None):
+    """What is asked, where this key can't be gone, has one of these answers, which comes back."""
+    answer = service.ask(words, key)
     if answer not in answers:
         raise Wrong(f"{words}: {answer}, and not {answers}")
     return answer

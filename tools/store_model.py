@@ -7,6 +7,7 @@ goes through all fronts of what each transaction did, and through all numbers th
 
 Where an epoch ends, all that is open goes over if each yes is strong, and else what is prepared. The next one begins with
 what survives of that, in an order that the model leaves open: whoever looks at a history tells it the one that was found.
+What is kept of keys has numbers, 1, 2, 3 and so on. Where an epoch ends, only what has one of the last numbers stays.
 """
 import collections
 import dataclasses
@@ -17,6 +18,8 @@ from type_model import Number
 MOST_OPEN, MOST_TOLD = 1024, 65_536
 # How many objects a text may have that doesn't say it.
 FEW = 256
+# How many of the last outcomes stay at least, by default.
+STAYING = 1_000_000
 
 
 class Seen:
@@ -78,17 +81,27 @@ class Prepared:
     number: int
 
 
+@dataclasses.dataclass(frozen=True)
+class Outcome:
+    """What is kept of a key: the replies of its transaction, or None where it was aborted; how many events there were when
+    that was decided; and which it was of all that were ever kept, of which the first is 1."""
+    replies: list | None
+    at: int
+    number: int
+
+
 class Model:
     """A store in a file: the states where the epoch began, its whole history, how many of these events are answered as
-    durable, and the number of its life; who is prepared, in that order; and of each key the replies of its transaction, or
-    None where it was aborted, and how many events there were when that was decided. Of those that an earlier life began
-    there are the names, by their numbers. The epoch began with the first events, and with all that was open or only with
-    what was prepared. An object is its kind, the place of its type, and where it has one its name."""
+    durable, and the number of its life; who is prepared, in that order; what is kept of keys, those of which nothing is any
+    more, the number of the next outcome, and how many of the last stay at least. Of those that an earlier life began there
+    are the names, by their numbers. The epoch began with the first events, and with all that was open or only with what was
+    prepared. An object is its kind, the place of its type, and where it has one its name."""
 
     def __init__(self, objects, types):
         self.objects, self.types = objects, types
         self.starts, self.events, self.durable = [types[place].initial for _, place, *_ in objects], [], 0
-        self.life, self.keys, self.prepared = 0, {}, []
+        self.life, self.prepared = 0, []
+        self.keys, self.gone, self.next, self.staying = {}, [], 1, STAYING
         self.carried, self.first, self.all_went = {}, 0, True
 
     def type_of(self, x):
@@ -243,7 +256,7 @@ class Model:
             if verb == "commit" and not self.refusal(Seen(self.events), "abort", rest[0]):
                 self.events.append(("abort", self.open_by(Seen(self.events), rest[0])))
             self.durable = len(self.events)
-            return "ok" if verb == "commit" else " ".join(["done", *self.keys[key][0]])
+            return "ok" if verb == "commit" else " ".join(["done", *self.keys[key].replies])
         if verb == "commit":
             refused = self.refusal(Seen(self.events), "commit", rest[0])
             answer = f"refused {refused}" if refused else self.done(Seen(self.events), "commit", rest[0])[0]
@@ -251,8 +264,18 @@ class Model:
             answer = self.attempted(Seen(self.events), list(zip(rest[1::2], rest[2::2])))
         word, *replies = answer.split(" ")
         if word in ("ok", "done"):
-            self.keys[key] = replies, len(self.events)
+            self.keep(key, replies)
         return answer
+
+    def keep(self, key, replies):
+        """What became of the transaction of a key is kept."""
+        self.keys[key] = Outcome(replies, len(self.events), self.next)
+        self.next += 1
+
+    def let_go(self):
+        """Of keys after which as many others were kept as stay at least nothing is kept any more."""
+        self.gone += [key for key, kept in self.keys.items() if kept.number < self.next - self.staying]
+        self.keys = {key: kept for key, kept in self.keys.items() if kept.number >= self.next - self.staying}
 
     def under(self, key):
         """Who is prepared under a key, or none."""
@@ -262,7 +285,7 @@ class Model:
         """What became of the transaction of a key."""
         if self.under(key) or key not in self.keys:
             return "prepared" if self.under(key) else "unknown"
-        return "aborted" if self.keys[key][0] is None else "committed"
+        return "aborted" if self.keys[key].replies is None else "committed"
 
     def prepare(self, s, name, key, until):
         """An open transaction is prepared under a key. It is durable then."""
@@ -285,19 +308,21 @@ class Model:
             self.prepared.remove(p)
         elif how == "commit":
             return "refused Unknown"
-        self.keys[key] = [] if how == "commit" else None, len(self.events)
+        self.keep(key, [] if how == "commit" else None)
         self.durable = len(self.events)
         return "ok"
 
     def known(self, key):
         """What is known of a key. It is durable then."""
         self.durable = len(self.events)
-        return " ".join([self.state(key), *(self.keys.get(key, ([],))[0] or [])])
+        kept = self.keys.get(key)
+        return " ".join([self.state(key), *(kept and kept.replies or [])])
 
     def cut(self, count):
         """Only the first events are there."""
         del self.events[count:]
-        self.keys = {key: (replies, at) for key, (replies, at) in self.keys.items() if at <= count}
+        self.next = min([self.next, *(kept.number for kept in self.keys.values() if kept.at > count)])
+        self.keys = {key: kept for key, kept in self.keys.items() if kept.at <= count}
 
     def told(self, event):
         """What a call is answered that makes this event."""
@@ -373,9 +398,11 @@ class Model:
         """What is open and isn't prepared is aborted."""
         self.events += [("abort", t) for t in self.unprepared()]
 
-    def opened(self):
-        """The file is opened by a service. Of what is open it knows who is prepared, by the name that was asked for then."""
+    def opened(self, staying=STAYING):
+        """The file is opened by a service that lets so many of the last outcomes stay at least. Of what is open it knows who
+        is prepared, by the name that was asked for then."""
         self.abort_all()
+        self.staying = staying
         self.durable, self.life = len(self.events), self.life + 1
         self.carried = {p.number: p.name for p in self.prepared}
 
@@ -404,7 +431,8 @@ class Model:
         self.prepared = [dataclasses.replace(p, number=numbers[p.number]) for p in self.prepared]
         self.first = self.durable = len(self.events)
         self.life += 1
-        self.keys = {key: (replies, 0) for key, (replies, _) in self.keys.items()}
+        self.keys = {key: dataclasses.replace(kept, at=0) for key, kept in self.keys.items()}
+        self.let_go()
 
     def takes_order(self, lines):
         """Whether these lines are those of the first events, in another order that keeps what is to be kept: from now on

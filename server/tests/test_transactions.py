@@ -8,7 +8,7 @@ from served import InBackground, Served, until
 class Transactions(unittest.TestCase):
     @classmethod
     def setUpClass(cls):
-        cls.served = Served("--most-open", "8")
+        cls.served = Served("--most-open", "8", "--outcomes", "100000")
         cls.served.add("seats", "undo", *[f"S{n}" for n in range(12)])
 
     @classmethod
