@@ -1,6 +1,7 @@
 //! The words that the server is started with.
 
 use crate::limits::Limits;
+use crate::store::opening::OUTCOMES;
 use clap::Parser;
 use std::net::SocketAddr;
 use std::path::PathBuf;
@@ -43,6 +44,9 @@ pub struct Options {
     /// How many seconds what is open may go on at the end of an epoch, and where objects are added, if a yes is one-way
     #[arg(long, value_name = "SECONDS", default_value_t = 5, value_parser = clap::value_parser!(u32).range(0..=3600))]
     pub epoch_drain: u32,
+    /// How many of the last outcomes of keys stay at least; the oldest go at an epoch's end
+    #[arg(long, value_name = "COUNT", default_value_t = OUTCOMES)]
+    pub outcomes: u32,
     /// Sync once for a commit, supposing more of torn writes
     #[arg(long)]
     pub fast: bool,
@@ -110,7 +114,7 @@ mod tests {
     fn words_are_read() {
         let options = options("--tls a b --drain 3 --log json");
         assert_eq!((options.tls.len(), options.drain, options.limits().connections), (2, 3, 4_096));
-        for wrong in ["--drain -1", "--tls a", "--listen here", "--log x", "--data other"] {
+        for wrong in ["--drain -1", "--outcomes 4294967296", "--tls a", "--listen here", "--log x", "--data other"] {
             assert!(Options::try_parse_from(format!("colockd --data shop {wrong}").split_whitespace()).is_err(), "{wrong}");
         }
     }

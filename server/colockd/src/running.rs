@@ -85,7 +85,7 @@ async fn open(options: &Options, folder: &DataFolder, tokens: Option<Tokens>) ->
     let metrics = Arc::new(Metrics::new().map_err(|error| format!("metrics: {error}"))?);
     let path = found(&options.program)?;
     let program = Arc::new(Program::new(path, folder.path().to_path_buf()));
-    let choices = Choices { is_fast: options.fast, drain: options.epoch_drain, histories: options.history as usize };
+    let choices = Choices { is_fast: options.fast, drain: options.epoch_drain, outcomes: options.outcomes, histories: options.history as usize };
     let store = Store::open(folder, program, choices, Arc::clone(&metrics)).await?;
     let mut app = App::new(store, tokens, options.limits(), metrics);
     app.slow = Duration::from_millis(options.slow);

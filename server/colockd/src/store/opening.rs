@@ -37,6 +37,9 @@ const READY_TYPE: &str = "type colockd\nstates 1\ninitial 0\nop ready ok\nstep 0
 /// How often a store is started in vain, before the server gives up.
 const MOST_STARTS: u32 = 5;
 
+/// How many of the last outcomes stay at least, where the words of `serve` don't say it.
+pub const OUTCOMES: u32 = 1_000_000;
+
 /// What is chosen for a store.
 #[derive(Clone, Copy, Debug)]
 pub struct Choices {
@@ -44,6 +47,8 @@ pub struct Choices {
     pub is_fast: bool,
     /// How many seconds open transactions may go on in an epoch that is full, where some yes is one-way.
     pub drain: u32,
+    /// How many of the last outcomes of keys stay at least.
+    pub outcomes: u32,
     /// Of how many epochs that have ended the history is kept.
     pub histories: usize,
 }
@@ -107,13 +112,22 @@ impl Store {
 }
 
 fn plan(folder: &DataFolder, program: &Program, choices: Choices) -> Plan {
+    Plan { program: program.path().to_path_buf(), folder: folder.path().to_path_buf(), words: words_of(choices) }
+}
+
+/// The words that serve a store as it was chosen.
+fn words_of(choices: Choices) -> Vec<String> {
     let mut words = vec!["serve".to_string()];
     if choices.is_fast {
         words.push("--fast".to_string());
     }
     words.extend(["--archive", ARCHIVE, "--drain"].map(str::to_string));
-    words.extend([choices.drain.to_string(), DATABASE.to_string()]);
-    Plan { program: program.path().to_path_buf(), folder: folder.path().to_path_buf(), words }
+    words.push(choices.drain.to_string());
+    if choices.outcomes != OUTCOMES {
+        words.extend(["--outcomes".to_string(), choices.outcomes.to_string()]);
+    }
+    words.push(DATABASE.to_string());
+    words
 }
 
 /// Makes a store with one object.
@@ -133,5 +147,20 @@ async fn ask_due(engine: Engine<About>, mut due: mpsc::UnboundedReceiver<Due>) {
             // where the store is lost, who waits is told that
             let _ = engine.ask(Question::about(words, About::Would(number))).await;
         });
+    }
+}
+
+#[cfg(test)]
+mod tests {
+    use super::{words_of, Choices, OUTCOMES};
+
+    fn words(is_fast: bool, outcomes: u32) -> String {
+        words_of(Choices { is_fast, drain: 5, outcomes, histories: 1 }).join(" ")
+    }
+
+    #[test]
+    fn what_is_chosen_is_said() {
+        assert_eq!(words(false, OUTCOMES), "serve --archive archive --drain 5 store.db");
+        assert_eq!(words(true, 0), "serve --fast --archive archive --drain 5 --outcomes 0 store.db");
     }
 }
