@@ -117,7 +117,8 @@ What has a key is done at most once, however often it is asked. So who wasn't an
     >>> pair.retry(lambda transaction: transaction.call("one", "inc:2").executed(), key="order:8")
     Committed(replies=())
 
-In a file keys stay, so what was asked before its program was lost is asked again where the file is open anew.
+In a file keys stay, so what was asked before its program was lost is asked again where the file is open anew. At least the last
+1,000,000 stay.
 
 A transaction may be prepared under a key. Then it holds what it did, whoever lets it go, until it is decided under the key:
 

@@ -84,7 +84,7 @@ class BadKey(Error, ValueError):
 
 
 class KeyAborted(Error, ValueError):
-    """The transaction of the key `key` was aborted, and none will commit under it.
+    """The transaction of the key `key` was aborted, and none commits under it.
 
     A transaction that was to commit or to be prepared under it is open as before.
     """

@@ -9,8 +9,6 @@ from typing import Type as Class
 from ._errors import BadKey, Error, KeyAborted, KeyCommitted, KeyDecided, KeyPrepared, KeyTaken, KeyUnknown
 
 KEY = re.compile(r"[a-zA-Z0-9_:.-]{1,64}")
-# How many outcomes a store in memory keeps.
-MOST_KEPT = 1_000_000
 # What is raised of a key.
 OfKey = Union[KeyAborted, KeyCommitted, KeyDecided, KeyPrepared, KeyTaken, KeyUnknown]
 Refusals = Mapping[bytes, Class[OfKey]]
@@ -32,7 +30,7 @@ class Committed:
 
 @dataclass(frozen=True)
 class Aborted:
-    """The key's transaction was aborted, and none will commit under the key."""
+    """The key's transaction was aborted, and none commits under the key."""
 
     __match_args__ = ()
 
@@ -46,7 +44,7 @@ class Prepared:
 
 @dataclass(frozen=True)
 class Unknown:
-    """No transaction has committed under the key, as far as the store knows: it is free."""
+    """No transaction has ended or is prepared under the key, as far as the store knows: it is free."""
 
     __match_args__ = ()
 
@@ -92,10 +90,14 @@ def refuse_work(key: str, outcome: Outcome) -> None:
 
 
 class Keys:
-    """The last ends of a store in memory, by their keys. It is used under the lock of the store."""
+    """The last ends of a store in memory, by their keys. It is used under the lock of the store.
 
-    def __init__(self) -> None:
+    In a file at least as many stay; and here no more, so that the room for them has an end.
+    """
+
+    def __init__(self, most: int) -> None:
         self._kept: OrderedDict[str, End] = OrderedDict()
+        self._most = most
 
     def outcome(self, key: str) -> Outcome:
         """How the transaction of a key ended, or that nothing is known of it."""
@@ -104,5 +106,5 @@ class Keys:
     def keep(self, key: str, outcome: End) -> None:
         """Keeps an outcome, for which the oldest one goes where there are too many. It may be done twice."""
         self._kept[key] = outcome
-        while len(self._kept) > MOST_KEPT:
+        while len(self._kept) > self._most:
             self._kept.popitem(last=False)

@@ -44,7 +44,7 @@ class Memory(Renewing):
         super().__init__(_blocker_in(ref(self)), limits.events)
         check_names(first, ())
         events, opens = unsigned("the limit of events", limits.events, 64), unsigned("the limit of open transactions", limits.open, 32)
-        objects = unsigned("the limit of objects", limits.objects, 32)
+        objects, outcomes = unsigned("the limit of objects", limits.objects, 32), unsigned("the limit of outcomes", limits.outcomes, 32)
         _begin_store(self._handle, first)
         # the replies are made once, under the lock
         self._replies: List[Dict[int, Operation]] = []
@@ -53,7 +53,7 @@ class Memory(Renewing):
         self._told_of_sleeper = _library.Answer()
         # a transaction that ends, how many commits and aborts there are with it, and the key under which it commits; or `_BEGINS`
         self._half: Optional[Half] = None
-        self._keys = Keys()
+        self._keys = Keys(outcomes)
         done(functions["store_open_with"](self._handle, events, opens, objects))
 
     # ---- transactions

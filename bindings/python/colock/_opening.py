@@ -31,6 +31,7 @@ class Opening(NamedTuple):
     archive: Optional[str]
     fast: bool
     drain: Optional[int]
+    outcomes: Optional[int]
     program: Optional[str]
     limit: float
 
@@ -45,6 +46,8 @@ class Opening(NamedTuple):
             raise ValueError(f"the limit is {self.limit!r} seconds")
         if self.drain is not None:
             unsigned("the seconds of the drain", self.drain, 32)
+        if self.outcomes is not None:
+            unsigned("the number of outcomes", self.outcomes, 32)
 
 
 def open_child(opening: Opening) -> PreparingChild:
@@ -85,6 +88,8 @@ def _words(program: str, opening: Opening) -> List[str]:
         words += ["--archive", opening.archive]
     if opening.drain is not None:
         words += ["--drain", str(int(opening.drain))]
+    if opening.outcomes is not None:
+        words += ["--outcomes", str(int(opening.outcomes))]
     return [*words, opening.path]
 
 

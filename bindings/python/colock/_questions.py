@@ -56,7 +56,8 @@ class Questions:
         """What became of a key: `Committed` with the replies of its attempt, `Aborted`, `Prepared` where that isn't decided, or
         `Unknown` where it is free.
 
-        It is durable, and once it is one of the first two it stays so; but a store in memory keeps the last 1,000,000 of them.
+        It is durable. At least the last 1,000,000 of the first two stay, or as many as the `outcomes` of `Store.open` or `Limits` say;
+        an older one may be `Unknown`, and its work would be done again. What is prepared stays.
         While a commit under the key is in flight in another thread it may still be `Unknown`. Raises `BadKey`, `ClosedError` or
         `ConnectionLost`.
         """
@@ -68,7 +69,8 @@ class Questions:
         """Ends the transaction that is prepared under a key, by a commit or an abort, in whichever life it was prepared.
 
         Of a store in a file it is durable after this. Asked again it is the same. `Decision.ABORT` of a key that is free keeps that it
-        is aborted: then nothing is prepared or committed under it any more.
+        is aborted: then nothing is prepared or committed under it. All of that holds as long as its `outcome` stays: later the key is
+        free.
 
         Raises `BadKey`, `KeyDecided` where it ended otherwise, `KeyUnknown` of a `Decision.COMMIT` where the key is free, `KeyTaken`,
         `ValueError` of what is no `Decision`, or inside of `transact`, `ClosedError` or `ConnectionLost`; nothing was done then. Where the program was lost

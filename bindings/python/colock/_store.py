@@ -75,6 +75,7 @@ class Store(Questions):
         archive: Optional[Path] = None,
         fast: bool = False,
         drain: Optional[int] = None,
+        outcomes: Optional[int] = None,
         program: Optional[Path] = None,
         limit: float = 60.0,
     ) -> "Store":
@@ -87,11 +88,12 @@ class Store(Questions):
         `archive` is a folder that keeps the history of each epoch, made where it isn't there; several stores may
         share it. `fast` supposes that the disk tears no write apart. `drain` is how many seconds what is open may go
         on where an epoch has to end and a yes of the checker is one-way, 5 where it isn't given: where each is strong, it goes on in
-        the next epoch. `program` is the program; else `COLOCK` of the environment names
+        the next epoch. `outcomes` is how many of the last outcomes of keys stay at least, 1,000,000 where it isn't given: older ones
+        go where an epoch ends, and their keys are `Unknown` then. `program` is the program; else `COLOCK` of the environment names
         it, or it is a file `colock` beside the package, or on PATH. `limit` is how many seconds an answer may take.
 
         Raises `CannotOpen`, `OtherObjects`, `BadName`, `NameTaken`, `TooManyObjects`, `ValueError` where `create` comes without
-        objects or `limit` isn't above 0, or `OverflowError` where `drain` isn't a number of 32 bits.
+        objects or `limit` isn't above 0, or `OverflowError` where `drain` or `outcomes` isn't a number of 32 bits.
         """
         opening = Opening(
             os.path.abspath(os.fspath(path)),
@@ -100,6 +102,7 @@ class Store(Questions):
             None if archive is None else os.path.abspath(os.fspath(archive)),
             fast,
             drain,
+            outcomes,
             None if program is None else os.fspath(program),
             limit,
         )

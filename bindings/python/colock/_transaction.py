@@ -167,10 +167,10 @@ class Transaction:
     def commit(self, *, key: Optional[str] = None) -> None:
         """Commits it. Of a store in a file it is durable after this.
 
-        A `key`, of 1 to 64 bytes of a-z, A-Z, 0-9, `_`, `:`, `-` and `.`, is of one transaction of the store at most. Where one has
-        committed under it before, of a file in whichever life, this returns too, also where this transaction has ended; where
-        it is open it is aborted. So whoever wasn't answered does the work again under the same key. Where two threads commit
-        under one key at once, one of the two is committed, and neither learns which.
+        A `key`, of 1 to 64 bytes of a-z, A-Z, 0-9, `_`, `:`, `-` and `.`, is of one transaction of the store at most, as long as its
+        `Store.outcome` stays. Where one has committed under it before, of a file in whichever life, this returns too, also where this
+        transaction has ended; where it is open it is aborted. So whoever wasn't answered does the work again under the same key. Where
+        two threads commit under one key at once, one of the two is committed, and neither learns which.
 
         Where a signal handler raises in it, `Store.committed` says what became of it, unless it is still open, and
         `Store.outcome` what became of the key. Raises `BadKey`, and `KeyAborted`, `KeyPrepared` or `KeyTaken`, after which it is open

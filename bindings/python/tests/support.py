@@ -124,9 +124,9 @@ class InMemory:
 
     is_child = False
 
-    def make(self, types, max_events=1_000_000):
+    def make(self, types, max_events=1_000_000, **limits):
         quietly()
-        store = colock.Store(types, max_events)
+        store = colock.Store.with_limits(types, colock.Limits(max_events, **limits)) if limits else colock.Store(types, max_events)
         self.addCleanup(store.close)
         return store
 

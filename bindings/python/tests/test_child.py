@@ -15,7 +15,7 @@ import support
 from support import FIVE, SOON, TWO, Run, Timed, asleep, folder_of, id_of, is_running, pid_of, program, until
 
 import colock
-from colock import Kind, Store, Type
+from colock import Kind, Store, Type, _opening
 
 COUNTER = Type.counter(1000, [1])
 # This many seconds an answer may take, where a test has none come: a program has to start in less.
@@ -120,8 +120,11 @@ class Opening(Files):
             self.open(archive=os.path.join(self.path, "folder"))
         for wrong in ({"create": True}, {"limit": 0}, {"limit": -1.0}):
             self.assertRaises(ValueError, self.open, **wrong)
-        for drain in (-1, 1 << 32):
-            self.assertRaises(OverflowError, self.open, drain=drain)
+        for number in (-1, 1 << 32):
+            self.assertRaises(OverflowError, self.open, drain=number)
+            self.assertRaises(OverflowError, self.open, outcomes=number)
+        for wrong in ({"drain": "1"}, {"outcomes": "1"}, {"outcomes": 1.0}):
+            self.assertRaises(TypeError, self.open, **wrong)
 
     def test_no_program(self):
         gone = os.path.join(self.folder, "gone")
@@ -142,9 +145,17 @@ class Opening(Files):
             with Store.open(self.path, [COUNTER], create=True) as store:
                 self.up(store)
 
+    def test_options_are_handed_over(self):
+        plain = _opening.Opening("/a.db", None, False, None, False, None, None, None, 60.0)
+        self.assertEqual(_opening._words("/bin/colock", plain), ["/bin/colock", "serve", "/a.db"])
+        words = ["/bin/colock", "serve", "--fast", "--archive", "/old", "--drain", "0", "--outcomes", "0", "/a.db"]
+        self.assertEqual(_opening._words("/bin/colock", plain._replace(archive="/old", fast=True, drain=0, outcomes=0)), words)
+        words = ["/bin/colock", "serve", "--outcomes", "4294967295", "/a.db"]
+        self.assertEqual(_opening._words("/bin/colock", plain._replace(outcomes=(1 << 32) - 1)), words)
+
     def test_options(self):
         archive = os.path.join(self.folder, "deep", "archive")
-        with self.open([COUNTER], create=True, archive=archive, fast=True, drain=0) as store:
+        with self.open([COUNTER], create=True, archive=archive, fast=True, drain=0, outcomes=0) as store:
             self.up(store)
         self.assertEqual(os.listdir(archive), [f"{id_of(self.path)}-1.history"])
 

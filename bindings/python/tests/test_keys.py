@@ -5,7 +5,6 @@ import sys
 import threading
 import typing
 import unittest
-from unittest import mock
 
 import support
 from support import LONG, PURSE, QUICK, SOON, TWO, Run, asleep, pid_of, until
@@ -65,14 +64,13 @@ class Words(unittest.TestCase):
             self.assertRaises(TypeError, _keys.check_key, key)
 
     def test_the_oldest_go_first(self):
-        keys, one = _keys.Keys(), Committed(("ok",))
-        with mock.patch.object(_keys, "MOST_KEPT", 3):
-            for key in "abcab":
-                keys.keep(key, one)
-            self.assertEqual([keys.outcome(key) for key in "abcd"], [one, one, one, Unknown()])
-            keys.keep("d", Committed(()))
-            keys.keep("d", Committed(()))
-            self.assertEqual([keys.outcome(key) for key in "abcd"], [Unknown(), one, one, Committed(())])
+        keys, one = _keys.Keys(3), Committed(("ok",))
+        for key in "abcab":
+            keys.keep(key, one)
+        self.assertEqual([keys.outcome(key) for key in "abcd"], [one, one, one, Unknown()])
+        keys.keep("d", Committed(()))
+        keys.keep("d", Committed(()))
+        self.assertEqual([keys.outcome(key) for key in "abcd"], [Unknown(), one, one, Committed(())])
 
 
 class Keys:
@@ -311,8 +309,8 @@ class Keys:
             self.assertRaises(colock.ClosedError, act)
 
     def interrupted(self, act, begin):
-        """What is done under a key, interrupted at each bytecode and then asked again: it is done once."""
-        store = self.make([COUNTER], **({"fast": True} if self.is_child else {}))
+        """What is done under a key, interrupted at each bytecode and then asked again: it is done once, though no other key stays."""
+        store = self.make([COUNTER], **({"fast": True} if self.is_child else {}), outcomes=1)
         n, raised = 1, True
         while raised:
             key, before = f"{n}", store.kept(0)
@@ -345,13 +343,12 @@ class Keys:
 
 class KeysInMemory(support.InMemory, Keys, unittest.TestCase):
     def test_the_store_keeps_the_last(self):
-        store = self.make([COUNTER])
-        with mock.patch.object(_keys, "MOST_KEPT", 2):
-            for key in "abc":
-                store.attempt([(0, "inc:1")], key=key)
-            self.assertEqual([store.outcome(key) for key in "abc"], [Unknown(), Committed(("ok",)), Committed(("ok",))])
-            # what isn't known any more is done again
-            store.attempt([(0, "inc:1")], key="a")
+        store = self.make([COUNTER], outcomes=2)
+        for key in "abc":
+            store.attempt([(0, "inc:1")], key=key)
+        self.assertEqual([store.outcome(key) for key in "abc"], [Unknown(), Committed(("ok",)), Committed(("ok",))])
+        # what isn't known any more is done again
+        store.attempt([(0, "inc:1")], key="a")
         self.assertEqual(store.kept(0), 4)
 
     def test_it_is_lost_with_the_store(self):

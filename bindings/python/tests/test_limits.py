@@ -17,7 +17,7 @@ MOST = 65_536
 
 class Ranges(unittest.TestCase):
     def test_the_standard(self):
-        self.assertEqual(dataclasses.astuple(Limits()), (1_000_000, 1_024, 256))
+        self.assertEqual(dataclasses.astuple(Limits()), (1_000_000, 1_024, 256, 1_000_000))
         self.assertEqual((Limits(9), hash(Limits(9))), (Limits(events=9), hash(Limits(events=9))))
         with self.assertRaises(dataclasses.FrozenInstanceError):
             Limits().open = 3
@@ -29,10 +29,11 @@ class Ranges(unittest.TestCase):
             (Limits(open=(1 << 32) - 1), colock.BadMax), (Limits(objects=MOST + 1), colock.BadMax),
             (Limits(objects=1), colock.TooManyObjects), (Limits(0, 0, 0), colock.TooManyObjects),  # the first that holds
             (Limits(events=1 << 64), OverflowError), (Limits(open=1 << 32), OverflowError), (Limits(objects=-1), OverflowError),
-            (Limits(open="1"), TypeError), (Limits(objects=2.0), TypeError),
+            (Limits(outcomes=-1), OverflowError), (Limits(outcomes=1 << 32), OverflowError),
+            (Limits(open="1"), TypeError), (Limits(objects=2.0), TypeError), (Limits(outcomes="1"), TypeError), (Limits(outcomes=None), TypeError),
         ]:
             self.assertRaises(error, Store.with_limits, [COUNTER] * 2, limits)
-        for limits in (Limits(2, 1, 2), Limits((1 << 32) - 1, MOST, MOST)):
+        for limits in (Limits(2, 1, 2, 0), Limits((1 << 32) - 1, MOST, MOST, (1 << 32) - 1)):
             Store.with_limits([COUNTER] * 2, limits).close()
         self.assertRaises(colock.NoObjects, Store.with_limits, [], Limits(0, 0, 0))
         with self.assertRaises(colock.BadMax) as raised:

@@ -5,7 +5,6 @@ import random
 import signal
 import threading
 import unittest
-from unittest import mock
 
 import support
 from support import LONG, PURSE, QUICK, SOON, TWO, Run, asleep, pid_of, until
@@ -13,7 +12,7 @@ from test_keys import NO_KEYS
 from test_signals import STEP, Handler
 
 import colock
-from colock import Aborted, Busy, Committed, Decision, Kind, Operation, Prepared, PreparedTransaction, Store, Type, Unknown, _keys, _outcomes
+from colock import Aborted, Busy, Committed, Decision, Kind, Operation, Prepared, PreparedTransaction, Store, Type, Unknown, _outcomes
 from colock._events import read_event
 
 COUNTER = Type.counter(1_000, [1])
@@ -361,14 +360,13 @@ class PreparingInMemory(support.InMemory, Preparing, unittest.TestCase):
         self.assertEqual(store.prepared()[0].objects, (0, 1))
 
     def test_what_is_prepared_is_never_forgotten(self):
-        store = self.make([COUNTER])
-        with mock.patch.object(_keys, "MOST_KEPT", 2):
-            self.ready(store)
-            for key in "bcd":
-                store.decide(key, ABORT)
-            self.assertEqual([store.outcome(key) for key in "abcd"], [Prepared(), Unknown(), Aborted(), Aborted()])
-            store.decide("a", COMMIT)
-            self.assertEqual([store.outcome(key) for key in "abcd"], [Committed(()), Unknown(), Unknown(), Aborted()])
+        store = self.make([COUNTER], outcomes=2)
+        self.ready(store)
+        for key in "bcd":
+            store.decide(key, ABORT)
+        self.assertEqual([store.outcome(key) for key in "abcd"], [Prepared(), Unknown(), Aborted(), Aborted()])
+        store.decide("a", COMMIT)
+        self.assertEqual([store.outcome(key) for key in "abcd"], [Committed(()), Unknown(), Unknown(), Aborted()])
 
 
 class PreparingOverAChild(support.OverChild, Preparing, unittest.TestCase):

@@ -19,7 +19,7 @@ pub enum Error {
     NameTaken(String),
     /// A transaction was given this key, which isn't 1 to 64 bytes of `a-z`, `A-Z`, `0-9`, `_`, `:`, `-` and `.`. Nothing was asked.
     BadKey(String),
-    /// The key's transaction was aborted, and nothing is done under the key any more.
+    /// The key's transaction was aborted, and nothing is done under the key.
     KeyAborted,
     /// The place where the file would keep what becomes of the key has another key. Nothing was done. Of keys that differ, two have one
     /// place by a chance of one in 2^62: another key is to be taken.
@@ -29,7 +29,7 @@ pub enum Error {
     Prepared,
     /// A transaction is [prepared](crate::SharedTransaction::prepare) under the key and isn't decided. Nothing was done.
     KeyPrepared,
-    /// A transaction committed under the key, so that none is prepared under it any more.
+    /// A transaction committed under the key, so that none is prepared under it.
     KeyCommitted,
     /// Nobody has the key, so that there is nothing to commit by a [decision](crate::SharedStore::decide).
     KeyUnknown,

@@ -43,14 +43,14 @@ pub(crate) enum Doer {
 #[derive(Clone, Debug, PartialEq, Eq)]
 #[non_exhaustive]
 pub enum KeyOutcome {
-    /// None has committed under the key, nor is prepared, nor was aborted: it is free.
+    /// The store knows of no transaction that committed under the key, is prepared or was aborted: it is free.
     Unknown,
     /// It committed.
     Committed {
         /// The replies of its calls, in their order, where an [attempt](crate::SharedStore::attempt_under) did it; else none.
         replies: Vec<String>,
     },
-    /// It was aborted, and nothing is done under the key any more.
+    /// It was aborted, and nothing is done under the key.
     Aborted,
     /// One is [prepared](crate::SharedTransaction::prepare) under it, and isn't decided.
     Prepared,

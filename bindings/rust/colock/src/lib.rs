@@ -212,8 +212,11 @@
 //! with a commit in flight. So a transaction may have a key, which the caller chooses for the work, as the number of an order. Under a
 //! key it is done once, in whatever life of the child it is asked again: by [`SharedStore::retry_under`],
 //! [`SharedTransaction::commit_under`] or, in one call, [`SharedStore::attempt_under`], which tells the replies of the first time.
-//! [`SharedStore::outcome`] says what became of a key. A file knows its keys for ever; a [`SharedStore`] in memory knows the last
-//! 1,000,000, and a [`Store`] has none.
+//! [`SharedStore::outcome`] says what became of a key.
+//!
+//! At least the last 1,000,000 outcomes stay, or as many as [`OpenOptions::outcomes`] or [`Limits`] say; a [`Store`] has no keys. Who asks
+//! again while fewer came since finds the key, as [`SharedStore::retry_under`] does, within seconds. Later it may be unknown, and the work
+//! would be done again: who asks after days looks in records of their own.
 //!
 //! ```
 //! use colock::{Attempt, Error, Keyed, KeyOutcome, Kind, Retry, SharedStore, Type};

@@ -1,4 +1,4 @@
-/// How many events, open transactions and objects a store in memory may have.
+/// How many events, open transactions and objects a store in memory may have, and how many outcomes of keys it keeps.
 ///
 /// ```
 /// use colock::{Kind, Limits, Store, Type};
@@ -19,16 +19,19 @@ pub struct Limits {
     pub open: u32,
     /// Its objects, 1 to 65,536.
     pub objects: u32,
+    /// How many of the last outcomes of keys a [`SharedStore`](crate::SharedStore) keeps; a [`Store`](crate::Store) has no keys. A key whose
+    /// outcome is older is unknown. What is prepared stays.
+    pub outcomes: u32,
 }
 
 impl Limits {
-    /// 1,000,000 events, 1,024 open transactions and 256 objects.
+    /// 1,000,000 events, 1,024 open transactions, 256 objects and 1,000,000 outcomes.
     ///
     /// ```
     /// # use colock::Limits;
-    /// assert_eq!(Limits::STANDARD, Limits { events: 1_000_000, open: 1_024, objects: 256 });
+    /// assert_eq!(Limits::STANDARD, Limits { events: 1_000_000, open: 1_024, objects: 256, outcomes: 1_000_000 });
     /// ```
-    pub const STANDARD: Limits = Limits { events: 1_000_000, open: 1_024, objects: 256 };
+    pub const STANDARD: Limits = Limits { events: 1_000_000, open: 1_024, objects: 256, outcomes: 1_000_000 };
 
     /// The standard ones with another number of events.
     pub(crate) fn of_events(events: u64) -> Limits {

@@ -18,6 +18,7 @@ use crate::error::Error;
 use crate::fork::Origin;
 use crate::limits::Limits;
 use crate::locks::locked;
+use crate::memory::keys::Keys;
 use crate::memory::store::Store;
 use crate::object::{NewObject, Object};
 use crate::objects::{Known, Objects, MOST_OBJECTS};
@@ -119,21 +120,24 @@ impl SharedStore {
     pub fn with_limits<'t>(objects: impl IntoIterator<Item = impl Into<NewObject<'t>>>, limits: Limits) -> Result<SharedStore, Error> {
         let store = Store::with_limits(objects, limits)?;
         let objects = Arc::clone(store.objects());
-        Ok(SharedStore::of(Held::Memory(store), objects, 0, None))
+        let state = State::new(Held::Memory(store), Arc::clone(&objects), 0, Keys::of(limits.outcomes));
+        Ok(SharedStore::of(state, objects, None))
     }
 
     /// A store behind a child that was greeted.
     pub(crate) fn of_remote(remote_state: RemoteState, found: Vec<Known>, life: u64, remote: Remote) -> SharedStore {
         let objects = Arc::new(Objects::of(found, MOST_OBJECTS));
-        let store = SharedStore::of(Held::Remote(remote_state), objects, life, Some(remote));
+        // the child keeps the outcomes
+        let state = State::new(Held::Remote(remote_state), Arc::clone(&objects), life, Keys::of(0));
+        let store = SharedStore::of(state, objects, Some(remote));
         if let Some(remote) = &store.remote {
             remote.link.belongs_to(&store.state);
         }
         store
     }
 
-    fn of(held: Held, objects: Arc<Objects>, life: u64, remote: Option<Remote>) -> SharedStore {
-        let state = Arc::new(Mutex::new(State::new(held, Arc::clone(&objects), life)));
+    fn of(state: State, objects: Arc<Objects>, remote: Option<Remote>) -> SharedStore {
+        let state = Arc::new(Mutex::new(state));
         SharedStore { state, objects, remote, origin: Origin::here(), in_turn: InTurn::default(), is_closed: AtomicBool::new(false) }
     }
 

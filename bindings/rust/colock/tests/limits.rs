@@ -39,10 +39,10 @@ fn limits_have_ranges() {
     ] {
         assert_eq!(refused(limits), (Some(error.clone()), Some(error)), "{limits:?}");
     }
-    for limits in [Limits { events: 2, open: 1, objects: 2 }, Limits { events: u32::MAX.into(), open: MOST, objects: MOST }] {
+    for limits in [Limits { events: 2, open: 1, objects: 2, outcomes: 0 }, Limits { events: u32::MAX.into(), open: MOST, objects: MOST, outcomes: u32::MAX }] {
         assert_eq!(refused(limits), (None, None));
     }
-    assert_eq!(Store::with_limits([&counter; 0], Limits { events: 0, open: 0, objects: 0 }).err(), Some(Error::NoObjects));
+    assert_eq!(Store::with_limits([&counter; 0], Limits { events: 0, ..limits(0, 0) }).err(), Some(Error::NoObjects));
     assert_eq!(Error::BadMax.to_string(), "a limit of the store is out of its range");
 }
 

@@ -4,7 +4,8 @@
 mod common;
 
 use colock::{
-    Attempt, Decision, Ending, Error, Event, KeyOutcome, Keyed, Kind, NotFollowed, OpenOptions, Prepared, Reply, Retry, SharedStore, TransactionId, Type,
+    Attempt, Decision, Ending, Error, Event, KeyOutcome, Keyed, Kind, NotFollowed, OpenOptions, Prepared, Reply, Retry, SharedStore, SharedTransaction,
+    TransactionId, Type,
 };
 use common::{counter, filled, in_memory, lines, program, until_asleep, Drawn, Folder, Make, LONG};
 use std::path::Path;
@@ -41,10 +42,16 @@ over_both![
     of_decisions_at_once_one_is_made,
 ];
 
-/// Counts up by a transaction that is prepared. It is dropped, and stays.
-fn prepared_under(store: &SharedStore, key: &str) -> Result<TransactionId, Error> {
+/// A transaction that has counted up.
+fn counted(store: &SharedStore) -> Result<SharedTransaction<'_>, Error> {
     let mut t = store.begin()?;
     t.expect(0, "inc:1", "ok")?;
+    Ok(t)
+}
+
+/// Counts up by a transaction that is prepared. It is dropped, and stays.
+fn prepared_under(store: &SharedStore, key: &str) -> Result<TransactionId, Error> {
+    let mut t = counted(store)?;
     t.prepare(key, 7)?;
     t.begun()
 }
@@ -61,8 +68,7 @@ fn committed() -> Result<KeyOutcome, Error> {
 fn nobody_but_a_decision_ends_it(make: Make) {
     let store = make(&[&counter()]);
     let begin = |key| {
-        let mut t = store.begin().unwrap();
-        t.expect(0, "inc:1", "ok").unwrap();
+        let mut t = counted(&store).unwrap();
         t.prepare(key, 0).unwrap();
         t
     };
@@ -82,8 +88,7 @@ fn nobody_but_a_decision_ends_it(make: Make) {
 
 fn a_decision_ends_it(make: Make) {
     let store = make(&[&counter()]);
-    let mut kept = store.begin().unwrap();
-    kept.expect(0, "inc:1", "ok").unwrap();
+    let mut kept = counted(&store).unwrap();
     kept.prepare("a", 0).unwrap();
     prepared_under(&store, "b").unwrap();
     assert_eq!((store.decide("b", Decision::Abort), store.kept(0), keys(&store)), (Ok(()), Ok(1), vec!["a".to_string()]));
@@ -104,9 +109,7 @@ fn a_decision_is_asked_again(make: Make) {
         }
     }
     // what committed by itself is as what was decided
-    let mut t = store.begin().unwrap();
-    t.expect(0, "inc:1", "ok").unwrap();
-    t.commit_under("c").unwrap();
+    counted(&store).unwrap().commit_under("c").unwrap();
     assert_eq!((store.decide("c", Decision::Commit), store.decide("c", Decision::Abort)), (Ok(()), Err(Error::Decided)));
     assert_eq!((store.kept(0), store.open_count(), store.moment().unwrap().commits), (Ok(2), Ok(0), 2));
     assert_eq!(Error::Decided.to_string(), "the transaction of this key was decided otherwise");
@@ -118,9 +121,7 @@ fn a_key_that_nobody_has_is_aborted_or_unknown(make: Make) {
     assert_eq!((store.decide("a", Decision::Abort), store.outcome("a")), (Ok(()), Ok(KeyOutcome::Aborted)));
     assert_eq!((store.decide("a", Decision::Abort), store.decide("a", Decision::Commit)), (Ok(()), Err(Error::Decided)));
     assert_eq!(prepared_under(&store, "a"), Err(Error::KeyAborted));
-    let mut t = store.begin().unwrap();
-    t.expect(0, "inc:1", "ok").unwrap();
-    assert_eq!(t.commit_under("a"), Err(Error::KeyAborted));
+    assert_eq!(counted(&store).unwrap().commit_under("a"), Err(Error::KeyAborted));
     assert_eq!(store.attempt_under("a", [(0, "inc:1")]), Err(Error::KeyAborted));
     // what is no call is told first
     let no_call = Attempt::Ended { at: 1, how: Ending::Refused(Error::NoCall) };
@@ -135,8 +136,7 @@ fn a_key_has_one_transaction(make: Make) {
     prepared_under(&store, "a").unwrap();
     prepared_under(&store, "b").unwrap();
     store.decide("b", Decision::Commit).unwrap();
-    let mut t = store.begin().unwrap();
-    t.expect(0, "inc:1", "ok").unwrap();
+    let mut t = counted(&store).unwrap();
     assert_eq!((t.prepare("a", 0), t.prepare("b", 0)), (Err(Error::KeyPrepared), Err(Error::KeyCommitted)));
     // it stays open, and may have another key
     t.expect(0, "inc:1", "ok").unwrap();
@@ -187,14 +187,12 @@ fn what_isnt_open_isnt_prepared(make: Make) {
 fn nothing_commits_under_its_key(make: Make) {
     let store = make(&[&counter()]);
     prepared_under(&store, "a").unwrap();
-    let mut t = store.begin().unwrap();
-    t.expect(0, "inc:1", "ok").unwrap();
+    let t = counted(&store).unwrap();
     assert_eq!((t.commit_under("a"), store.attempt_under("a", [(0, "inc:1")])), (Err(Error::KeyPrepared), Err(Error::KeyPrepared)));
     let worked = store.retry_under("a", &Retry::default(), |_| -> Result<(), Error> { panic!("it isn't to be done") });
     assert_eq!((worked, store.kept(0), store.open_count()), (Err(Error::KeyPrepared), Ok(1), Ok(1)));
     store.decide("a", Decision::Commit).unwrap();
-    let mut t = store.begin().unwrap();
-    t.expect(0, "inc:1", "ok").unwrap();
+    let t = counted(&store).unwrap();
     assert_eq!((t.commit_under("a"), store.attempt_under("a", [(0, "inc:1")])), (Ok(()), Err(Error::OtherCalls)));
     let known = store.retry_under("a", &Retry::default(), |_| Ok::<(), Error>(()));
     assert_eq!((known, store.kept(0), store.open_count()), (Ok(Keyed::Known { replies: vec![] }), Ok(1), Ok(0)));
@@ -343,10 +341,8 @@ fn of_decisions_at_once_one_is_made(make: Make) {
     for round in 0..ROUNDS {
         let key = format!("round:{round}");
         let kept = store.kept(0).unwrap();
-        let mut t = store.begin().unwrap();
-        t.expect(0, "inc:1", "ok").unwrap();
         // one of them prepares it, at the same time or too late
-        let prepared = Mutex::new(Some(t));
+        let prepared = Mutex::new(Some(counted(&store).unwrap()));
         let told = at_once(|thread| {
             let mine = prepared.lock().unwrap().take();
             let decision = if thread % 2 == 0 { Decision::Commit } else { Decision::Abort };

@@ -8,9 +8,6 @@ use crate::transaction_id::TransactionId;
 use std::collections::{BTreeMap, HashMap, VecDeque};
 use std::sync::Arc;
 
-/// How many outcomes are kept.
-const MOST_KEPT: usize = 1_000_000;
-
 /// What is known of a key.
 #[derive(Debug)]
 enum Known {
@@ -30,7 +27,8 @@ pub(crate) struct Preparation {
     pub(crate) objects: Vec<u32>,
 }
 
-/// The outcomes of keys, and the transactions that are prepared. There are only so many outcomes: the oldest go first.
+/// The outcomes of keys, and the transactions that are prepared. There are only so many outcomes: the oldest go first. In a file at least
+/// as many stay; and here no more, so that the room for them has an end.
 #[derive(Debug)]
 pub(crate) struct Keys {
     known: HashMap<Arc<str>, Known>,
@@ -42,15 +40,10 @@ pub(crate) struct Keys {
     next_place: u64,
 }
 
-impl Default for Keys {
-    fn default() -> Keys {
-        Keys::of(MOST_KEPT)
-    }
-}
-
 impl Keys {
     /// None yet, of which so many outcomes are kept.
-    fn of(most: usize) -> Keys {
+    pub(crate) fn of(most: u32) -> Keys {
+        let most = usize::try_from(most).unwrap_or(usize::MAX);
         Keys { known: HashMap::new(), ended: VecDeque::new(), most, prepared: BTreeMap::new(), next_place: 0 }
     }
 
@@ -80,15 +73,16 @@ impl Keys {
         self.keep_end(key, Known::Committed(replies.into()));
     }
 
+    /// The transaction of a key that isn't known, or is prepared, has ended so. Where there is one too many now, the oldest goes.
     fn keep_end(&mut self, key: Key<'_>, end: Known) {
-        if self.ended.len() >= self.most {
+        let key: Arc<str> = Arc::from(key.as_str());
+        self.ended.push_back(Arc::clone(&key));
+        self.known.insert(key, end);
+        if self.ended.len() > self.most {
             if let Some(oldest) = self.ended.pop_front() {
                 self.known.remove(&oldest);
             }
         }
-        let key: Arc<str> = Arc::from(key.as_str());
-        self.ended.push_back(Arc::clone(&key));
-        self.known.insert(key, end);
     }
 
     // ---- what is prepared
@@ -182,13 +176,19 @@ mod tests {
     fn the_oldest_go_first() {
         let names = names();
         let all = keys_of(&names);
-        let mut keys = Keys::of(3);
-        for (at, key) in all.iter().enumerate() {
-            assert_eq!(keys.replies(*key), Ok(None));
-            keys.keep(*key, at.to_string());
-            let kept = all.iter().filter(|key| keys.replies(**key) != Ok(None)).count();
-            assert_eq!((kept, keys.known.len()), (3.min(at + 1), keys.ended.len()));
-            assert_eq!(keys.replies(*key), Ok(Some(at.to_string().as_str())));
+        for most in [0, 1, 3, 9] {
+            let mut keys = Keys::of(most);
+            for (at, key) in all.iter().enumerate() {
+                assert_eq!(keys.replies(*key), Ok(None));
+                keys.keep(*key, at.to_string());
+                let first = (at + 1).saturating_sub(most as usize);
+                for (other, key) in all.iter().enumerate() {
+                    let replies = other.to_string();
+                    let is_kept = (first..=at).contains(&other);
+                    assert_eq!(keys.replies(*key), Ok(is_kept.then_some(replies.as_str())), "{other} of {at}");
+                }
+                assert_eq!((keys.known.len(), keys.ended.len()), (at + 1 - first, at + 1 - first));
+            }
         }
     }
 
@@ -211,13 +211,12 @@ mod tests {
     struct Model {
         prepared: Vec<(usize, u64)>,
         ends: Vec<(usize, Decision)>,
+        kept: usize,
     }
-
-    const KEPT: usize = 3;
 
     impl Model {
         fn end(&self, key: usize) -> Option<Decision> {
-            self.ends.iter().rev().take(KEPT).find(|(other, _)| *other == key).map(|(_, end)| *end)
+            self.ends.iter().rev().take(self.kept).find(|(other, _)| *other == key).map(|(_, end)| *end)
         }
 
         fn holder(&self, key: usize) -> Option<u64> {
@@ -271,8 +270,9 @@ mod tests {
     fn the_gate_is_as_its_model() {
         let names = names();
         let all = keys_of(&names);
-        for seed in 0..20 {
-            let (mut keys, mut model, mut state) = (Keys::of(KEPT), Model::default(), seed);
+        for seed in 0..40 {
+            let kept = [0, 1, 3, 20][seed as usize % 4];
+            let (mut keys, mut model, mut state) = (Keys::of(kept), Model { kept: kept as usize, ..Model::default() }, seed);
             for number in 0..150 {
                 let at = drawn(&mut state, 10) as usize;
                 let decision = [Decision::Commit, Decision::Abort][drawn(&mut state, 2) as usize];

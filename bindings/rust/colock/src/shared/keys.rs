@@ -22,7 +22,8 @@ impl SharedStore {
     /// A key is 1 to 64 bytes of `a-z`, `A-Z`, `0-9`, `_`, `:`, `-` and `.`, which the caller chose for this work. Where a call ends it
     /// nothing is done, and the key is free. An attempt of no calls is a transaction that does nothing, which commits under the key.
     ///
-    /// A file knows its keys for ever. A store in memory knows the last 1,000,000 whose work ended.
+    /// It is asked again while fewer outcomes came since than [stay at least](crate::OpenOptions::outcomes). Later the key may be unknown,
+    /// and the work is done again.
     ///
     /// ```
     /// use colock::{Attempt, Error, Kind, SharedStore, Type};
@@ -87,8 +88,9 @@ impl SharedStore {
         }
     }
 
-    /// What became of the transaction of this key, of whatever life or epoch. In a file what it says is durable. A store in memory
-    /// knows the last 1,000,000 keys under which something ended, and those under which something is prepared.
+    /// What became of the transaction of this key, of whatever life or epoch. In a file what it says is durable. At least the last
+    /// 1,000,000 outcomes stay, or as many as [`OpenOptions::outcomes`](crate::OpenOptions::outcomes) or [`Limits`](crate::Limits) say, and
+    /// what is prepared. An older key may be [`KeyOutcome::Unknown`].
     ///
     /// It doesn't wait for what is asked under the key at the same moment.
     ///

@@ -76,7 +76,7 @@ impl SharedStore {
     /// `Ok`.
     ///
     /// By [`Decision::Abort`] of a key that nobody has it is kept that it is aborted: nothing is prepared or done under it later, by
-    /// whoever was on the way.
+    /// whoever was on the way. All of that holds as long as the [outcome](SharedStore::outcome) stays: later nobody has the key.
     ///
     /// ```
     /// use colock::{Decision, Error, KeyOutcome, Kind, SharedStore, Type};

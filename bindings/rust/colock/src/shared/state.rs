@@ -68,8 +68,8 @@ pub(crate) struct State {
 }
 
 impl State {
-    pub(crate) fn new(held: Held, objects: Arc<Objects>, life: u64) -> State {
-        State { held, stats: Stats::new(objects.len()), waiters: Waiters::new(objects), life, ends: 0, keys: Keys::default() }
+    pub(crate) fn new(held: Held, objects: Arc<Objects>, life: u64, keys: Keys) -> State {
+        State { held, stats: Stats::new(objects.len()), waiters: Waiters::new(objects), life, ends: 0, keys }
     }
 
     /// A life of the store in memory has ended: it has begun anew.

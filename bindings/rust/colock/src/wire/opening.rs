@@ -51,8 +51,8 @@ const VERSION: &str = "5";
 /// use colock::OpenOptions;
 /// use std::time::Duration;
 ///
-/// let options = OpenOptions::new().archive("old").fast(true).drain(1).program("/usr/bin/colock").limit(Duration::from_secs(10));
-/// let store = options.open("seats.db")?;
+/// let options = OpenOptions::new().archive("old").fast(true).drain(1).outcomes(10_000);
+/// let store = options.program("/usr/bin/colock").limit(Duration::from_secs(10)).open("seats.db")?;
 /// # Ok::<(), colock::Error>(())
 /// ```
 #[derive(Clone, Debug)]
@@ -62,6 +62,7 @@ pub struct OpenOptions<'t> {
     archive: Option<PathBuf>,
     is_fast: bool,
     drain: Option<u32>,
+    outcomes: Option<u32>,
     program: Option<PathBuf>,
     limit: Duration,
 }
@@ -75,7 +76,8 @@ impl Default for OpenOptions<'_> {
 impl<'t> OpenOptions<'t> {
     /// A file that has to be there, with any objects; a limit of 60 seconds.
     pub fn new() -> OpenOptions<'t> {
-        OpenOptions { objects: Vec::new(), creates: false, archive: None, is_fast: false, drain: None, program: None, limit: Duration::from_secs(60) }
+        let limit = Duration::from_secs(60);
+        OpenOptions { objects: Vec::new(), creates: false, archive: None, is_fast: false, drain: None, outcomes: None, program: None, limit }
     }
 
     /// The objects, by their types, or by names and types: those of a new file, and those that a file has to have, with these
@@ -108,6 +110,13 @@ impl<'t> OpenOptions<'t> {
     /// each yes is strong, all that is open goes on in the next epoch.
     pub fn drain(mut self, seconds: u32) -> OpenOptions<'t> {
         self.drain = Some(seconds);
+        self
+    }
+
+    /// How many of the last outcomes of keys stay at least, as long as this client has the file; 1,000,000 where it isn't said. Where an
+    /// epoch ends older ones go: their keys are [unknown](crate::KeyOutcome::Unknown) then, and free. What is prepared stays.
+    pub fn outcomes(mut self, least: u32) -> OpenOptions<'t> {
+        self.outcomes = Some(least);
         self
     }
 
@@ -157,21 +166,28 @@ impl<'t> OpenOptions<'t> {
         if self.creates && is_missing() {
             creating::create(&program, &path, &given, self.limit)?;
         }
-        let mut command = Command::new(&program);
-        command.arg("serve").args(self.is_fast.then_some("--fast"));
-        if let Some(folder) = &archive {
-            command.arg("--archive").arg(folder);
-        }
-        if let Some(seconds) = self.drain {
-            command.arg("--drain").arg(seconds.to_string());
-        }
-        command.arg(&path);
-        let (link, greeting) = Link::start(command, self.limit).map_err(Error::CannotOpen)?;
+        let (link, greeting) = Link::start(self.command(&program, archive.as_deref(), &path), self.limit).map_err(Error::CannotOpen)?;
         let opened = greeted(&link, &greeting, &path, archive, &given, program);
         opened.map_err(|error| {
             link.lose("it wasn't opened");
             as_not_opened(error)
         })
+    }
+
+    /// What starts the child: the program, by these paths.
+    fn command(&self, program: &Path, archive: Option<&Path>, path: &Path) -> Command {
+        let mut command = Command::new(program);
+        command.arg("serve").args(self.is_fast.then_some("--fast"));
+        if let Some(folder) = archive {
+            command.arg("--archive").arg(folder);
+        }
+        for (word, number) in [("--drain", self.drain), ("--outcomes", self.outcomes)] {
+            if let Some(number) = number {
+                command.arg(word).arg(number.to_string());
+            }
+        }
+        command.arg(path);
+        command
     }
 }
 
@@ -317,10 +333,26 @@ mod tests {
     use super::{life_of, object_of, texts_of, ObjectLine};
     use crate::object::NewObject;
     use crate::objects::Objects;
-    use crate::{Error, Kind, Type};
+    use crate::{Error, Kind, OpenOptions, Type};
+    use std::path::Path;
 
     fn are_same<'t>(given: impl IntoIterator<Item = impl Into<NewObject<'t>>>, found: impl IntoIterator<Item = impl Into<NewObject<'t>>>) -> bool {
         super::are_same(&Objects::none().checked(given).unwrap(), &Objects::none().checked(found).unwrap())
+    }
+
+    /// What the program is given where a store is opened.
+    fn words_of(options: &OpenOptions<'_>, archive: Option<&str>) -> Vec<String> {
+        let command = options.command(Path::new("/bin/colock"), archive.map(Path::new), Path::new("/a.db"));
+        assert_eq!(command.get_program(), "/bin/colock");
+        command.get_args().map(|word| word.to_str().unwrap().to_string()).collect()
+    }
+
+    #[test]
+    fn options_are_handed_over() {
+        assert_eq!(words_of(&OpenOptions::new(), None), ["serve", "/a.db"]);
+        let (fast, slow) = (OpenOptions::new().fast(true).drain(0).outcomes(0), OpenOptions::new().fast(false).outcomes(u32::MAX));
+        assert_eq!(words_of(&fast, Some("/old")), ["serve", "--fast", "--archive", "/old", "--drain", "0", "--outcomes", "0", "/a.db"]);
+        assert_eq!(words_of(&slow, None), ["serve", "--outcomes", "4294967295", "/a.db"]);
     }
 
     #[test]
