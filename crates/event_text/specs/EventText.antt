@@ -1,9 +1,10 @@
 -- The lines of events as a history of worker 0 has them: a keyword and numbers with one space between two, and a LF; and the events that such lines say.
-use Rattle.std.specs.Prelude.{◌≡◌, ℕ, zero, suc, ◌+◌, ◌-◌, ◌==◌, List, [], ◌∷◌, ◌++◌, map, get_or, slice_get, Option, Some, None, codes, if◌then◌else◌}
+use Rattle.std.specs.Prelude.{◌≡◌, ℕ, zero, suc, ◌+◌, ◌-◌, ◌^◌, ◌<◌, ◌==◌, List, [], ◌∷◌, ◌++◌, map, get_or, slice_get, Option, Some, None, codes, if◌then◌else◌}
 use Rattle.std.specs.Int.Digits.{digits_of, number_from_digits}
-use Rattle.std.specs.List.{flat_map, join_with_byte, slice_split}
+use Rattle.std.specs.List.{AllByRecursion, flat_map, join_with_byte, slice_split}
 use Rattle.std.specs.Str.{bytes_eq}
 use Rattle.type_table.specs.Operation.{operation_at, place_of, amount_of}
+use Rattle.object_trait.specs.declared.event.Event.{Event}
 use Rattle.object_trait.specs.declared.event.EventKind.{EventKind}
 use Rattle.object_trait.specs.declared.event.EventKind.TheVariants as kind
 use Rattle.event_text.specs.declared.event_word.EventWord.{EventWord}
@@ -80,6 +81,13 @@ event_of_numbers (Some word.Abort) ns = kind.Abort (get_or ns 0 0)
 event_of_numbers (Some word.Rollback) ns = kind.Rollback (get_or ns 0 0) (get_or ns 1 0)
 event_of_numbers None ns = kind.Begin 0
 
+-- each number of an event is of 32 bits
+abbrev pub IsShort : EventKind → Type 0
+IsShort e = AllByRecursion (λ n. n < 2 ^ 32) (event_numbers e)
+
+abbrev pub AreShort : List EventKind → Type 0
+AreShort events = AllByRecursion IsShort events
+
 -- ---- lines
 
 -- a keyword and numbers
@@ -108,6 +116,12 @@ events_of_lines (line ∷ another ∷ lines) = event_said (slice_split (λ b. b 
 
 unfoldable pub events_said : List ℕ → List EventKind
 events_said text = events_of_lines (slice_split (λ b. b == 10) text)
+
+-- ---- the worker
+
+-- what happened, as events of worker 0, which makes all events in the file of a store
+abbrev pub events_of_kinds : List EventKind → List Event
+events_of_kinds happened = map (λ k. let e : Event = record { worker = 0; kind = k } in e) happened
 
 -- ---- statement of a law
 

@@ -1,7 +1,7 @@
 //! Events that are gathered as lines.
 
 ghost use Rattle.std.specs.Prelude.{◌≡◌, ◌↔◌, ◌++◌, ◌∷◌, [], IsTrue, OnErr, OnOk};
-ghost use Rattle.event_text.specs.EventText.{event_lines};
+ghost use Rattle.event_text.specs.EventText.{AreShort, event_lines};
 
 use crate::write::push_event;
 use object_trait::EventKind;
@@ -17,13 +17,13 @@ pub struct EventGroup {
 impl Model for EventGroup {
     ghost use Rattle.std.specs.Prelude.{◌≡◌, List};
     ghost use Rattle.object_trait.specs.declared.event.EventKind.{EventKind};
-    ghost use Rattle.event_text.specs.EventText.{event_lines, events_said};
+    ghost use Rattle.event_text.specs.EventText.{AreShort, event_lines, events_said};
 
     ghost Value = { List EventKind };
 
     ghost view = { λ g. events_said g.lines.items };
 
-    ghost invariant = { λ g. g.lines.items ≡ event_lines (events_said g.lines.items) };
+    ghost invariant = { λ g. (g.lines.items ≡ event_lines (events_said g.lines.items)) × AreShort (events_said g.lines.items) };
 }
 
 impl EventGroup {
@@ -64,7 +64,8 @@ impl EventGroup {
 
     /// The lines of the events.
     pub fn as_bytes(&self) -> &[u8]
-        ensures { result.now ≡ event_lines self.now }
+        ensures lines { result.now ≡ event_lines self.now }
+        ensures short { AreShort self.now }
     {
         &self.lines
     }

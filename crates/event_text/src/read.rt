@@ -1,7 +1,7 @@
 //! Lines of events that are read.
 
 ghost use Rattle.std.specs.Prelude.{◌≡◌, ◌<◌, length, IfOk, IfSome};
-ghost use Rattle.event_text.specs.EventText.{event_lines};
+ghost use Rattle.event_text.specs.EventText.{AreShort, event_lines};
 
 use crate::event_word::EventWord;
 use crate::write::push_events;
@@ -16,7 +16,8 @@ use type_table::Operation;
 ///
 /// Memory was refused.
 pub fn events_in(alloc: Global, text: &[u8]) -> Result<Option<Vec<EventKind>>, AllocError>
-    ensures { IfOk result (λ found. IfSome found (λ events. text.now ≡ event_lines events.items)) }
+    ensures lines { IfOk result (λ found. IfSome found (λ events. text.now ≡ event_lines events.items)) }
+    ensures short { IfOk result (λ found. IfSome found (λ events. AreShort events.items)) }
 {
     let Some(events) = parsed(alloc, text)? else {
         return Ok(None);

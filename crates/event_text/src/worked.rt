@@ -3,7 +3,7 @@
 
 ghost use Rattle.std.specs.Prelude.{◌≡◌, ◌+◌, ◌*◌, [], ◌∷◌, codes};
 ghost use Rattle.object_trait.specs.declared.event.EventKind.TheVariants.{Begin, Busy, Commit, Op, Rollback};
-ghost use Rattle.event_text.specs.EventText.{line_in_row, events_said, numeral, number_said};
+ghost use Rattle.event_text.specs.EventText.{IsShort, events_of_kinds, events_said, line_in_row, numeral, number_said};
 
 /// The lines of a transaction that takes 250 of the number at object 3: its operation is at place 1.
 pub fn lines_of_a_transaction()
@@ -25,4 +25,11 @@ pub fn digits_say_a_number()
     ensures zero { numeral 0 ≡ codes "0" }
     ensures ten { numeral 10 ≡ codes "10" }
     ensures said { number_said (codes "4294967296") ≡ 4294967296 }
+{}
+
+/// A number of an event has 32 bits, and the next greater one hasn't. Worker 0 makes each event.
+pub fn numbers_of_32_bits()
+    ensures short { IsShort (Op (1 + 256 * 4294967296) 4294967295 3) }
+    ensures long { IsShort (Rollback 7 4294967296) → ⊥ }
+    ensures worker { events_of_kinds (Commit 7 ∷ []) ≡ record { worker = 0; kind = Commit 7 } ∷ [] }
 {}

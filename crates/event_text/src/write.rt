@@ -1,7 +1,8 @@
 //! Events as lines.
 
-ghost use Rattle.std.specs.Prelude.{◌≡◌, ◌≤◌, ◌++◌, ◌∷◌, length, OnErr, OnOk};
-ghost use Rattle.event_text.specs.EventText.{amount_numbers, line_in_row, event_lines, event_word, numerals_line};
+ghost use Rattle.std.specs.Prelude.{◌≡◌, ◌<◌, ◌≤◌, ◌^◌, ◌++◌, ◌∷◌, length, OnErr, OnOk};
+ghost use Rattle.std.specs.List.{AllByRecursion};
+ghost use Rattle.event_text.specs.EventText.{AreShort, IsShort, amount_numbers, line_in_row, event_lines, event_word, numerals_line};
 ghost use Rattle.event_text.specs.declared.event_word.EventWord.TheVariants.{Op};
 ghost use Rattle.type_table.specs.Operation.{amount_of, place_of};
 
@@ -17,7 +18,8 @@ use type_table::Operation;
 ///
 /// Memory was refused: the text has a beginning of the lines then.
 pub fn push_events(text: &mut Vec<u8>, events: &[EventKind]) -> Result<(), AllocError>
-    ensures { OnOk result (text.new.items ≡ text.old.items ++ event_lines events.now) }
+    ensures lines { OnOk result (text.new.items ≡ text.old.items ++ event_lines events.now) }
+    ensures short { OnOk result (AreShort events.now) }
 {
     for event in events {
         push_event(text, *event)?;
@@ -33,6 +35,7 @@ pub fn push_events(text: &mut Vec<u8>, events: &[EventKind]) -> Result<(), Alloc
 pub fn push_event(text: &mut Vec<u8>, event: EventKind) -> Result<(), AllocError>
     ensures line { OnOk result (text.new.items ≡ text.old.items ++ line_in_row event) }
     ensures refused { OnErr result (text.new.items ≡ text.old.items) }
+    ensures short { IsShort event }
 {
     match event {
         EventKind::Begin { t } => push_line(text, EventWord::Begin, &[0, t]),
@@ -51,6 +54,7 @@ pub fn push_event(text: &mut Vec<u8>, event: EventKind) -> Result<(), AllocError
 fn push_operation(text: &mut Vec<u8>, t: u32, x: u32, k: Operation) -> Result<(), AllocError>
     ensures refused { OnErr result (text.new.items ≡ text.old.items) }
     ensures line { OnOk result (text.new.items ≡ text.old.items ++ numerals_line (event_word Op) (0 ∷ t ∷ x ∷ place_of k ∷ amount_numbers (amount_of k))) }
+    ensures short { AllByRecursion (λ n. n < 2 ^ 32) (t ∷ x ∷ place_of k ∷ amount_numbers (amount_of k)) }
 {
     let place = u32::from(k.place());
     match k.amount() {
