@@ -5,6 +5,7 @@ use Rattle.type_table.specs.Table.{Table}
 use Rattle.table_checker.specs.Checked.{Checked}
 use Rattle.object_trait.specs.declared.event.Event.{Event}
 use Rattle.object_types.specs.Types.{value_of}
+use Rattle.event_text.specs.EventText.{events_of_kinds}
 use Rattle.history_judge.specs.Audit as history
 use Rattle.history_audit.specs.Text.{audit_text}
 use Rattle.history_judge.specs.declared.outcome.Audit.{Audit}
@@ -16,7 +17,6 @@ use Rattle.journal.specs.Contents.{Contents}
 use Rattle.journal.specs.Outcomes.{Outcomes}
 use Rattle.journal.specs.Said.{contents, contents_beside}
 use Rattle.durable_store.specs.Types.{HasTypes}
-use Rattle.durable_store.specs.Durable.{events_of_kinds}
 use Rattle.command_files.specs.declared.status.Verdict.{Verdict}
 use Rattle.command_files.specs.declared.status.Verdict.TheVariants.{Yes, No}
 use Rattle.store_commands.specs.StoreAudit.{table_of_checked}

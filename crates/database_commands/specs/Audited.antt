@@ -3,6 +3,7 @@ use Rattle.std.specs.Prelude.{◌≡◌, ◌≢◌, ⊤, ℕ, List, map, Option,
 use Rattle.sqlite_trees.specs.Tree.{Trees}
 use Rattle.type_table.specs.Table.{Table}
 use Rattle.table_checker.specs.Checked.{Checked}
+use Rattle.event_text.specs.EventText.{events_of_kinds}
 use Rattle.history_judge.specs.Audit as history
 use Rattle.history_audit.specs.Text.{audit_text}
 use Rattle.history_judge.specs.declared.outcome.Audit.{Audit}
@@ -10,7 +11,6 @@ use Rattle.history_judge.specs.declared.outcome.AuditFault.{AuditFault}
 use Rattle.history_judge.specs.declared.outcome.AuditFault.TheVariants.{BadEvent, IllegalOp, NoMemory}
 use Rattle.journal.specs.Contents.{Contents, contents_of}
 use Rattle.durable_store.specs.Types.{HasTypes}
-use Rattle.durable_store.specs.Durable.{events_of_kinds}
 use Rattle.command_files.specs.Answers.{Answers}
 use Rattle.command_files.specs.declared.status.Verdict.{Verdict}
 use Rattle.command_files.specs.declared.status.Verdict.TheVariants.{Yes, No}

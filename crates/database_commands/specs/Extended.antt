@@ -6,11 +6,12 @@ use Rattle.declared_types.specs.declared.declared_type.Declaration.{Declaration}
 use Rattle.declared_text.specs.Canonical.{canonical_text}
 use Rattle.store_laws.specs.Stored.{Stored}
 use Rattle.store.specs.Ends.{closing_but}
+use Rattle.event_text.specs.EventText.{events_of_kinds}
 use Rattle.journal.specs.declared.prepared_row.Prepared.{Prepared}
 use Rattle.durable_store.specs.Held.{prepared_numbers}
 use Rattle.store_text.specs.declared.line.ObjectLine.{ObjectLine}
 use Rattle.journal.specs.Contents.{Contents, contents_of}
-use Rattle.durable_store.specs.Durable.{events_of_kinds, prepared_in}
+use Rattle.durable_store.specs.Durable.{prepared_in}
 use Rattle.durable_store.specs.Growth.{Grows}
 use Rattle.durable_store.specs.Recovered.{recovered}
 use Rattle.durable_store.specs.Types.{HasTypes}

@@ -1,9 +1,9 @@
 -- What `history DATABASE` answers.
 use Rattle.std.specs.Prelude.{◌≡◌, ℕ, List, Option, IfSome}
 use Rattle.sqlite_trees.specs.Tree.{Trees}
+use Rattle.event_text.specs.EventText.{events_of_kinds}
 use Rattle.history_text.specs.Canonical.{canonical_text}
 use Rattle.journal.specs.Contents.{Contents, contents_of}
-use Rattle.durable_store.specs.Durable.{events_of_kinds}
 use Rattle.command_files.specs.Answers.{Answers}
 use Rattle.command_files.specs.declared.status.Verdict.TheVariants.{Yes, No}
 

@@ -2,9 +2,9 @@
 
 ghost use Rattle.std.specs.Prelude.{◌≡◌, ⊤, None, IfOk, IfErr, IfSome, IsTrue};
 ghost use Rattle.sqlite_trees.specs.View.{IsClean};
+ghost use Rattle.event_text.specs.EventText.{events_of_kinds};
 ghost use Rattle.journal.specs.Contents.{contents_of};
 ghost use Rattle.journal.specs.Said.{contents};
-ghost use Rattle.durable_store.specs.Durable.{events_of_kinds};
 ghost use Rattle.command_files.specs.Answers.{Comes, IsEarlyFault};
 ghost use Rattle.command_files.specs.declared.fault.Fault.TheVariants.{NoMemory};
 ghost use Rattle.database_commands.specs.History.{TellsHistory, text_of_epoch};

@@ -14,10 +14,11 @@ use Rattle.carried_orders.specs.Orders.{AreStrong}
 use Rattle.store.specs.Ends.{closing_but, is_other}
 use Rattle.store.specs.Retraces.{ClosingIsTraced, IsTracedHistory}
 use Rattle.store_laws.specs.Stored.{Stored}
+use Rattle.event_text.specs.EventText.{events_of_kinds}
 use Rattle.journal.specs.Journal.{written}
 use Rattle.durable_store.specs.declared.durable.Durable.{Durable}
 use Rattle.durable_store.specs.Types.{HasTypes}
-use Rattle.durable_store.specs.Durable.{IsBehind, IsDurable, events_of_kinds, kinds}
+use Rattle.durable_store.specs.Durable.{IsBehind, IsDurable, kinds}
 
 -- each transaction was begun by worker 0
 pub began-zero : (happened : List EventKind) (t : ℕ) → slice_index_or (beginners (events_of_kinds happened)) t 0 ≡ 0

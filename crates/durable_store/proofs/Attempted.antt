@@ -13,8 +13,9 @@ use Rattle.attempts.specs.declared.outcome.Attempt.{Attempt}
 use Rattle.attempts.specs.declared.outcome.Attempt.TheVariants.{Done, Ended, NotBegun}
 use Rattle.attempts.specs.Commands.{CallAt, attempt_commands, is_memory_refused_at, commands_replayed}
 use Rattle.attempts.specs.Answers.{AttemptAnswers, operation_events}
+use Rattle.event_text.specs.EventText.{events_of_kinds}
 use Rattle.durable_store.specs.declared.durable.Durable.{Durable}
-use Rattle.durable_store.specs.Durable.{IsBehind, IsDurable, events_of_kinds}
+use Rattle.durable_store.specs.Durable.{IsBehind, IsDurable}
 use Rattle.durable_store.proofs.Stepped.{behind-more}
 
 -- the store with this history

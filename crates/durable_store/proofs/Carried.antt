@@ -19,12 +19,13 @@ use Rattle.store.specs.Retraces.{IsTracedHistory}
 use Rattle.store_laws.specs.Stored.{Stored, types_of}
 use Rattle.objects.specs.Object.{meaning_of}
 use Rattle.objects.specs.declared.object.Object.{Object}
+use Rattle.event_text.specs.EventText.{events_of_kinds}
 use Rattle.journal.specs.declared.prepared_row.Prepared.{Prepared}
 use Rattle.journal.specs.Contents.{Contents, from_states}
 use Rattle.journal.specs.Journal.{Clean, written}
 use Rattle.durable_store.specs.declared.durable.Durable.{Durable}
 use Rattle.durable_store.specs.Types.{HasTypes}
-use Rattle.durable_store.specs.Durable.{IsDurable, events_of_kinds, kinds}
+use Rattle.durable_store.specs.Durable.{IsDurable, kinds}
 use Rattle.durable_store.specs.Epochs.{IsAhead, LeavesAhead, LeavesEpoch, firsts}
 use Rattle.durable_store.specs.Held.{ArePrepared, moved_among}
 use Rattle.durable_store.specs.NextStore.{BeginsNext, GoOver}

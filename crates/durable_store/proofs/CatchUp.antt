@@ -5,6 +5,7 @@ use Rattle.std.proofs.lemmas.List.{map-append, length-drop, drop-drop, take_all,
 use Rattle.sqlite_trees.specs.Tree.{Trees}
 use Rattle.sqlite_trees.specs.declared.store.Store.{Ghosts}
 use Rattle.object_trait.specs.declared.event.Event.{Event}
+use Rattle.event_text.specs.EventText.{events_of_kinds}
 use Rattle.journal.specs.Contents.{Contents}
 use Rattle.journal.specs.Journal.{Clean, IsJournal, IsSettled, durable, may_leave, written}
 use Rattle.store_laws.specs.Stored.{Stored}
@@ -13,7 +14,7 @@ use Rattle.durable_store.specs.declared.durable.Durable.{Durable}
 use Rattle.durable_store.specs.Types.{HasTypes}
 use Rattle.durable_store.specs.Names.{IndexesNames}
 use Rattle.durable_store.specs.Held.{ArePrepared}
-use Rattle.durable_store.specs.Durable.{IsBehind, IsDurable, events_of_kinds, kinds, with_all}
+use Rattle.durable_store.specs.Durable.{IsBehind, IsDurable, kinds, with_all}
 use Rattle.durable_store.proofs.GoneOver.{prepared-alike}
 
 -- what is remembered ends with the events after the first n

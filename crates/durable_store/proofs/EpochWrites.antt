@@ -4,6 +4,7 @@ use Rattle.sqlite_trees.specs.declared.store.Store.{Ghosts}
 use Rattle.sqlite_trees.specs.Tree.{Trees}
 use Rattle.object_trait.specs.declared.event.Event.{Event}
 use Rattle.store_text.specs.declared.line.ObjectLine.{ObjectLine}
+use Rattle.event_text.specs.EventText.{events_of_kinds}
 use Rattle.journal.specs.declared.header.Header.{Header}
 use Rattle.journal.specs.declared.prepared_row.Prepared.{Prepared}
 use Rattle.journal.specs.declared.state_row.FirstState.{FirstState}
@@ -15,7 +16,7 @@ use Rattle.store.specs.Retraces.{IsTracedHistory}
 use Rattle.durable_store.specs.declared.durable.Durable.{Durable}
 use Rattle.durable_store.specs.Types.{HasTypes}
 use Rattle.durable_store.specs.Names.{IndexesNames}
-use Rattle.durable_store.specs.Durable.{IsBehind, events_of_kinds, kinds, with_all}
+use Rattle.durable_store.specs.Durable.{IsBehind, kinds, with_all}
 use Rattle.durable_store.specs.Epochs.{IsAhead, firsts, with_all_prepared}
 use Rattle.durable_store.specs.FileLimits.{file_limits}
 use Rattle.durable_store.specs.GrowthParts.{IsAheadBy}

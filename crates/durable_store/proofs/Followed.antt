@@ -15,7 +15,8 @@ use Rattle.store_laws.specs.Stored.{Stored}
 use Rattle.store.specs.Follows.{IsMade, MakesEvent, with_event}
 use Rattle.store.specs.Replays.{with_events}
 use Rattle.store.specs.Retraces.{AreRetraced, IsRetraced, MayRetrace}
-use Rattle.durable_store.specs.Durable.{event_of_kind, events_of_kinds}
+use Rattle.event_text.specs.EventText.{events_of_kinds}
+use Rattle.durable_store.specs.Durable.{event_of_kind}
 
 -- an event is made by a store with the same types, the same history and the same limit, however much either remembers
 pub made-alike : (s z : Stored) (e : Event) → s.types ≡ z.types → s.history ≡ z.history → s.limits ≡ z.limits → IsMade s e → IsMade z e

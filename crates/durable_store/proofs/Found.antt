@@ -8,11 +8,12 @@ use Rattle.sqlite_trees.specs.declared.store.Store.{Ghosts}
 use Rattle.sqlite_trees.specs.Tree.{Trees}
 use Rattle.store_laws.specs.Stored.{Stored}
 use Rattle.store.specs.Ends.{closing_but}
+use Rattle.event_text.specs.EventText.{events_of_kinds}
 use Rattle.journal.specs.declared.prepared_row.Prepared.{Prepared}
 use Rattle.journal.specs.Contents.{Contents, contents_of}
 use Rattle.journal.specs.Journal.{Clean, durable, may_leave, written}
 use Rattle.durable_store.specs.declared.durable.Durable.{Durable}
-use Rattle.durable_store.specs.Durable.{IsDurable, events_of_kinds, prepared_in}
+use Rattle.durable_store.specs.Durable.{IsDurable, prepared_in}
 use Rattle.durable_store.specs.Held.{prepared_numbers, undecided}
 use Rattle.durable_store.specs.Recovered.{IsRecovered}
 

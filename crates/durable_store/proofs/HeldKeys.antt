@@ -17,6 +17,7 @@ use Rattle.serial_order.specs.History.{begins, is_open, summary}
 use Rattle.serial_order.specs.Operations.{is_among}
 use Rattle.serial_order.proofs.Lists.{filter-more}
 use Rattle.serial_order.proofs.Runs.{of_open}
+use Rattle.event_text.specs.EventText.{events_of_kinds}
 use Rattle.journal.specs.declared.outcome_row.KeyedOutcome.{KeyedOutcome}
 use Rattle.journal.specs.declared.outcome_row.Outcome.{Outcome}
 use Rattle.journal.specs.declared.prepared_row.Prepared.{Prepared}
@@ -27,7 +28,7 @@ use Rattle.carried_orders.specs.Orders.{AreStrong}
 use Rattle.store.specs.Retraces.{IsTracedHistory}
 use Rattle.store_laws.specs.Stored.{Stored}
 use Rattle.durable_store.specs.declared.durable.Durable.{Durable}
-use Rattle.durable_store.specs.Durable.{IsDurable, events_of_kinds, prepared_in, is_prepared}
+use Rattle.durable_store.specs.Durable.{IsDurable, prepared_in, is_prepared}
 use Rattle.durable_store.specs.Held.{ArePrepared, but_number, first_passing, has_key, has_place, prepared_numbers, undecided}
 use Rattle.durable_store.specs.declared.keyed.KeyState.{KeyState}
 use Rattle.durable_store.specs.declared.keyed.KeyState.TheVariants as state

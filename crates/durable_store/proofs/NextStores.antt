@@ -23,9 +23,10 @@ use Rattle.store_laws.specs.Stored.{Stored}
 use Rattle.store.specs.CarriesAll.{began_by}
 use Rattle.store.specs.declared.refusals.CarryRefusal.{CarryRefusal}
 use Rattle.store.proofs.CarriedAll.{open-all}
+use Rattle.event_text.specs.EventText.{events_of_kinds}
 use Rattle.journal.specs.declared.prepared_row.Prepared.{Prepared}
 use Rattle.journal.specs.Contents.{Contents}
-use Rattle.durable_store.specs.Durable.{events_of_kinds, kinds}
+use Rattle.durable_store.specs.Durable.{kinds}
 use Rattle.durable_store.specs.Epochs.{GoesOver, RefusesOver}
 use Rattle.durable_store.specs.Held.{ArePrepared, moved_among, undecided}
 use Rattle.durable_store.specs.NextStore.{BeginsNext, GoOver, RefusesNext}

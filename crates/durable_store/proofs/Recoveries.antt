@@ -7,13 +7,14 @@ use Rattle.sqlite_trees.specs.Tree.{Trees}
 use Rattle.object_trait.specs.declared.event.Event.{Event}
 use Rattle.store.specs.Ends.{closing_but}
 use Rattle.store_laws.specs.Stored.{Stored}
+use Rattle.event_text.specs.EventText.{events_of_kinds}
 use Rattle.journal.specs.declared.header.Header.{Header}
 use Rattle.journal.specs.declared.journal.Journal.{Journal}
 use Rattle.journal.specs.declared.prepared_row.Prepared.{Prepared}
 use Rattle.journal.specs.Contents.{Contents, in_life}
 use Rattle.journal.specs.Journal.{Clean, IsJournal, IsOpen, ShowsCommit, durable, may_leave, written}
 use Rattle.durable_store.specs.declared.durable.Durable.{Durable}
-use Rattle.durable_store.specs.Durable.{IsDurable, WritesSince, events_of_kinds, prepared_in, with_all}
+use Rattle.durable_store.specs.Durable.{IsDurable, WritesSince, prepared_in, with_all}
 use Rattle.durable_store.specs.Held.{ArePrepared, prepared_numbers, undecided}
 use Rattle.durable_store.specs.Names.{IndexesNames}
 use Rattle.durable_store.specs.Types.{HasTypes}

@@ -10,6 +10,7 @@ use Rattle.store.specs.Ends.{closing_but}
 use Rattle.carried_orders.specs.Orders.{AreStrong}
 use Rattle.store.specs.Retraces.{IsTracedHistory}
 use Rattle.store_laws.specs.Stored.{Stored}
+use Rattle.event_text.specs.EventText.{events_of_kinds}
 use Rattle.journal.specs.declared.contents.FileContents.{FileContents}
 use Rattle.journal.specs.declared.journal.Journal.{Journal}
 use Rattle.journal.specs.declared.prepared_row.Prepared.{Prepared}
@@ -18,7 +19,7 @@ use Rattle.journal.specs.Journal.{Clean, IsJournal, IsSettled, durable, may_leav
 use Rattle.journal.specs.Said.{contents, contents_beside}
 use Rattle.durable_store.specs.declared.durable.Durable.{Durable}
 use Rattle.durable_store.specs.declared.object_names.ObjectNames.{ObjectNames}
-use Rattle.durable_store.specs.Durable.{IsDurable, events_of_kinds, prepared_in}
+use Rattle.durable_store.specs.Durable.{IsDurable, prepared_in}
 use Rattle.durable_store.specs.Held.{ArePrepared, prepared_numbers, undecided}
 use Rattle.durable_store.specs.Names.{IndexesNames}
 use Rattle.durable_store.specs.Recovered.{IsNotFollowed, IsNotMade, IsRecovered, IsStoreOf, Recovers, recovered}

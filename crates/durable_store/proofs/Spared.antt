@@ -24,9 +24,9 @@ use Rattle.attempts.specs.declared.outcome.Ending.TheVariants as ending
 use Rattle.attempts.specs.Commands.{CallAt}
 use Rattle.attempts.specs.Answers.{AttemptAnswers, EndsSo, operation_events}
 use Rattle.store_laws.specs.Stored.{MayStep, Steps, Stored, objects, refusal_of}
+use Rattle.event_text.specs.EventText.{events_of_kinds}
 use Rattle.journal.specs.declared.prepared_row.Prepared.{Prepared}
 use Rattle.journal.specs.Contents.{Contents}
-use Rattle.durable_store.specs.Durable.{events_of_kinds}
 use Rattle.durable_store.specs.Held.{ArePrepared, prepared_numbers}
 use Rattle.durable_store.proofs.Undecided.{Spares, began-each, none-has, none-later, prepared-append, prepared-next}
 

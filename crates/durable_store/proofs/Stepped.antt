@@ -12,10 +12,11 @@ use Rattle.serial_order.specs.declared.refusal.Refusal.{Refusal}
 use Rattle.carried_orders.specs.Orders.{AreStrong}
 use Rattle.store_laws.specs.Stored.{MayStep, Steps, Stored, objects, refusal_of}
 use Rattle.store.specs.Retraces.{IsTracedHistory, StepsAreTraced}
+use Rattle.event_text.specs.EventText.{events_of_kinds}
 use Rattle.journal.specs.Journal.{written}
 use Rattle.durable_store.specs.declared.durable.Durable.{Durable}
 use Rattle.durable_store.specs.Types.{HasTypes}
-use Rattle.durable_store.specs.Durable.{IsBehind, IsDurable, events_of_kinds, kinds}
+use Rattle.durable_store.specs.Durable.{IsBehind, IsDurable, kinds}
 
 -- what happened, back from the events
 pub kinds-back : (happened : List EventKind) → kinds (events_of_kinds happened) ≡ happened

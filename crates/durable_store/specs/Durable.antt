@@ -7,6 +7,7 @@ use Rattle.object_trait.specs.declared.event.Event.{Event}
 use Rattle.object_trait.specs.declared.event.EventKind.{EventKind}
 use Rattle.carried_orders.specs.Orders.{AreStrong}
 use Rattle.store.specs.Retraces.{IsTracedHistory}
+use Rattle.event_text.specs.EventText.{events_of_kinds}
 use Rattle.journal.specs.Contents.{Contents}
 use Rattle.journal.specs.Journal.{Clean, IsJournal, IsSettled, durable, may_leave, written}
 use Rattle.durable_store.specs.declared.durable.Durable.{Durable}
@@ -20,11 +21,7 @@ use Rattle.journal.specs.declared.prepared_row.Prepared.{Prepared}
 abbrev pub kinds : List Event → List EventKind
 kinds events = map (λ (e : Event). e.kind) events
 
--- the same as events of worker 0, which makes all events of a durable store
-abbrev pub events_of_kinds : List EventKind → List Event
-events_of_kinds happened = map (λ k. let e : Event = record { worker = 0; kind = k } in e) happened
-
--- one of them
+-- one of them as an event of worker 0, which makes all events of a durable store
 abbrev pub event_of_kind : EventKind → Event
 event_of_kind kind = record { worker = 0; kind = kind }
 

@@ -5,6 +5,7 @@ use Rattle.sqlite_trees.specs.Tree.{Trees}
 use Rattle.object_trait.specs.Meaning.{Meaning}
 use Rattle.object_trait.specs.declared.event.EventKind.{EventKind}
 use Rattle.table_checker.specs.Checked.{Checked}
+use Rattle.event_text.specs.EventText.{events_of_kinds}
 use Rattle.journal.specs.declared.prepared_row.Prepared.{Prepared}
 use Rattle.journal.specs.declared.state_row.FirstState.{FirstState}
 use Rattle.journal.specs.Contents.{Contents, IsFile, contents_of, from_states, in_life}
@@ -16,7 +17,7 @@ use Rattle.store.specs.CarriesAll.{CarriesAll, IsUnseen, RefusesAll, open_ones}
 use Rattle.store.specs.Retraces.{IsTracedHistory}
 use Rattle.store.specs.declared.refusals.CarryRefusal.{CarryRefusal}
 use Rattle.durable_store.specs.declared.durable.Durable.{Durable}
-use Rattle.durable_store.specs.Durable.{events_of_kinds, kinds}
+use Rattle.durable_store.specs.Durable.{kinds}
 use Rattle.durable_store.specs.FileLimits.{file_limits}
 use Rattle.durable_store.specs.Types.{HasTypes}
 use Rattle.durable_store.specs.Names.{IndexesNames}

@@ -10,6 +10,7 @@ use Rattle.carried_orders.specs.Orders.{AreStrong}
 use Rattle.store.specs.Retraces.{IsTracedHistory}
 use Rattle.objects.specs.Object.{meaning_of}
 use Rattle.store_text.specs.declared.line.ObjectLine.{ObjectLine}
+use Rattle.event_text.specs.EventText.{events_of_kinds}
 use Rattle.journal.specs.declared.prepared_row.Prepared.{Prepared}
 use Rattle.journal.specs.Contents.{IsFile, contents_of, extended}
 use Rattle.journal.specs.Journal.{Clean, IsJournal, IsSettled, may_leave, written}
@@ -17,7 +18,7 @@ use Rattle.durable_store.specs.declared.durable.Durable.{Durable}
 use Rattle.durable_store.specs.declared.growth.Growth.{Growth}
 use Rattle.durable_store.specs.declared.open_error.OpenError.{OpenError}
 use Rattle.durable_store.specs.declared.open_error.OpenError.TheVariants.{NameTaken, NotExtended, NotMade, NotPrepared}
-use Rattle.durable_store.specs.Durable.{events_of_kinds, kinds}
+use Rattle.durable_store.specs.Durable.{kinds}
 use Rattle.durable_store.specs.Epochs.{GoesOver, RefusesOver, firsts}
 use Rattle.durable_store.specs.Held.{ArePrepared}
 use Rattle.durable_store.specs.FileLimits.{file_limits}

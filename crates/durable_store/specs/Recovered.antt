@@ -5,6 +5,7 @@ use Rattle.store_laws.specs.Stored.{Stored}
 use Rattle.store.specs.Ends.{closing_but}
 use Rattle.store.specs.Retraces.{AreRetraced}
 use Rattle.table_checker.specs.Checked.{Checked}
+use Rattle.event_text.specs.EventText.{events_of_kinds}
 use Rattle.durable_store.specs.declared.open_error.OpenError.{OpenError}
 use Rattle.durable_store.specs.declared.open_error.OpenError.TheVariants.{NameTaken, NotExtended, NotMade, NotPrepared}
 use Rattle.journal.specs.declared.header.Header.{Header}
@@ -12,7 +13,7 @@ use Rattle.journal.specs.Contents.{Contents, in_life}
 use Rattle.journal.specs.Journal.{Clean, IsOpen, ShowsCommit, durable, written}
 use Rattle.durable_store.specs.declared.durable.Durable.{Durable}
 use Rattle.durable_store.specs.Types.{HasTypes}
-use Rattle.durable_store.specs.Durable.{events_of_kinds, prepared_in, with_all}
+use Rattle.durable_store.specs.Durable.{prepared_in, with_all}
 use Rattle.durable_store.specs.Held.{ArePrepared, prepared_numbers}
 use Rattle.durable_store.specs.FileLimits.{file_limits}
 

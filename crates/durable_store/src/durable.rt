@@ -2,10 +2,11 @@
 
 ghost use Rattle.std.specs.Prelude.{◌≡◌, ◌⊎◌, ◌<◌, [], ◌∷◌, length, Some, slice_get, IfErr, IfOk, OnOk, ℕ, ◌++◌, ◌&&◌, false, drop, take};
 ghost use Rattle.sqlite_trees.specs.Tree.{Trees};
+ghost use Rattle.event_text.specs.EventText.{events_of_kinds};
 ghost use Rattle.journal.specs.Contents.{IsFile, contents_of};
 ghost use Rattle.journal.specs.Journal.{Clean, IsAsWritten, ShowsCommit, durable, may_leave, written, IsNumbered, IsOpen, IsJournal};
 ghost use Rattle.table_checker.specs.Checked.{Checked};
-ghost use Rattle.durable_store.specs.Durable.{IsDurable, KeepsSettled, OutcomesStay, WritesSince, is_prepared, kinds, events_of_kinds, IsBehind, with_all};
+ghost use Rattle.durable_store.specs.Durable.{IsDurable, KeepsSettled, OutcomesStay, WritesSince, is_prepared, kinds, IsBehind, with_all};
 ghost use Rattle.durable_store.specs.Held.{ArePrepared, prepared_numbers};
 ghost use Rattle.durable_store.specs.NextStore.{GoOver};
 ghost use Rattle.object_trait.specs.Orders.{Pairs};

@@ -1,9 +1,10 @@
 //! A store that is made again of its file.
 
 ghost use Rattle.std.specs.Prelude.{◌≡◌, ◌++◌, ◌∷◌, [], IfOk, OnOk, ◌⊎◌, length, IfErr, IsTrue, None, ◌↔◌};
+ghost use Rattle.event_text.specs.EventText.{events_of_kinds};
 ghost use Rattle.journal.specs.Said.{contents, contents_beside};
 ghost use Rattle.store.specs.Retraces.{AreRetraced, IsRetraced, IsTracedHistory};
-ghost use Rattle.durable_store.specs.Durable.{event_of_kind, events_of_kinds, IsDurable};
+ghost use Rattle.durable_store.specs.Durable.{event_of_kind, IsDurable};
 ghost use Rattle.durable_store.specs.Held.{ArePrepared, first_passing, has_place, undecided};
 ghost use Rattle.transaction_key.specs.TransactionKey.{key_place};
 ghost use Rattle.durable_store.specs.Recovered.{IsNotFollowed, IsNotMade, IsStoreOf, IsStrayError, IsRecovered, Recovers, recovered};

@@ -4,10 +4,11 @@ use Rattle.std.specs.Prelude.{Contains}
 use Rattle.object_trait.specs.declared.event.Event.{Event}
 use Rattle.serial_order.specs.History.{is_open, summary}
 use Rattle.store_laws.specs.Stored.{Stored}
+use Rattle.event_text.specs.EventText.{events_of_kinds}
 use Rattle.journal.specs.declared.prepared_row.Prepared.{Prepared}
 use Rattle.journal.specs.Contents.{Contents}
 use Rattle.journal.specs.Outcomes.{Outcomes}
-use Rattle.durable_store.specs.Durable.{events_of_kinds, prepared_in}
+use Rattle.durable_store.specs.Durable.{prepared_in}
 use Rattle.durable_store.specs.Held.{moved_among}
 use Rattle.durable_store.specs.Recovered.{IsStoreOf}
 use Rattle.serving.specs.declared.extension.Extension.{Extension}

@@ -10,10 +10,11 @@ use Rattle.transaction_key.specs.TransactionKey.{key_place}
 use Rattle.serial_order.specs.History.{begins, is_open, summary}
 use Rattle.serial_order.specs.Operations.{is_among}
 use Rattle.serial_order.proofs.Runs.{of_open}
+use Rattle.event_text.specs.EventText.{events_of_kinds}
 use Rattle.journal.specs.Outcomes.{Outcomes, let_go}
 use Rattle.journal.proofs.StaysKnown.{let-go-none}
 use Rattle.journal.specs.declared.prepared_row.Prepared.{Prepared}
-use Rattle.durable_store.specs.Durable.{events_of_kinds, kinds}
+use Rattle.durable_store.specs.Durable.{kinds}
 use Rattle.durable_store.specs.Held.{first_passing, has_number, has_place, prepared_numbers, undecided}
 use Rattle.durable_store.proofs.HeldKeys.{first-is, none-passes}
 use Rattle.held_votes.proofs.OwnEvents.{AreBeside, began-still, closed-still, open-beside}

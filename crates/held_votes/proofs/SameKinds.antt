@@ -5,7 +5,8 @@ use Rattle.object_trait.specs.declared.event.Event.{Event}
 use Rattle.serial_order.specs.History.{aborted_by, aborts, begins, committed_by, commits, is_begin, is_open, summary, survive_after}
 use Rattle.serial_order.specs.Operations.{at_object, of, ops}
 use Rattle.serial_order.specs.declared.entry.Entry.{Entry}
-use Rattle.durable_store.specs.Durable.{events_of_kinds, kinds}
+use Rattle.event_text.specs.EventText.{events_of_kinds}
+use Rattle.durable_store.specs.Durable.{kinds}
 use Rattle.held_votes.specs.VotesHeld.{operations_at}
 
 -- a history as worker 0 would have made it

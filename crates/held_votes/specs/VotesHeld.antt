@@ -7,6 +7,7 @@ use Rattle.object_trait.specs.declared.event.Event.{Event}
 use Rattle.serial_order.specs.History.{begins}
 use Rattle.serial_order.specs.Operations.{of, ops}
 use Rattle.serial_order.specs.Serial.{surviving_at}
+use Rattle.event_text.specs.EventText.{events_of_kinds}
 use Rattle.journal.specs.declared.outcome_row.Outcome.{Outcome}
 use Rattle.journal.specs.declared.prepared_row.Prepared.{Prepared}
 use Rattle.journal.specs.Contents.{Contents, contents_of}
@@ -14,7 +15,7 @@ use Rattle.journal.specs.Journal.{Clean, may_leave}
 use Rattle.journal.specs.Outcomes.{StaysKnown}
 use Rattle.store_laws.specs.Stored.{Stored}
 use Rattle.durable_store.specs.declared.durable.Durable.{Durable}
-use Rattle.durable_store.specs.Durable.{IsDurable, events_of_kinds, prepared_in}
+use Rattle.durable_store.specs.Durable.{IsDurable, prepared_in}
 use Rattle.durable_store.specs.Keys.{outcome_under}
 use Rattle.request_text.specs.declared.request.Asked.{Asked}
 use Rattle.request_text.specs.Requests.{asked_by}

@@ -10,11 +10,12 @@ use Rattle.std.specs.List.{slice_index_or}
 use Rattle.object_trait.specs.declared.event.EventKind.{EventKind}
 use Rattle.object_trait.specs.declared.event.EventKind.TheVariants as kind
 use Rattle.object_trait.specs.declared.event.EventKind.TheVariants.{Begin, Op, Busy, Commit, Abort, Rollback}
+use Rattle.event_text.specs.EventText.{events_of_kinds}
 use Rattle.journal.specs.declared.prepared_row.Prepared.{Prepared}
 use Rattle.serial_order.specs.History.{aborted_by, aborts, begins, commits, committed_by, is_begin, is_open, summary}
 use Rattle.serial_order.specs.Operations.{is_among}
 use Rattle.key_commands.specs.Endings.{is_end_of}
-use Rattle.key_commands.specs.Held.{events_of_kinds, undecided}
+use Rattle.key_commands.specs.Held.{undecided}
 
 -- ---- who began
 

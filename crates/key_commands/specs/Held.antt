@@ -1,15 +1,11 @@
 -- Transactions that are prepared and not decided.
-use Rattle.std.specs.Prelude.{ℕ, Bool, List, filter, map}
+use Rattle.std.specs.Prelude.{ℕ, Bool, List, filter}
 use Rattle.std.specs.Str.{bytes_eq}
 use Rattle.object_trait.specs.declared.event.Event.{Event}
-use Rattle.object_trait.specs.declared.event.EventKind.{EventKind}
 use Rattle.serial_order.specs.History.{is_open, summary}
+use Rattle.event_text.specs.EventText.{events_of_kinds}
 use Rattle.journal.specs.declared.prepared_row.Prepared.{Prepared}
 use Rattle.journal.specs.Contents.{Contents}
-
--- what happened, as events of worker 0, which makes all events of a durable store
-abbrev pub events_of_kinds : List EventKind → List Event
-events_of_kinds happened = map (λ k. let e : Event = record { worker = 0; kind = k } in e) happened
 
 -- of these, those whose transactions are open: they are prepared and not decided
 abbrev pub undecided : List Event → List Prepared → List Prepared

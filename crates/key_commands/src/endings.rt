@@ -3,7 +3,8 @@
 ghost use Rattle.std.specs.Prelude.{◌≡◌, ◌==◌, ◌&&◌, ◌∷◌, ◌++◌, [], ℕ, IfOk, OnOk, false, not, true};
 ghost use Rattle.std.specs.List.{count_by, slice_index_or};
 ghost use Rattle.serial_order.specs.History.{is_begin, is_open, summary};
-ghost use Rattle.key_commands.specs.Held.{events_of_kinds, undecided};
+ghost use Rattle.event_text.specs.EventText.{events_of_kinds};
+ghost use Rattle.key_commands.specs.Held.{undecided};
 ghost use Rattle.key_commands.specs.Endings.{is_end_of};
 
 use journal::Prepared;

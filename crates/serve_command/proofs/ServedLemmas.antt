@@ -9,6 +9,7 @@ use Rattle.sqlite_trees.specs.declared.store.Store.{Ghosts}
 use Rattle.sqlite_trees.specs.Tree.{Trees}
 use Rattle.sqlite_trees.specs.View.{IsClean}
 use Rattle.store_laws.specs.Stored.{Stored}
+use Rattle.event_text.specs.EventText.{events_of_kinds}
 use Rattle.journal.specs.Contents.{Contents, contents_of}
 use Rattle.journal.specs.Journal.{Clean, ShowsCommit, written}
 use Rattle.journal.specs.declared.prepared_row.Prepared.{Prepared}
@@ -16,7 +17,7 @@ use Rattle.durable_store.specs.declared.durable.Durable.{Durable}
 use Rattle.store.specs.Ends.{closing_but}
 use Rattle.durable_store.specs.Held.{prepared_numbers}
 use Rattle.durable_store.specs.Durable as durable
-use Rattle.durable_store.specs.Durable.{IsDurable, events_of_kinds, with_all}
+use Rattle.durable_store.specs.Durable.{IsDurable, with_all}
 use Rattle.request_text.specs.declared.request.Asked.{Asked}
 use Rattle.serving.specs.declared.answer_line.Answered.{Answered}
 use Rattle.serving.specs.declared.extension.Extension.{Extension}

@@ -4,10 +4,10 @@ use Rattle.std.specs.Prelude.{IfSome}
 use Rattle.std.specs.Io.KnownBytes.{Appends}
 use Rattle.sqlite_trees.specs.Tree.{Trees}
 use Rattle.store.specs.Ends.{closing_but}
+use Rattle.event_text.specs.EventText.{events_of_kinds}
 use Rattle.durable_store.specs.Held.{prepared_numbers}
 use Rattle.durable_store.specs.Durable as durable
 use Rattle.journal.specs.Contents.{contents_of}
-use Rattle.durable_store.specs.Durable.{events_of_kinds}
 use Rattle.serve_command.specs.Found.{Finds, SaysFound}
 
 -- what is held has some number of events and of open transactions

@@ -4,8 +4,8 @@ use Rattle.std.specs.Fmt.{decimal}
 use Rattle.std.specs.List.{flat_map}
 use Rattle.sqlite_trees.specs.Tree.{Trees}
 use Rattle.store.specs.Ends.{closing_but}
+use Rattle.event_text.specs.EventText.{events_of_kinds}
 use Rattle.journal.specs.Contents.{Contents, contents_of}
-use Rattle.durable_store.specs.Durable.{events_of_kinds}
 use Rattle.durable_store.specs.Durable as durable
 use Rattle.durable_store.specs.Held.{prepared_numbers}
 use Rattle.serving.specs.Told.{AppendsPart}

@@ -1,6 +1,7 @@
 -- What `serve DATABASE` writes to its client, and what it leaves.
 use Rattle.std.specs.Prelude.{◌≡◌, ◌⊎◌, false, ℕ, suc, List, [], ◌++◌, map, Option, None, Some, IfSome, MatchBool, IsTrue, Result, Ok, Err}
 use Rattle.std.specs.Io.KnownBytes.{Appends, Consumes, IsAtEnd}
+use Rattle.event_text.specs.EventText.{events_of_kinds}
 use Rattle.command_files.specs.Answers.{Answers}
 use Rattle.command_files.specs.Status.{is_input}
 use Rattle.command_files.specs.declared.fault.Fault.{Fault}
@@ -16,7 +17,7 @@ use Rattle.journal.specs.Contents.{Contents, IsFile, contents_of, with_least}
 use Rattle.journal.specs.Journal.{Clean, ShowsCommit, may_leave, written}
 use Rattle.journal.specs.declared.header.Header.{Header}
 use Rattle.durable_store.specs.declared.durable.Durable.{Durable}
-use Rattle.durable_store.specs.Durable.{IsDurable, events_of_kinds, kinds}
+use Rattle.durable_store.specs.Durable.{IsDurable, kinds}
 use Rattle.durable_store.specs.Durable as durable
 use Rattle.durable_store.specs.Held.{prepared_numbers}
 use Rattle.durable_store.specs.Epochs.{firsts}

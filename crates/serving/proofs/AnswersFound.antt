@@ -13,9 +13,10 @@ use Rattle.attempts.specs.declared.outcome.Ending.{Ending}
 use Rattle.attempts.specs.declared.outcome.Ending.TheVariants as ending
 use Rattle.attempts.specs.Commands.{CallAt}
 use Rattle.attempts.specs.Answers.{AttemptAnswers, operation_events}
+use Rattle.event_text.specs.EventText.{events_of_kinds}
 use Rattle.journal.specs.Contents.{Contents}
 use Rattle.durable_store.specs.declared.durable.Durable.{Durable}
-use Rattle.durable_store.specs.Durable.{events_of_kinds, kinds}
+use Rattle.durable_store.specs.Durable.{kinds}
 use Rattle.request_text.specs.Requests.{calls_asked}
 use Rattle.request_text.specs.declared.fault.RequestFault.{RequestFault}
 use Rattle.request_text.specs.declared.request.Request.{Request}

@@ -7,6 +7,7 @@ use Rattle.sqlite_trees.specs.declared.store.Store.{Ghosts}
 use Rattle.object_trait.specs.declared.event.Event.{Event}
 use Rattle.object_trait.specs.declared.event.EventKind.{EventKind}
 use Rattle.store_text.specs.declared.line.ObjectLine.{ObjectLine}
+use Rattle.event_text.specs.EventText.{events_of_kinds}
 use Rattle.history_text.specs.Canonical.{canonical_text}
 use Rattle.store_laws.specs.Stored.{Stored}
 use Rattle.journal.specs.declared.prepared_row.Prepared.{Prepared}
@@ -14,7 +15,7 @@ use Rattle.journal.specs.declared.header.Header.{Header}
 use Rattle.journal.specs.Contents.{Contents, contents_of}
 use Rattle.journal.specs.Journal.{Clean, IsJournal, ShowsCommit, durable, written}
 use Rattle.durable_store.specs.declared.durable.Durable.{Durable}
-use Rattle.durable_store.specs.Durable.{IsDurable, OutcomesStay, WritesSince, events_of_kinds, with_all}
+use Rattle.durable_store.specs.Durable.{IsDurable, OutcomesStay, WritesSince, with_all}
 use Rattle.durable_store.specs.Epochs.{LeavesEpoch}
 use Rattle.durable_store.specs.Growth.{LeavesGrowth}
 use Rattle.durable_store.specs.Recovered.{IsStoreOf}

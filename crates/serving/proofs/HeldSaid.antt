@@ -7,12 +7,13 @@ use Rattle.sqlite_trees.specs.declared.store.Store.{Ghosts}
 use Rattle.object_trait.specs.declared.event.EventKind.{EventKind}
 use Rattle.transaction_key.specs.TransactionKey.{key_place}
 use Rattle.store_laws.specs.Stored.{Stored}
+use Rattle.event_text.specs.EventText.{events_of_kinds}
 use Rattle.journal.specs.declared.outcome_row.KeyedOutcome.{KeyedOutcome}
 use Rattle.journal.specs.declared.prepared_row.Prepared.{Prepared}
 use Rattle.journal.specs.Contents.{Contents}
 use Rattle.journal.specs.Journal.{Clean, written}
 use Rattle.durable_store.specs.declared.durable.Durable.{Durable}
-use Rattle.durable_store.specs.Durable.{IsDurable, events_of_kinds, prepared_in, kinds}
+use Rattle.durable_store.specs.Durable.{IsDurable, prepared_in, kinds}
 use Rattle.durable_store.specs.Held.{first_passing, has_key, undecided}
 use Rattle.serving.specs.NextEpoch.{SaysSame}
 use Rattle.serving.specs.Prepared.{now_says}

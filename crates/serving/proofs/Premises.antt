@@ -4,6 +4,7 @@ use Rattle.std.specs.Prelude.{MatchBool, MatchOption, MatchResult}
 use Rattle.object_trait.specs.declared.event.EventKind.{EventKind}
 use Rattle.store_laws.specs.Stored.{Stored}
 use Rattle.store_text.specs.declared.line.ObjectLine.{ObjectLine}
+use Rattle.event_text.specs.EventText.{events_of_kinds}
 use Rattle.journal.specs.Contents.{Contents}
 use Rattle.serial_order.specs.declared.refusal.Refusal.TheVariants.{NoObject}
 use Rattle.store.specs.declared.refusals.PeekRefusal.{PeekRefusal}
@@ -27,7 +28,7 @@ use Rattle.serving.specs.Does.{is_epoch_full}
 use Rattle.serving.specs.Means.{Means}
 use Rattle.serving.specs.Several.{IsCallAt, Attempts, DoesCommitted, DoesPeek, InTurn, IsAnsweredThere, IsFirstWithout, IsRepliedThere}
 use Rattle.journal.specs.declared.prepared_row.Prepared.{Prepared}
-use Rattle.durable_store.specs.Durable.{events_of_kinds, kinds}
+use Rattle.durable_store.specs.Durable.{kinds}
 use Rattle.durable_store.specs.Held.{undecided}
 use Rattle.serving.specs.Requests.{DoesRequest, TellsEvents, TellsObjects, TellsTypes}
 use Rattle.serving.specs.Served.{IsAnswered, Serves}

@@ -1,10 +1,10 @@
 -- What an archive keeps.
 use Rattle.std.specs.Prelude.{◌≡◌, ◌⊎◌, ℕ, List, [], ◌∷◌, ◌++◌, map, Option}
 use Rattle.std.specs.Option.{option_map}
+use Rattle.event_text.specs.EventText.{events_of_kinds}
 use Rattle.history_text.specs.Canonical.{canonical_text}
 use Rattle.journal.specs.Contents.{Contents}
 use Rattle.journal.specs.declared.header.Header.{Header}
-use Rattle.durable_store.specs.Durable.{events_of_kinds}
 
 -- the text of a history that is kept, under what its file said of itself then: the id of the store, and the life in which its epoch ended
 pub record KeptHistory : Type 0 where

@@ -1,8 +1,9 @@
 //! The end of an epoch: its history goes to an archive, before the file begins anew.
 
 ghost use Rattle.std.specs.Prelude.{◌≡◌, [], ◌∷◌, Some, false, true, is_some, OnOk, IfOk};
+ghost use Rattle.event_text.specs.EventText.{events_of_kinds};
 ghost use Rattle.journal.specs.Journal.{Clean, ShowsCommit, durable, written};
-ghost use Rattle.durable_store.specs.Durable.{IsDurable, kinds, with_all, OutcomesStay, WritesSince, events_of_kinds};
+ghost use Rattle.durable_store.specs.Durable.{IsDurable, kinds, with_all, OutcomesStay, WritesSince};
 ghost use Rattle.durable_store.specs.Epochs.{GoesOver, LeavesEpoch, renewed_with};
 ghost use Rattle.serving.specs.EpochEnd.{EndsEpoch, EndsInEpoch, LeavesClosed, LeavesEnd, LeavesNext};
 ghost use Rattle.serving.specs.NextEpoch.{IsNextFile, IsNextStore, late_answer};

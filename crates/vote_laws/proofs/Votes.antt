@@ -6,9 +6,10 @@ use Rattle.std.proofs.lemmas.Option.{none-some, same_Some}
 use Rattle.object_trait.specs.declared.event.Event.{Event}
 use Rattle.serial_order.specs.History.{is_open, summary}
 use Rattle.store_laws.specs.Stored.{Stored}
+use Rattle.event_text.specs.EventText.{events_of_kinds}
 use Rattle.journal.specs.declared.prepared_row.Prepared.{Prepared}
 use Rattle.journal.specs.Contents.{Contents}
-use Rattle.durable_store.specs.Durable.{events_of_kinds, prepared_in}
+use Rattle.durable_store.specs.Durable.{prepared_in}
 use Rattle.durable_store.specs.Held.{first_passing, has_key, has_number, undecided}
 use Rattle.durable_store.specs.Votes.{Votes}
 use Rattle.durable_store.specs.declared.votes.Vote.{Vote}

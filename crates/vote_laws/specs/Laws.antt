@@ -1,10 +1,11 @@
 -- Statements of laws: of votes and decisions that are asked again.
 use Rattle.std.specs.Prelude.{◌≡◌, ℕ, List, true, MatchBool, Some}
 use Rattle.store_laws.specs.Stored.{Stored}
+use Rattle.event_text.specs.EventText.{events_of_kinds}
 use Rattle.journal.specs.declared.outcome_row.Outcome.{Outcome}
 use Rattle.journal.specs.declared.prepared_row.Prepared.{Prepared}
 use Rattle.journal.specs.Contents.{Contents}
-use Rattle.durable_store.specs.Durable.{events_of_kinds, prepared_in}
+use Rattle.durable_store.specs.Durable.{prepared_in}
 use Rattle.durable_store.specs.Held.{ArePrepared, has_key}
 use Rattle.durable_store.specs.Keys.{outcome_under}
 use Rattle.durable_store.specs.Votes.{Decides, Votes, agrees}

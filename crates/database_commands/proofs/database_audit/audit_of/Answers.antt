@@ -1,7 +1,7 @@
 use Rattle.std.proofs.Common.{◌∙◌, ap, map, subst}
+use Rattle.event_text.specs.EventText.{events_of_kinds}
 use Rattle.history_judge.specs.Audit as history
 use Rattle.journal.specs.Said.{contents}
-use Rattle.durable_store.specs.Durable.{events_of_kinds}
 use Rattle.store_commands.specs.StoreAudit.{table_of_checked}
 use Rattle.database_commands.proofs.Told.{is_audit, told_of}
 use Rattle.database_commands.proofs.database_audit.audit_of.Goals as goal

@@ -1,6 +1,6 @@
 -- The kinds so far have their events.
 use Rattle.std.proofs.Common.{◌≡◌, ◌≤◌, length, take, vec_capacity, vec_len}
-use Rattle.durable_store.specs.Durable.{events_of_kinds}
+use Rattle.event_text.specs.EventText.{events_of_kinds}
 use Rattle.database_commands.proofs.history.events_of.Given as goal
 
 abbrev pub invariant-loop-kind : goal.invariant-loop-kind

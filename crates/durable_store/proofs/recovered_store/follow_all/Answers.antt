@@ -8,7 +8,8 @@ use Rattle.type_table.proofs.Elements.{take-found}
 use Rattle.store.specs.Retraces.{AreRetraced, IsRetraced}
 use Rattle.store.specs.Replays.{with_events}
 use Rattle.store.proofs.Retraced.{traced-more}
-use Rattle.durable_store.specs.Durable.{event_of_kind, events_of_kinds}
+use Rattle.event_text.specs.EventText.{events_of_kinds}
+use Rattle.durable_store.specs.Durable.{event_of_kind}
 use Rattle.durable_store.specs.Recovered.{IsStrayError}
 use Rattle.durable_store.specs.declared.open_error.OpenError.{OpenError}
 use Rattle.durable_store.proofs.Followed.{retraced-alike, retraced-next, taken-events}

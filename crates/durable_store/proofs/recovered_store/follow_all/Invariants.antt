@@ -1,7 +1,7 @@
 -- The events so far are made again.
 use Rattle.std.proofs.Common.{◌≡◌, ◌++◌, take}
 use Rattle.store.specs.Retraces.{AreRetraced}
-use Rattle.durable_store.specs.Durable.{events_of_kinds}
+use Rattle.event_text.specs.EventText.{events_of_kinds}
 use Rattle.durable_store.proofs.recovered_store.follow_all.Given as goal
 
 abbrev pub invariant-loop-place : goal.invariant-loop-place

@@ -1,8 +1,8 @@
 use Rattle.std.proofs.Common.{◌∙◌, ap, ap₂, length}
 use Rattle.std.proofs.lemmas.Result.{IfOk-weaker}
 use Rattle.store_laws.specs.Stored.{Stored}
+use Rattle.event_text.specs.EventText.{events_of_kinds}
 use Rattle.history_text.specs.Canonical.{canonical_text}
-use Rattle.durable_store.specs.Durable.{events_of_kinds}
 use Rattle.serving.proofs.ClosedEpochs.{text-told}
 use Rattle.serving.proofs.epoch.epoch_text.Goals as goal
 

@@ -1,8 +1,9 @@
 use Rattle.std.proofs.Common.{◌≡◌, ◌∙◌, List, [], ◌∷◌, ap, drop, refl, sym, take}
 use Rattle.std.proofs.lemmas.Result.{IfOk-weaker}
 use Rattle.object_trait.specs.declared.event.EventKind.{EventKind}
+use Rattle.event_text.specs.EventText.{events_of_kinds}
 use Rattle.journal.specs.Journal.{Clean, written}
-use Rattle.durable_store.specs.Durable.{events_of_kinds, kinds}
+use Rattle.durable_store.specs.Durable.{kinds}
 use Rattle.durable_store.proofs.CatchUp.{read-again}
 use Rattle.durable_store.proofs.durable.Durable.events.Goals as goal
 
