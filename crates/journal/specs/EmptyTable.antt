@@ -1,6 +1,9 @@
 -- Tables are made anew, with no row, and nothing else changes.
-use Rattle.std.specs.Prelude.{◌≡◌, ◌≢◌, ◌⊎◌, ◌<◌, ℕ, List, false, [], IsTrue, codes}
-use Rattle.sqlite_trees.specs.Objects.{catalog_tree}
+use Rattle.std.specs.Prelude.{◌≡◌, ◌≢◌, ◌⊎◌, ◌<◌, ℕ, List, false, [], ◌∷◌, IsTrue, codes}
+use Rattle.sqlite_value.specs.declared.value.Value.TheVariants.{Text}
+use Rattle.sqlite_value.specs.Order.{Row}
+use Rattle.sqlite_trees.specs.declared.store.Shape.TheVariants.{Table}
+use Rattle.sqlite_trees.specs.Objects.{catalog_tree, listing}
 use Rattle.sqlite_trees.specs.View.{View}
 use Rattle.journal.specs.Journal.{HasTables, IsNamedOnce}
 
@@ -20,6 +23,10 @@ pub record Empties (old new : View) (table : ℕ) : Type 0 where
   pub committed : new.committed ≡ old.committed
   pub is_open : new.is_open ≡ old.is_open
   pub is_broken : new.is_broken ≡ old.is_broken
+
+-- the row of a table in the list of a file's objects: its number, name and statement, and which of its columns are REAL
+abbrev pub table_row : ℕ → List ℕ → List ℕ → ℕ → Row
+table_row table name sql reals = listing table (Text (codes "table") ∷ Text name ∷ Text name ∷ Text sql ∷ []) Table reals
 
 -- tables that get columns: that of objects gets names, and that of outcomes numbers
 abbrev pub IsListedAnew : ℕ → List ℕ → Type 0

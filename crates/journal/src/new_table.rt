@@ -1,9 +1,10 @@
 //! Tables are made anew, which empties them.
 
 ghost use Rattle.std.specs.Prelude.{◌≡◌, OnOk};
-ghost use Rattle.sqlite_trees.specs.Tree.{Trees};
+ghost use Rattle.sqlite_trees.specs.Objects.{catalog_tree};
+ghost use Rattle.sqlite_trees.specs.Tree.{Trees, put_row};
 ghost use Rattle.sqlite_trees.specs.View.{IsClean};
-ghost use Rattle.journal.specs.EmptyTable.{Empties, EmptiesEpoch, IsListedAnew, ListsAnew, MayEmpty};
+ghost use Rattle.journal.specs.EmptyTable.{Empties, EmptiesEpoch, IsListedAnew, ListsAnew, MayEmpty, table_row};
 ghost use Rattle.journal.specs.Journal.{IsRemade};
 
 use crate::contents::{EVENTS, PREPARED};
@@ -56,6 +57,8 @@ pub fn list_anew<S: Alter>(
     requires may { IsClean (S.Store.view store.old) → MayEmpty (S.Store.view store.old) }
     requires listed { IsListedAnew tree name.now }
     ensures ok { OnOk result (IsClean (S.Store.view store.new) → ListsAnew (S.Store.view store.old) (S.Store.view store.new)) }
+    ensures statement { OnOk result (IsClean (S.Store.view store.new) → (S.Store.view store.new).trees catalog_tree
+        ≡ put_row (table_row tree name.now sql.now ((S.Store.view store.old).reals tree)) ((S.Store.view store.old).trees catalog_tree)) }
     ensures clean { IsClean (S.Store.view store.new) → IsClean (S.Store.view store.old) }
     ensures crash { (db : Trees) → S.Store.recovers store.new db → S.Store.recovers store.old db }
 {

@@ -1,6 +1,6 @@
 //! Rows of outcomes that are let go are freed, some at a time.
 
-ghost use Rattle.std.specs.Prelude.{◌≡◌, ◌<◌, ◌^◌, false, IfOk, IfSome, OnOk, option_map};
+ghost use Rattle.std.specs.Prelude.{◌≡◌, ◌<◌, ◌*◌, ◌/◌, ◌%◌, ◌^◌, false, IfOk, IfSome, OnOk, option_map};
 ghost use Rattle.sqlite_trees.specs.Tree.{Trees};
 ghost use Rattle.sqlite_trees.specs.View.{IsClean, KeepsSchema};
 ghost use Rattle.journal.specs.OutcomeRow.{kept_row};
@@ -16,7 +16,10 @@ use sqlite_trees::store::{Direction, Shape, Store};
 use sqlite_value::row::Row;
 
 /// From which place on rows are looked at first in a life. Each life looks at few, so lives begin all over the table.
-pub fn first_swept(life: u32) -> u64 {
+pub fn first_swept(life: u32) -> u64
+    ensures place { result ≡ life * 0x9e37_79b9_7f4a_7c15 % 2 ^ 64 / 4 }
+    ensures low { result < 2 ^ 62 }
+{
     (life as u64).wrapping_mul(0x9e37_79b9_7f4a_7c15) >> 2
 }
 
