@@ -101,6 +101,7 @@ module _ (old none first states types new : View) (starts : List ℕ) (n prepare
     };
     count_is = λ _. rw events refl;
     starts_are = λ _. rw events refl;
+    short = λ _. rw events tt;
     header_is = λ _. rw headers (kept.header_is gone.sound);
     prepared_are = λ _. rw prepared refl;
     kept = λ is_open. subst IsFile (sym committed-same)

@@ -1,6 +1,7 @@
 pub mod RowLemmas
 pub mod CursorRows
 pub mod EventPlaces
+pub mod EventLines
 pub mod Writes
 pub mod Scans
 pub mod Names

@@ -10,6 +10,7 @@ use Rattle.sqlite_trees.specs.declared.schema.Object.{Object}
 use Rattle.sqlite_trees.specs.Objects.{catalog_tree, is_frozen, MayRelist, Relists, object_row}
 use Rattle.sqlite_trees.specs.Tree.{has_rowid}
 use Rattle.sqlite_trees.specs.View.{View}
+use Rattle.event_text.specs.EventText.{AreShort}
 use Rattle.journal.specs.declared.header.Header.{Header}
 use Rattle.journal.specs.declared.numbers.Numbers.{Numbers}
 use Rattle.journal.specs.Contents.{Contents, IsFile, contents_of}
@@ -87,6 +88,7 @@ module _ (old new : View) (starts : List ℕ) (n prepared : ℕ) (header : Heade
     file = λ _. same-file new.trees old.trees anew.rows (kept.file anew.sound);
     count_is = λ _. kept.count_is anew.sound ∙ ap (λ (c : Contents). length c.events) (sym says-same);
     starts_are = λ _. kept.starts_are anew.sound ∙ ap (λ rs. row_starts 0 (map event_told rs)) (sym (anew.rows 0 (lit< tt)));
+    short = λ _. subst (λ (c : Contents). AreShort c.events) (sym says-same) (kept.short anew.sound);
     header_is = λ _. ap (λ (c : Contents). c.headers) says-same ∙ kept.header_is anew.sound;
     prepared_are = λ _. kept.prepared_are anew.sound ∙ ap (λ (c : Contents). length c.prepared) (sym says-same);
     kept = λ is_open. subst IsFile (sym anew.committed) (kept.kept (subst IsTrue anew.is_open is_open));

@@ -5,6 +5,7 @@ use Rattle.sqlite_value.specs.Order.{Row}
 use Rattle.sqlite_trees.specs.Objects.{catalog_tree}
 use Rattle.sqlite_trees.specs.Tree.{Trees}
 use Rattle.sqlite_trees.specs.View.{IsRolledBack, View, IsClean}
+use Rattle.event_text.specs.EventText.{AreShort}
 use Rattle.journal.specs.declared.contents.FileContents.{FileContents}
 use Rattle.journal.specs.Rows.{value_rows}
 use Rattle.journal.specs.EventRow.{event_row, event_told, event_read_back, events_in_rows, row_starts}
@@ -93,6 +94,7 @@ starts old new said places unused tables numbered named only told =
       file = λ _. file;
       count_is = λ _. ap (λ (c : Contents). length c.events) (sym says');
       starts_are = λ _. starts-are old.trees said places told;
+      short = λ _. subst (λ (c : Contents). AreShort c.events) (sym says') told.short;
       header_is = λ _. ap (λ (c : Contents). c.headers) says';
       prepared_are = λ _. ap (λ (c : Contents). length c.prepared) (sym says');
       kept = λ _. subst IsFile unused.clean file;

@@ -8,6 +8,7 @@ use Rattle.sqlite_trees.specs.Objects.{catalog_tree}
 use Rattle.sqlite_trees.specs.Tree.{put_row, Trees}
 use Rattle.sqlite_trees.specs.View.{View, Finds, SetsTree}
 use Rattle.transaction_key.specs.TransactionKey.{key_place}
+use Rattle.event_text.specs.EventText.{AreShort}
 use Rattle.journal.specs.declared.header.Header.{Header}
 use Rattle.journal.specs.declared.numbers.Numbers.{Numbers}
 use Rattle.journal.specs.declared.outcome_row.KeptOutcome.{KeptOutcome}
@@ -107,6 +108,7 @@ module _ (old new : View) (starts : List ℕ) (n prepared : ℕ) (header : Heade
     });
     count_is = λ _. kept.count_is sets.sound ∙ ap (λ (c : Contents). length c.events) (sym changes);
     starts_are = λ _. kept.starts_are sets.sound ∙ ap (λ (v : View). row_starts 0 (map event_told (v.trees 0))) (sym sets.is);
+    short = λ _. subst (λ (c : Contents). AreShort c.events) (sym changes) (kept.short sets.sound);
     header_is = λ _. ap (λ (c : Contents). c.headers) changes ∙ kept.header_is sets.sound;
     prepared_are = λ _. kept.prepared_are sets.sound ∙ ap (λ (c : Contents). length c.prepared) (sym changes);
     kept = λ is_open. subst (λ (v : View). IsTrue v.is_open → IsFile v.committed) (sym sets.is) kept.kept is_open;
@@ -205,6 +207,7 @@ read-file old new starts n prepared header only kept = subst (λ (v : View). IsK
   file = kept.file;
   count_is = kept.count_is;
   starts_are = kept.starts_are;
+  short = kept.short;
   header_is = kept.header_is;
   prepared_are = kept.prepared_are;
   kept = kept.kept;
@@ -274,6 +277,7 @@ module _ (old new : View) (starts : List ℕ) (n prepared : ℕ) (header : Heade
     file = λ _. same-file new.trees old.trees same (kept.file anew.sound);
     count_is = λ _. kept.count_is anew.sound ∙ ap (λ (c : Contents). length c.events) (sym stays);
     starts_are = λ _. kept.starts_are anew.sound ∙ ap (λ rs. row_starts 0 (map event_told rs)) (sym (same 0 (lit< tt)));
+    short = λ _. subst (λ (c : Contents). AreShort c.events) (sym stays) (kept.short anew.sound);
     header_is = λ _. ap (λ (c : Contents). c.headers) stays ∙ kept.header_is anew.sound;
     prepared_are = λ _. kept.prepared_are anew.sound ∙ ap (λ (c : Contents). length c.prepared) (sym stays);
     kept = λ is_open. subst IsFile (sym anew.committed) (kept.kept (subst IsTrue anew.is_open is_open));

@@ -3,6 +3,7 @@ use Rattle.std.proofs.Common.{◌≡◌, refl, sym, ap, subst, ℕ, ◌+◌, ◌
 use Rattle.sqlite_trees.specs.Objects.{catalog_tree}
 use Rattle.sqlite_trees.specs.Tree.{put_row}
 use Rattle.sqlite_trees.specs.View.{View, SetsTree}
+use Rattle.event_text.specs.EventText.{AreShort}
 use Rattle.journal.specs.declared.header.Header.{Header}
 use Rattle.journal.specs.declared.prepared_row.Prepared.{Prepared}
 use Rattle.journal.specs.PreparedRow.{prepared_row, prepared_told, prepared_read_back}
@@ -42,6 +43,7 @@ module _ (old new : View) (starts : List ℕ) (n many : ℕ) (header : Header) (
     });
     count_is = λ _. kept.count_is sets.sound ∙ ap (λ (c : Contents). length c.events) (sym prepares);
     starts_are = λ _. kept.starts_are sets.sound ∙ ap (λ (v : View). row_starts 0 (map event_told (v.trees 0))) (sym sets.is);
+    short = λ _. subst (λ (c : Contents). AreShort c.events) (sym prepares) (kept.short sets.sound);
     header_is = λ _. ap (λ (c : Contents). c.headers) prepares ∙ kept.header_is sets.sound;
     prepared_are = λ _.
         let long = ap (λ (c : Contents). length c.prepared) prepares ∙ length-append (contents_of old.trees).prepared (p ∷ []) in

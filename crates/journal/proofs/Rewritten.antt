@@ -112,6 +112,7 @@ module _ (old middle new : View) (starts : List ℕ) (n many : ℕ) (header : He
     };
     count_is = λ _. rw events refl;
     starts_are = λ _. rw events refl;
+    short = λ _. rw events tt;
     header_is = λ _. rw headers (kept.header_is gone.sound);
     prepared_are = λ _. rw prepared refl;
     kept = λ is_open. subst IsFile (sym (again.committed ∙ gone.committed)) (kept.kept (subst IsTrue (again.is_open ∙ gone.is_open) is_open));

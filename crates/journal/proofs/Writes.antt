@@ -5,6 +5,8 @@ use Rattle.sqlite_value.specs.declared.value.Value.TheVariants.{Int}
 use Rattle.sqlite_trees.specs.Tree.{put_row, rowid, Trees}
 use Rattle.sqlite_trees.specs.View.{doubt, View, SetsTree, IsClean}
 use Rattle.object_trait.specs.declared.event.EventKind.{EventKind}
+use Rattle.type_table.proofs.Elements.{each-append}
+use Rattle.event_text.specs.EventText.{AreShort, IsShort}
 use Rattle.journal.specs.declared.event_row.EventRow.{EventRow}
 use Rattle.journal.specs.declared.event_row.EventRow.TheVariants.{Lines}
 use Rattle.journal.specs.declared.header.Header.{Header}
@@ -76,14 +78,15 @@ module _ (old new : View) (position count prepared : ℕ) (starts : List ℕ) (h
       ∙ ap (row_starts 0) (sym told)
 
   -- and it is a file of a store again
-  pub groups : IsKeptFile new (starts ++ count ∷ []) (count + length events) prepared header
-  groups = record {
+  pub groups : AreShort events → IsKeptFile new (starts ++ count ∷ []) (count + length events) prepared header
+  groups numbers = record {
     tables = subst (λ (v : View). HasTables v) (sym sets.is) (record { each = kept.tables.each });
     file = λ _. file;
     count_is = λ _.
         let long = ap (λ (c : Contents). length c.events) grouped ∙ length-append (contents_of old.trees).events events in
         let was = kept.count_is sets.sound in omega arith;
     starts_are = λ _. begin ∙ ap (λ (v : View). row_starts 0 (map event_told (v.trees 0))) (sym sets.is);
+    short = λ _. subst (λ (c : Contents). AreShort c.events) (sym grouped) (each-append IsShort (contents_of old.trees).events events (kept.short sets.sound) numbers);
     header_is = λ _. ap (λ (c : Contents). c.headers) grouped ∙ kept.header_is sets.sound;
     prepared_are = λ _. kept.prepared_are sets.sound ∙ ap (λ (c : Contents). length c.prepared) (sym grouped);
     kept = λ is_open. subst (λ (v : View). IsTrue v.is_open → IsFile v.committed) (sym sets.is) kept.kept is_open;

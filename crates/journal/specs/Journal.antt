@@ -8,6 +8,7 @@ use Rattle.sqlite_trees.specs.declared.store.Shape.TheVariants.{Table}
 use Rattle.sqlite_trees.specs.Tree.{Trees, has_rowid}
 use Rattle.sqlite_trees.specs.Objects.{catalog_tree}
 use Rattle.sqlite_trees.specs.View.{IsClean, View}
+use Rattle.event_text.specs.EventText.{AreShort}
 use Rattle.journal.specs.declared.header.Header.{Header}
 use Rattle.journal.specs.declared.journal.Journal.{Journal}
 use Rattle.journal.specs.Contents.{Contents, IsFile, contents_of, with_pending}
@@ -35,13 +36,14 @@ IsOwnNamed r = (table : ℕ) (name : List ℕ) → IsRemade table name → has_r
 abbrev pub IsNamedOnce : List Row → Type 0
 IsNamedOnce = AllByRecursion IsOwnNamed
 
--- what the store shows: while it is not broken, a file of a store with this header, this many events, whose rows begin at these of them, and this many
--- prepared transactions
+-- what the store shows: while it is not broken, a file of a store with this header, this many events, whose rows begin at these of them and whose numbers
+-- are of 32 bits, and this many prepared transactions
 pub record IsKeptFile (v : View) (starts : List ℕ) (count prepared : ℕ) (header : Header) : Type 0 where
   pub tables : HasTables v
   pub file : v.is_broken ≡ false → IsFile v.trees
   pub count_is : v.is_broken ≡ false → count ≡ length (contents_of v.trees).events
   pub starts_are : v.is_broken ≡ false → starts ≡ row_starts 0 (map event_told (v.trees 0))
+  pub short : v.is_broken ≡ false → AreShort (contents_of v.trees).events
   pub header_is : v.is_broken ≡ false → (contents_of v.trees).headers ≡ header ∷ []
   pub prepared_are : v.is_broken ≡ false → prepared ≡ length (contents_of v.trees).prepared
   pub kept : IsTrue v.is_open → IsFile v.committed

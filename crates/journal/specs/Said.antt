@@ -1,6 +1,7 @@
 -- What was read of a file.
 use Rattle.std.specs.Prelude.{◌≡◌, ◌<◌, ℕ, List, [], ◌∷◌}
 use Rattle.sqlite_trees.specs.Tree.{Trees}
+use Rattle.event_text.specs.EventText.{AreShort}
 use Rattle.journal.specs.declared.contents.FileContents.{FileContents}
 use Rattle.journal.specs.Rows.{value_rows}
 use Rattle.journal.specs.declared.event_row.EventRow.{EventRow}
@@ -29,11 +30,12 @@ contents said = record {
 abbrev pub contents_beside : Outcomes → FileContents → Contents
 contents_beside outcomes said = record (contents said) { outcomes = outcomes }
 
--- the tables have the rows of just this, where the events of each row begin at these places
+-- the tables have the rows of just this, where the events of each row begin at these places, and each number of an event is of 32 bits
 pub record HasRowsOf (db : Trees) (said : FileContents) (starts : List ℕ) : Type 0 where
   pub rows : List EventRow
   pub events : db 0 ≡ value_rows event_row 0 rows
   pub events_are : said.events.items ≡ events_in_rows rows
+  pub short : AreShort said.events.items
   pub starts_are : starts ≡ row_starts 0 rows
   pub header : db 1 ≡ header_row 0 said.header ∷ []
   pub types : db 2 ≡ value_rows type_row 0 said.types.items

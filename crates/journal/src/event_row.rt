@@ -2,10 +2,11 @@
 
 ghost use Rattle.std.specs.Prelude.{◌≡◌, ◌<◌, ◌^◌, ◌++◌, drop, length, pos, take, true, IfOk, IfSome, OnOk};
 ghost use Rattle.sqlite_value.specs.Order.{column};
-ghost use Rattle.sqlite_value.specs.declared.value.Value.TheVariants.{Int};
+ghost use Rattle.sqlite_value.specs.declared.value.Value.TheVariants.{Int, Text};
 ghost use Rattle.sqlite_trees.specs.Tree.{Trees, put_row};
 ghost use Rattle.sqlite_trees.specs.View.{IsClean, KeepsSchema, SetsTree};
-ghost use Rattle.journal.specs.EventRow.{event_keyed, event_read_back, event_row, event_told, events_in_row, events_in_rows, row_starts};
+ghost use Rattle.event_text.specs.EventText.{AreShort};
+ghost use Rattle.journal.specs.EventRow.{event_keyed, event_read_back, event_row, event_told, events_in_row, events_in_rows, lines_column, row_starts};
 ghost use Rattle.journal.specs.declared.event_row.EventRow.TheVariants.{Lines as Written};
 
 use crate::cells::{begin_row, is_at, text_in};
@@ -13,7 +14,7 @@ use crate::contents::EVENTS;
 use crate::entry::Entry;
 use crate::journal_error::JournalError;
 use crate::single_event::single_in;
-use event_text::{EventGroup, events_in};
+use event_text::{EventGroup, events_in, numbers_are_short};
 use object_trait::EventKind;
 use sqlite_trees::store::{Shape, Store};
 use sqlite_value::row::Row;
@@ -43,20 +44,25 @@ pub struct Events {
 impl Model for Events {
     ghost use Rattle.std.specs.Prelude.{List};
     ghost use Rattle.object_trait.specs.declared.event.EventKind.{EventKind};
+    ghost use Rattle.event_text.specs.EventText.{AreShort};
 
     ghost Value = { List EventKind };
 
     ghost view = { λ e. e.events.items };
+
+    ghost invariant = { λ e. AreShort e.events.items };
 }
 
 impl EventRow {
     /// Puts the events of the row behind others.
     fn put_behind(&self, events: &mut Vec<EventKind>) -> Result<(), AllocError>
-        ensures { OnOk result (events.new.items ≡ events.old.items ++ events_in_row self.now) }
+        ensures behind { OnOk result (events.new.items ≡ events.old.items ++ events_in_row self.now) }
+        ensures short { AreShort (events_in_row self.now) }
     {
         match self {
             EventRow::Lines(more) => events.extend_from_slice(&more.events),
             EventRow::Single(event) => {
+                numbers_are_short(*event);
                 events.push(*event)?;
                 Ok(())
             }
@@ -128,6 +134,19 @@ fn has_count(row: &Row, count: usize) -> bool
     }
 }
 
+/// The lines in the row at this position, where it is one of lines. They aren't looked into.
+pub fn group_in(position: u64, row: &Row) -> Option<&[u8]>
+    requires { position < 2 ^ 62 }
+    ensures four { IfSome result (λ text. length row.now ≡ 4) }
+    ensures lines { IfSome result (λ text. column row.now lines_column ≡ Text text.now) }
+{
+    if row.len() == COUNT + 1 && is_at(row, position) {
+        text_in(row, LINES)
+    } else {
+        None
+    }
+}
+
 /// Writes so many events as the row at this position. A crash may still take it away.
 ///
 /// # Errors
@@ -147,6 +166,7 @@ pub fn put_group<S: Store>(
     ensures clean { IsClean (S.Store.view store.new) → IsClean (S.Store.view store.old) }
     ensures schema { KeepsSchema (S.Store.view store.old) (S.Store.view store.new) }
     ensures crash { (db : Trees) → S.Store.recovers store.new db → S.Store.recovers store.old db }
+    ensures short { OnOk result (AreShort events.now) }
 {
     let Ok(count) = i64::try_from(count) else {
         return Err(JournalError::Full);
@@ -160,7 +180,8 @@ pub fn put_group<S: Store>(
 
 /// The events of rows, in order.
 pub fn events_of(alloc: Global, rows: &[EventRow]) -> Result<Vec<EventKind>, AllocError>
-    ensures { IfOk result (λ events. events.items ≡ events_in_rows rows.now) }
+    ensures events { IfOk result (λ events. events.items ≡ events_in_rows rows.now) }
+    ensures short { IfOk result (λ events. AreShort events.items) }
 {
     let mut events = Vec::new(alloc);
     for row in rows {

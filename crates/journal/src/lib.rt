@@ -4,6 +4,7 @@
 mod cells;
 mod contents;
 mod entry;
+mod event_lines;
 mod event_row;
 mod found_file;
 mod header;

@@ -4,6 +4,7 @@
 ghost use Rattle.std.specs.Prelude.{◌≡◌, [], ◌∷◌, None, Some, codes, negsuc, pos};
 ghost use Rattle.object_trait.specs.declared.event.EventKind.TheVariants.{Begin, Commit, Op};
 ghost use Rattle.sqlite_value.specs.declared.value.Value.TheVariants.{Int, Null, Text};
+ghost use Rattle.event_text.specs.EventText.{event_lines};
 ghost use Rattle.journal.specs.declared.event_row.EventRow.TheVariants.{Lines, Single};
 ghost use Rattle.journal.specs.declared.outcome_row.Outcome.TheVariants.{Aborted, Committed};
 ghost use Rattle.journal.specs.Contents.{IsFile, contents_of};
@@ -19,6 +20,7 @@ ghost use Rattle.journal.specs.RowPlaces.{AreBefore, HaveEvents};
 pub fn rows_of_events()
     ensures row { event_row 0 (Lines (Begin 0 ∷ Op 1 0 3 ∷ Commit 0 ∷ [])) ≡ Int (pos 0) ∷ Null ∷ Text (codes "begin 0 0\nop 0 0 3 1\ncommit 0 0\n") ∷ Int (pos 3) ∷ [] }
     ensures events { events_in_rows (Lines (Begin 0 ∷ Op 1 0 3 ∷ Commit 0 ∷ []) ∷ Single (Begin 1) ∷ Single (Commit 1) ∷ []) ≡ Begin 0 ∷ Op 1 0 3 ∷ Commit 0 ∷ Begin 1 ∷ Commit 1 ∷ [] }
+    ensures lines { event_lines (events_in_rows (Lines (Begin 0 ∷ Op 1 0 3 ∷ Commit 0 ∷ []) ∷ Single (Begin 1) ∷ Single (Commit 1) ∷ [])) ≡ codes "begin 0 0\nop 0 0 3 1\ncommit 0 0\nbegin 0 1\ncommit 0 1\n" }
     ensures starts { row_starts 0 (Lines (Begin 0 ∷ Op 1 0 3 ∷ Commit 0 ∷ []) ∷ Single (Begin 1) ∷ Single (Commit 1) ∷ []) ≡ 0 ∷ 3 ∷ 4 ∷ [] }
 {}
 

@@ -11,7 +11,7 @@ returns-clause-kept g c = λ clean.
     let was = c.requires (c.put_group.ensures.clean clean) in
     let position : c.len-position.result ≡ length it.starts.items = omega (arith, c.len-position.ensures) in (
       rw (c.in_ok-push.ensures.items, was.1) (groups (g.S.Store.view it.store) (g.S.Store.view c.put_group.new.store) c.len-position.result it.settled it.prepared it.starts.items it.header it.pending
-          (c.in_ok-put_group.ensures.ok clean) was.0 position),
+          (c.in_ok-put_group.ensures.ok clean) was.0 position c.in_ok-put_group.ensures.short),
       rw c.clear.ensures (omega arith),
       subst (λ (v : View). CountsOutcomes v it.numbers) (sym (c.in_ok-put_group.ensures.ok clean).is) was.2,
     )
