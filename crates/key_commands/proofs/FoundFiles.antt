@@ -16,13 +16,14 @@ kept_in key kept c d same is = subst (λ (e : Contents). IfSome key (λ k. kept 
 
 -- what was read of a journal is read of the file of which it was opened
 pub read_of : {E : Type 0} (r : Result Reading E) (back clean : Type 0) (c written durable : Contents) (said : FileContents) (key : Option (List ℕ)) → (back → clean) → (clean → durable ≡ c)
-    → (clean → durable ≡ contents_beside durable.outcomes said) → (clean → written ≡ durable) → IfOk r (λ x. x.held.items ≡ prepared_in (contents said))
+    → (clean → durable ≡ contents_beside durable.outcomes said) → (clean → written ≡ durable) → IfOk r (λ x. x.happened.items ≡ said.events.items) → IfOk r (λ x. x.held.items ≡ prepared_in (contents said))
     → IfOk r (λ x. clean → IfSome key (λ k. x.kept ≡ written.outcomes.at (key_place k))) → IfOk r (λ x. back → ReadsFile c key x)
-read_of (Ok x) back clean c written durable said key closes same is settled those kept = λ b. let now = closes b in record {
+read_of (Ok x) back clean c written durable said key closes same is settled events those kept = λ b. let now = closes b in record {
+  happened_are = events ∙ ap (λ (d : Contents). d.events) (sym (is now) ∙ same now);
   held_are = those ∙ ap prepared_in (sym (is now) ∙ same now);
   kept_is = kept_in key x.kept written c (settled now ∙ same now) (kept now);
 }
-read_of (Err e) back clean c written durable said key closes same is settled those kept = tt
+read_of (Err e) back clean c written durable said key closes same is settled events those kept = tt
 
 -- and what it says then is what it said
 pub same_of : {T E : Type 0} (r : Result T E) (back clean : Type 0) (c durable now after : Contents) → (back → clean) → (clean → durable ≡ c) → IfOk r (λ _. clean → now ≡ durable) → after ≡ now

@@ -1,3 +1,5 @@
 mod Marks
+mod Objects
+mod Told
 mod FoundFiles
 mod Tells

@@ -64,7 +64,7 @@ neither n true b = refl
 neither n false b = refl
 
 -- a transaction is open where it began and didn't end
-open_is : (u : ℕ) (ks : List EventKind) → is_open (summary (events_of_kinds ks)) u ≡ (nat_lt u (count_by is_begin ks) && not (list_any (is_end_of u) ks))
+pub open_is : (u : ℕ) (ks : List EventKind) → is_open (summary (events_of_kinds ks)) u ≡ (nat_lt u (count_by is_begin ks) && not (list_any (is_end_of u) ks))
 open_is u ks =
     neither (nat_lt u (begins (events_of_kinds ks))) (is_among (commits (events_of_kinds ks)) u) (is_among (aborts (events_of_kinds ks)) u)
     ∙ ap₂ (λ n b. nat_lt u n && not b) (sym (begun_by ks) ∙ length-filter is_begin ks) (all_ended u ks)

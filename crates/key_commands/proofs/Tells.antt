@@ -2,25 +2,38 @@
 use Rattle.std.proofs.Common.{◌≡◌, ◌∙◌, ℕ, true, false, Bool, List, Option, None, Some, IfSome, ap, ap₂, subst, sym, inl, inr}
 use Rattle.std.specs.Prelude.{IfNone, if◌then◌else◌}
 use Rattle.std.proofs.lemmas.Bool.{cases_Bool}
-use Rattle.std.specs.List.{list_any}
+use Rattle.std.specs.List.{flat_map, list_any}
 use Rattle.sqlite_trees.specs.Tree.{Trees}
 use Rattle.transaction_key.specs.TransactionKey.{is_transaction_key}
 use Rattle.journal.specs.declared.outcome_row.KeyedOutcome.{KeyedOutcome}
 use Rattle.journal.specs.declared.prepared_row.Prepared.{Prepared}
+use Rattle.journal.specs.Contents.{contents_of}
 use Rattle.command_files.specs.declared.status.Verdict.{Verdict}
 use Rattle.command_files.specs.declared.status.Verdict.TheVariants.{Yes}
 use Rattle.key_commands.specs.declared.key_outcome.Fate.{Fate}
+use Rattle.key_commands.specs.declared.held_transactions.HeldTransaction.{HeldTransaction}
 use Rattle.key_commands.specs.declared.reading.Reading.{Reading}
-use Rattle.key_commands.specs.Held.{has_key}
+use Rattle.event_text.specs.EventText.{events_of_kinds}
+use Rattle.key_commands.specs.Held.{has_key, prepared_in}
 use Rattle.key_commands.specs.Keys.{outcome_for}
 use Rattle.key_commands.specs.Outcome.{TellsOutcome, fate_by, fate_text, fate_verdict}
-use Rattle.key_commands.specs.Prepared.{TellsPrepared, prepared_text}
+use Rattle.key_commands.specs.Prepared.{AreHeldTransactions, TellsPrepared, held_line}
 use Rattle.key_commands.specs.Reading.{ReadsPath}
 
--- the lines of those that were read
-pub tells_prepared : (clean : Type 0) (found left : Option Trees) (r : Reading) (text : List ℕ) → ReadsPath clean found left None r → text ≡ prepared_text r.held.items → TellsPrepared clean found left Yes text
-tells_prepared clean None left r text read is = λ now. tt
-tells_prepared clean (Some was) left r text read is = λ now. let it = read now in (is ∙ ap prepared_text it.0.held_are, it.1)
+-- the lines of those that were read, with the objects that the events say
+pub tells_prepared : (clean : Type 0) (found left : Option Trees) (r : Reading) (told : List HeldTransaction) (text : List ℕ) → ReadsPath clean found left None r
+    → AreHeldTransactions (events_of_kinds r.happened.items) r.held.items told → text ≡ flat_map held_line told → TellsPrepared clean found left Yes text
+tells_prepared clean None left r told text read are is = λ now. tt
+tells_prepared clean (Some was) left r told text read are is = λ now.
+    let it = read now in
+    let those : AreHeldTransactions (events_of_kinds r.happened.items) (prepared_in (contents_of was)) told = subst (λ ps. AreHeldTransactions (events_of_kinds r.happened.items) ps told) it.0.held_are are in (
+      record {
+        told = told;
+        are = subst (λ ks. AreHeldTransactions (events_of_kinds ks) (prepared_in (contents_of was)) told) it.0.happened_are those;
+        lines = is;
+      },
+      it.1,
+    )
 
 -- the line of what became of the transaction of a key
 pub tells_outcome : (clean : Type 0) (found left : Option Trees) (key : List ℕ) (r : Reading) (fate : Fate) (verdict : Verdict) (text : List ℕ) → is_transaction_key key ≡ true

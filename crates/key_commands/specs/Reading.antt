@@ -8,6 +8,7 @@ use Rattle.key_commands.specs.Held.{prepared_in}
 
 -- of a file that says this, with what is kept at the place of a key, where one is asked for
 pub record ReadsFile (c : Contents) (key : Option (List ℕ)) (r : Reading) : Type 0 where
+  pub happened_are : r.happened.items ≡ c.events
   pub held_are : r.held.items ≡ prepared_in c
   pub kept_is : IfSome key (λ k. r.kept ≡ c.outcomes.at (key_place k))
 

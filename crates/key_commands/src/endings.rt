@@ -52,7 +52,7 @@ fn keep_marked(held: &mut Vec<Prepared>, one: &Prepared, marks: &[bool]) -> Resu
 /// # Errors
 ///
 /// Memory was refused.
-fn open_marks(alloc: Global, happened: &[EventKind]) -> Result<Vec<bool>, AllocError>
+pub(crate) fn open_marks(alloc: Global, happened: &[EventKind]) -> Result<Vec<bool>, AllocError>
     ensures { IfOk result (λ marks. (t : ℕ) → slice_index_or marks.items t false ≡ is_open (summary (events_of_kinds happened.now)) t) }
 {
     let mut marks = vec![in alloc; true; begun(happened)]?;
@@ -97,7 +97,7 @@ fn unmark(marks: &mut Vec<bool>, t: u32)
 }
 
 /// Whether transaction t is open.
-fn is_marked(marks: &[bool], t: u32) -> bool
+pub(crate) fn is_marked(marks: &[bool], t: u32) -> bool
     ensures { result ≡ slice_index_or marks.now t false }
 {
     let place = t as usize;

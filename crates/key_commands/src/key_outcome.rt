@@ -93,7 +93,7 @@ fn told_at<'a, D: Databases>(
 fn fate_of(reading: Reading, key: &TransactionKey) -> Fate
     ensures { result ≡ fate_by (list_any (has_key key.now) reading.held.items) (outcome_for key.now reading.kept) }
 {
-    let Reading { held, kept } = reading;
+    let Reading { held, kept, .. } = reading;
     if is_prepared(&held, key) {
         return Fate::Prepared;
     }

@@ -3,9 +3,12 @@
 
 mod endings;
 mod faults;
+mod held_transactions;
 mod key_outcome;
 mod prepared_list;
 mod reading;
 
 pub use key_outcome::tell_outcome;
 pub use prepared_list::tell_prepared;
+
+pub mod worked;

@@ -16,6 +16,7 @@ use crate::faults::{fault_of_journal, fault_of_unopened};
 use command_files::Fault;
 use database_files::{Databases, TornWrites};
 use journal::{FileContents, Journal, KeyedOutcome, Prepared};
+use object_trait::EventKind;
 use sqlite_trees::store::Alter;
 use std::alloc::Global;
 use transaction_key::TransactionKey;
@@ -23,6 +24,8 @@ use transaction_key::TransactionKey;
 /// What was read of a file.
 #[derive(Drop)]
 pub(crate) struct Reading {
+    /// The events of the present epoch.
+    pub(crate) happened: Vec<EventKind>,
     /// The transactions that are prepared and not decided, in the order of their rows.
     pub(crate) held: Vec<Prepared>,
     /// What is kept at the place of the key, where one was asked for.
@@ -69,7 +72,7 @@ fn read_in<'a, S: Alter>(
 {
     match Journal::open(alloc, trees) {
         Ok((mut journal, said)) => {
-            let reading = read_journal(alloc, path, key, &said, &mut journal);
+            let reading = read_journal(alloc, path, key, said, &mut journal);
             (reading, journal.into_store())
         }
         Err((error, trees)) => (Err(fault_of_journal(path, error)), trees),
@@ -81,11 +84,12 @@ fn read_journal<'a, S: Alter>(
     alloc: Global,
     path: &'a str,
     key: Option<&TransactionKey>,
-    said: &FileContents,
+    said: FileContents,
     journal: &mut Journal<S>,
 ) -> Result<Reading, Fault<'a>>
     requires { IsJournal S.Store journal.old }
-    ensures held { IfOk result (λ reading. reading.held.items ≡ prepared_in (contents said.now)) }
+    ensures happened { IfOk result (λ reading. reading.happened.items ≡ said.events.items) }
+    ensures held { IfOk result (λ reading. reading.held.items ≡ prepared_in (contents said)) }
     ensures kept { IfOk result (λ reading. Clean S.Store journal.new → IfSome (option_copied key.entry) (λ k. reading.kept ≡ (written S.Store journal.old).outcomes.at (key_place k))) }
     ensures same { IfOk result (λ _. Clean S.Store journal.new → durable S.Store journal.new ≡ durable S.Store journal.old) }
     ensures clean { Clean S.Store journal.new → Clean S.Store journal.old }
@@ -93,7 +97,11 @@ fn read_journal<'a, S: Alter>(
 {
     let kept = kept_under(alloc, path, key, journal)?;
     let held = undecided(alloc, &said.events, &said.prepared)?;
-    Ok(Reading { held, kept })
+    Ok(Reading {
+        happened: said.events,
+        held,
+        kept,
+    })
 }
 
 /// What is kept at the place of the key, where one is asked for.

@@ -11,7 +11,7 @@ returns-in-Ok-clause-read g c =
     let closes : IsClean (g.S.Store.view c.into_store.result) → Clean g.S.Store c.read_journal-reading.new.journal = subst (λ (s : g.row.S.Denot). IsClean (g.S.Store.view s)) c.into_store.ensures in
     let opened = c.read_journal-reading.ensures.clean in
     read_of c.read_journal-reading.result _ _ _ (written g.S.Store was) (durable g.S.Store was) c.in-Ok.said _ closes (λ now. c.in-Ok.ensures.same (opened now)) (λ now. c.in-Ok.ensures.said (opened now))
-    (λ now. c.in-Ok.ensures.settled (opened now)) c.read_journal-reading.ensures.held c.read_journal-reading.ensures.kept
+    (λ now. c.in-Ok.ensures.settled (opened now)) c.read_journal-reading.ensures.happened c.read_journal-reading.ensures.held c.read_journal-reading.ensures.kept
 
 pub returns-in-Ok-clause-same : goal.returns-in-Ok-clause-same
 returns-in-Ok-clause-same g c =
