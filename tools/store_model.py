@@ -121,8 +121,8 @@ class Model:
         return self.carried.get(t, (self.life, t))
 
     def open_by(self, s, name):
-        """The number of the open transaction of this name, or none: a carried one has two."""
-        return next((t for t in s.open_ones() if name in (self.name_of(t), (self.life, t))), None)
+        """The number of the open transaction of this name, or none."""
+        return next((t for t in s.open_ones() if name == self.name_of(t)), None)
 
     def held(self, t):
         """The transaction of this number as it is prepared, or none."""

@@ -15,6 +15,7 @@ use Rattle.committed_states.specs.Committed.{of_these}
 use Rattle.carried_runs.specs.Carried.{IsCarriedOrder, begins_from, carried_by, carried_summary, done_again, number_in, renumbered}
 use Rattle.carried_runs.proofs.InRun.{of-chosen}
 use Rattle.carried_runs.proofs.Renumbering.{at-renumbered, number-below, ops-renumbered}
+use Rattle.serving.proofs.OneName.{number-one}
 use Rattle.held_votes.specs.VotesHeld.{operations_at}
 
 -- ---- what the first events say
@@ -46,26 +47,6 @@ carried-says worker P U = says-again worker P (begins_from worker 0 P) [] U (say
 
 pub carried-begins : (worker : ℕ → ℕ) (P : List ℕ) (U : List Entry) → begins (carried_by worker P U) ≡ length P
 carried-begins worker P U = ap (λ (s : Summary). s.begun) (carried-says worker P U)
-
--- ---- numbers
-
--- two that have one number there are one
-pub number-one : (P : List ℕ) (t u : ℕ) → is_among P t ≡ true → number_in P u ≡ number_in P t → u ≡ t
-number-one [] t u inside same = absurd (false≢true inside)
-number-one (v ∷ P) t u inside same =
-    elim (cases_Bool (v == t)) [
-      | inl mine ↦ elim (cases_Bool (v == u)) [
-        | inl its ↦ sym (eqb-true v u its) ∙ eqb-true v t mine
-        | inr other ↦ absurd (let it : suc (number_in P u) ≡ 0 = rw (mine, other) at same in omega (arith, it))
-      ]
-      | inr apart ↦ elim (cases_Bool (v == u)) [
-        | inl its ↦ absurd (let it : 0 ≡ suc (number_in P t) = rw (apart, its) at same in omega (arith, it))
-        | inr other ↦
-            let it : suc (number_in P u) ≡ suc (number_in P t) = rw (apart, other) at same in
-            let next : number_in P u ≡ number_in P t = omega (arith, it) in
-            number-one P t u (rw apart at inside) next
-      ]
-    ]
 
 -- each is open
 pub carried-open : (worker : ℕ → ℕ) (P : List ℕ) (U : List Entry) (t : ℕ) → is_among P t ≡ true → is_open (summary (carried_by worker P U)) (number_in P t) ≡ true

@@ -20,10 +20,11 @@ use Rattle.durable_store.specs.Held.{moved_among, prepared_numbers}
 use Rattle.serving.specs.declared.extension.Extension.{Extension}
 use Rattle.serving.specs.Epochs.{closed_by, closings}
 use Rattle.serving.specs.NextEpoch.{IsNextStore}
+use Rattle.serving.proofs.OneName.{number-one}
 use Rattle.held_votes.specs.VotesHeld.{operations_at}
 use Rattle.held_votes.proofs.OwnEvents.{AreBeside, open-beside, works-beside}
 use Rattle.held_votes.proofs.Commands.{closing-beside}
-use Rattle.held_votes.proofs.Carrying.{carried-begins, carried-open, carried-works, number-one}
+use Rattle.held_votes.proofs.Carrying.{carried-begins, carried-open, carried-works}
 use Rattle.held_votes.proofs.Rows.{HaveBegun, Holds, IsBesideRow, IsIn, all-in, each-beside, each-open, holds-among, holds-prepared, in-map, in-numbers, open_rows}
 
 -- ---- an epoch ends

@@ -34,3 +34,4 @@ pub mod Moments
 pub mod CommitEvents
 pub mod AnswersFound
 pub mod KeysFound
+pub mod OneName

@@ -24,3 +24,4 @@ pub mod Prepared
 pub mod CommitsFound
 pub mod AnswersFound
 pub mod KeysFound
+pub mod Examples

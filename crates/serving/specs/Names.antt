@@ -1,7 +1,8 @@
 -- By which names a client knows its transactions.
-use Rattle.std.specs.Prelude.{◌≡◌, ℕ, ◌==◌, ◌&&◌, Bool, List, map, if◌then◌else◌, Option, Some, None, option_map}
-use Rattle.std.specs.List.{find}
+use Rattle.std.specs.Prelude.{◌≡◌, ◌≢◌, ◌<◌, ℕ, ◌==◌, ◌&&◌, Bool, List, map, if◌then◌else◌, Option, Some, None, option_map}
+use Rattle.std.specs.List.{AllByRecursion, find, list_any}
 use Rattle.carried_runs.specs.Carried.{number_in}
+use Rattle.object_trait.specs.Orders.{Pairs}
 use Rattle.object_trait.specs.declared.event.Event.{Event}
 use Rattle.journal.specs.declared.prepared_row.Prepared.{Prepared}
 use Rattle.durable_store.specs.NextStore.{GoOver}
@@ -40,9 +41,21 @@ is_named t c = (c.name.life == t.life) && (c.name.number == t.number)
 abbrev pub carried_number : List Carried → TransactionName → Option ℕ
 carried_number carried t = option_map (λ (c : Carried). c.number) (find (is_named t) carried)
 
--- the number of the transaction of this name: this life's own says it
+-- this number, unless a carried one has it
+abbrev pub unless_carried : List Carried → ℕ → Option ℕ
+unless_carried carried number = if list_any (is_numbered number) carried then None else Some number
+
+-- the number of the transaction of this name: this life's own says it, and is nobody's where one that was carried has that number
 abbrev pub number_named : KnownNames → TransactionName → Option ℕ
-number_named names t = if t.life == names.life then Some t.number else carried_number names.carried t
+number_named names t = if t.life == names.life then unless_carried names.carried t.number else carried_number names.carried t
+
+-- ---- one name each
+
+-- who was carried has a name of an earlier life, and no two have one number or one name
+pub record AreNamedApart (names : KnownNames) : Type 0 where
+  pub earlier : AllByRecursion (λ (c : Carried). c.name.life < names.life) names.carried
+  pub numbered : Pairs (λ (c d : Carried). c.number ≢ d.number) names.carried
+  pub named : Pairs (λ (c d : Carried). c.name ≢ d.name) names.carried
 
 -- ---- where they come from
 

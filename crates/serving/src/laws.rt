@@ -1,9 +1,11 @@
 //! Laws: functions that do nothing, whose contracts are the laws.
 
-ghost use Rattle.std.specs.Prelude.{◌≢◌, ◌<◌, List, ℕ, ◌++◌, length, true, Option};
+ghost use Rattle.std.specs.Prelude.{◌≡◌, ◌≢◌, ◌<◌, List, ℕ, ◌++◌, length, true, Option, Some};
 ghost use Rattle.durable_store.specs.declared.durable.Durable.{Durable};
 ghost use Rattle.serving.specs.declared.answer_line.Answered.{Answered};
+ghost use Rattle.journal.specs.Contents.{Contents};
 ghost use Rattle.request_text.specs.declared.request.Asked.{Asked};
+ghost use Rattle.request_text.specs.declared.request.TransactionName.{TransactionName};
 ghost use Rattle.serving.specs.declared.answer_line.AnswerLine.{AnswerLine as Told};
 ghost use Rattle.serving.specs.declared.extension.Extension.{Extension};
 ghost use Rattle.serving.specs.Acknowledged.{AreLast};
@@ -15,6 +17,8 @@ ghost use Rattle.serving.specs.CommitsFound.{CommitsAreFound};
 ghost use Rattle.serving.specs.KeysFound.{KeysAreFound};
 ghost use Rattle.serving.specs.Left.{Began, Survives};
 ghost use Rattle.serving.specs.Lines.{AreLines};
+ghost use Rattle.serving.specs.Names.{AreNamedApart, KnownNames, known_name, number_named};
+ghost use Rattle.serving.specs.Served.{KnewNames};
 
 use crate::answer_line::AnswerLine;
 use sqlite_trees::store::Alter;
@@ -51,4 +55,16 @@ pub fn told_keys_are_found<S: Alter>()
 pub fn no_begin_drains_where_all_goes_over()
     ensures { (waits : Option Extension) (most life : ℕ) (old new : Stored) (answer : Told) → length old.history < 4294967295
         → DoesBegin (begin_limit true waits most) life old answer new → answer ≢ AnswerLine.Draining }
+{}
+
+/// Each transaction is found by the name by which its client knows it, and by that name alone.
+pub fn each_transaction_has_one_name()
+    ensures found { (names : KnownNames) (n : ℕ) → AreNamedApart names → number_named names (known_name names n) ≡ Some n }
+    ensures alone { (names : KnownNames) (t : TransactionName) (n : ℕ) → AreNamedApart names → number_named names t ≡ Some n → t ≡ known_name names n }
+{}
+
+/// Where who was carried is named apart as a session begins, it is so in each of its epochs.
+pub fn names_stay_apart()
+    ensures { (most : ℕ) (c : Contents) (first : KnownNames) (old : Stored) (names : KnownNames)
+        → AreNamedApart first → KnewNames (Unit {0}) most c first old names → AreNamedApart names }
 {}

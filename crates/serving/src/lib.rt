@@ -30,11 +30,14 @@ pub use client::Client;
 pub use epoch_limits::EpochLimits;
 pub use extension::Extension;
 pub use laws::{
-    no_begin_drains_where_all_goes_over, told_answers_are_found, told_commits_are_found,
-    told_keys_are_found, told_transactions_are_found,
+    each_transaction_has_one_name, names_stay_apart, no_begin_drains_where_all_goes_over,
+    told_answers_are_found, told_commits_are_found, told_keys_are_found,
+    told_transactions_are_found,
 };
 pub use names::{Carried, Names};
 pub use serve_fault::ServeFault;
 pub use server::Server;
 pub use service::serve;
 pub use session::Session;
+
+pub mod worked;

@@ -4,7 +4,7 @@ ghost use Rattle.std.specs.Prelude.{◌≡◌, ◌<◌, IfOk, map};
 ghost use Rattle.object_trait.specs.Orders.{Pairs};
 ghost use Rattle.durable_store.specs.Held.{as_denied};
 ghost use Rattle.serving.specs.Does.{call_answer, denied_answer};
-ghost use Rattle.serving.specs.Names.{carried_given, carried_number, carried_over, given_names, is_numbered, known_by, known_name, number_named};
+ghost use Rattle.serving.specs.Names.{carried_given, carried_number, carried_over, given_names, is_numbered, known_by, known_name, number_named, unless_carried};
 ghost use Rattle.serving.specs.NextEpoch.{full_with};
 ghost use Rattle.std.specs.List.{find};
 
@@ -100,7 +100,7 @@ impl Names {
         ensures { result ≡ number_named self.now t }
     {
         if t.life == self.life {
-            return Some(t.number);
+            return unless_carried(&self.carried, t.number);
         }
         number_in(&self.carried, t)
     }
@@ -152,6 +152,16 @@ fn number_in(carried: &[Carried], t: TransactionName) -> Option<u32>
         Some(c) => Some(c.number),
         None => None,
     }
+}
+
+/// This number, unless one of these has it.
+fn unless_carried(carried: &[Carried], number: u32) -> Option<u32>
+    ensures { result ≡ unless_carried carried.now number }
+{
+    if carried.iter().any(|c| c.number == number) {
+        return None;
+    }
+    Some(number)
 }
 
 /// Those that are prepared, each by the name that its client was given.
