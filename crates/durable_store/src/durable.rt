@@ -2,7 +2,7 @@
 
 ghost use Rattle.std.specs.Prelude.{◌≡◌, ◌⊎◌, ◌<◌, [], ◌∷◌, length, Some, slice_get, IfErr, IfOk, OnOk, ℕ, ◌++◌, ◌&&◌, false, drop, take};
 ghost use Rattle.sqlite_trees.specs.Tree.{Trees};
-ghost use Rattle.event_text.specs.EventText.{events_of_kinds};
+ghost use Rattle.event_text.specs.EventText.{AreShort, event_lines, events_of_kinds};
 ghost use Rattle.journal.specs.Contents.{IsFile, contents_of};
 ghost use Rattle.journal.specs.Journal.{Clean, IsAsWritten, ShowsCommit, durable, may_leave, written, IsNumbered, IsOpen, IsJournal};
 ghost use Rattle.table_checker.specs.Checked.{Checked};
@@ -298,6 +298,31 @@ impl<S: Alter> Durable<S> {
         ensures crash { OutcomesStay S.Store self.old self.new }
     {
         self.journal.events(alloc, from, count)
+    }
+
+    /// The lines of all events of the history, oldest first, each with a LF, as the file has them: also of those of which the
+    /// store has let go.
+    ///
+    /// # Errors
+    ///
+    /// As `types`.
+    pub fn event_lines(&mut self, alloc: Global) -> Result<Vec<u8>, JournalError>
+        requires sound { IsDurable S.Store self.old }
+        requires shows { ShowsCommit S.Store self.old.journal }
+        ensures said { IfOk result (λ lines. Clean S.Store self.new.journal → lines.items ≡ event_lines (written S.Store self.old.journal).events) }
+        ensures happened { IfOk result (λ lines. Clean S.Store self.new.journal → lines.items ≡ event_lines (kinds self.old.store.history)) }
+        ensures short { OnOk result (Clean S.Store self.new.journal → AreShort (written S.Store self.old.journal).events) }
+        ensures sound { OnOk result (IsDurable S.Store self.new) }
+        ensures store { self.new.store ≡ self.old.store }
+        ensures prepared { self.new.prepared ≡ self.old.prepared }
+        ensures life { self.new.journal.header ≡ self.old.journal.header }
+        ensures written { OnOk result (Clean S.Store self.new.journal → written S.Store self.new.journal ≡ written S.Store self.old.journal) }
+        ensures settled { OnOk result (KeepsSettled S.Store self.old self.new) }
+        ensures shows { OnOk result (ShowsCommit S.Store self.new.journal) }
+        ensures clean { Clean S.Store self.new.journal → Clean S.Store self.old.journal }
+        ensures crash { OutcomesStay S.Store self.old self.new }
+    {
+        self.journal.event_lines(alloc)
     }
 
     /// Makes durable all that was written: after `Ok` no crash takes any of it away. The store lets go of the
