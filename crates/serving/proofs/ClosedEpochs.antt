@@ -35,19 +35,6 @@ use Rattle.serving.proofs.LaterEpochs.{is-store-of, left-more, left-then, writes
 
 -- ---- the text of an epoch
 
--- of the objects and of all events that a file has
-pub text-told : {S : Type 0} (g : Ghosts S) (old mid new : Durable S) (objects : List ObjectLine) (happened : List EventKind) (count : ℕ) → IsDurable g old → (Clean g mid.journal → Clean g old.journal)
-    → (Clean g new.journal → Clean g mid.journal) → (Clean g mid.journal → written g mid.journal ≡ written g old.journal) → count ≡ length old.store.history
-    → (Clean g mid.journal → objects ≡ (written g old.journal).objects) → (Clean g new.journal → happened ≡ take count (drop 0 (written g mid.journal).events))
-    → Clean g new.journal → canonical_text objects (events_of_kinds happened) ≡ text_of_epoch (written g old.journal)
-text-told g old mid new objects happened count sound was was_mid same is_count is_objects is_events now =
-    let at_mid = was_mid now in
-    let all = (written g old.journal).events in
-    let long : length old.store.history ≡ length all = ap length (sound.history (was at_mid)) ∙ length-map all (λ k. let e : Event = record { worker = 0; kind = k } in e) in
-    let many : length all ≤ count = omega (arith, long, is_count) in
-    let whole : happened ≡ all = is_events now ∙ ap (λ (c : Contents). take count (drop 0 c.events)) (same at_mid) ∙ take_all count all many in
-    ap₂ (λ os es. canonical_text os (events_of_kinds es)) (is_objects at_mid) whole
-
 -- it is kept under what the file says of itself
 pub text-kept : {S : Type 0} (g : Ghosts S) (mid new : Durable S) (kept kept_now : Option (List KeptHistory)) (header : Header) (text : List ℕ) → IsJournal g mid.journal → ShowsCommit g mid.journal
     → (Clean g new.journal → Clean g mid.journal) → (Clean g new.journal → written g new.journal ≡ written g mid.journal) → header ≡ mid.journal.header

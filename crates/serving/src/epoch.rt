@@ -1,7 +1,6 @@
 //! The end of an epoch: its history goes to an archive, before the file begins anew.
 
 ghost use Rattle.std.specs.Prelude.{◌≡◌, [], ◌∷◌, Some, false, true, is_some, OnOk, IfOk};
-ghost use Rattle.event_text.specs.EventText.{events_of_kinds};
 ghost use Rattle.journal.specs.Journal.{Clean, ShowsCommit, durable, written};
 ghost use Rattle.durable_store.specs.Durable.{IsDurable, kinds, with_all, OutcomesStay, WritesSince};
 ghost use Rattle.durable_store.specs.Epochs.{GoesOver, LeavesEpoch, renewed_with};
@@ -11,19 +10,18 @@ ghost use Rattle.serving.specs.Archives.{KeepsEpochs, text_of_epoch};
 ghost use Rattle.serving.specs.Epochs.{LeavesEpochs, WritesEpochs, closed_by, closings};
 ghost use Rattle.serving.specs.Follows.{LeavesMore, LeavesWritten, WritesMore};
 ghost use Rattle.serving.specs.Requests.{LetsGo};
-ghost use Rattle.history_text.specs.Canonical.{canonical_text};
+ghost use Rattle.epoch_text.specs.EpochText.{text_with_lines};
 
 use crate::answer_line::{AnswerLine, Answered};
 use crate::archive::Archive;
 use crate::extension::Extension;
 use crate::serve_fault::ServeFault;
 use durable_store::Durable;
-use history_text::write_history;
+use epoch_text::{lines_are_canonical, write_epoch};
 use journal::JournalError;
-use object_trait::{Event, EventKind};
 use outputs::Sink;
 use sqlite_trees::store::Alter;
-use std::alloc::{AllocError, Global};
+use std::alloc::Global;
 use store_text::ObjectLine;
 
 /// Gives the history of the epoch to the archive, and begins another epoch, all of it durable: with the objects of what waits, which is
@@ -231,44 +229,25 @@ fn epoch_text<S: Alter>(alloc: Global, store: &mut Durable<S>) -> Result<Vec<u8>
     ensures clean { Clean S.Store store.new.journal → Clean S.Store store.old.journal }
     ensures crash { OutcomesStay S.Store store.old store.new }
 {
+    lines_are_canonical();
     let objects = store.objects(alloc)?;
-    let count = store.store().event_count() as usize;
-    let happened = store.events(alloc, 0, count)?;
-    text_of(alloc, &objects, &happened)
+    let lines = store.event_lines(alloc)?;
+    text_of(alloc, &objects, &lines)
 }
 
-/// The text of a history of these objects and events, all by worker 0.
+/// The text of a history of these objects, with these lines of events.
 ///
 /// # Errors
 ///
 /// Memory was refused.
-fn text_of(
-    alloc: Global,
-    objects: &[ObjectLine],
-    happened: &[EventKind],
-) -> Result<Vec<u8>, ServeFault>
-    ensures { IfOk result (λ text. text.items ≡ canonical_text objects.now (events_of_kinds happened.now)) }
+fn text_of(alloc: Global, objects: &[ObjectLine], lines: &[u8]) -> Result<Vec<u8>, ServeFault>
+    ensures { IfOk result (λ text. text.items ≡ text_with_lines objects.now lines.now) }
 {
-    let events = events_of(alloc, happened)?;
     let mut text = Sink::new(Vec::new(alloc));
-    match write_history(objects, &events, &mut text) {
+    match write_epoch(objects, lines, &mut text) {
         Ok(()) => Ok(text.into_inner()),
         Err(_) => Err(ServeFault::NoMemory),
     }
-}
-
-/// These events, all by worker 0.
-fn events_of(alloc: Global, happened: &[EventKind]) -> Result<Vec<Event>, AllocError>
-    ensures { IfOk result (λ all. all.items ≡ events_of_kinds happened.now) }
-{
-    let mut events = Vec::with_capacity(alloc, happened.len())?;
-    for kind in happened {
-        events.push_reserved(Event {
-            worker: 0,
-            kind: *kind,
-        });
-    }
-    Ok(events)
 }
 
 /// Begins another epoch, where nothing is open but what goes over: with the objects of what waits, which is answered then.
