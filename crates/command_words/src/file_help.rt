@@ -103,9 +103,10 @@ Usage: colock prepared DATABASE
 DATABASE is the path of the file of a store, as colock create makes it. Nothing
 of it changes.
 
-  KEY S.N UNTIL
+  KEY S.N UNTIL [X]..
       A transaction is prepared under KEY. Its name is S.N: it began as number
-      N in the store's life S. UNTIL is the number that its client gave. The
+      N in the store's life S. UNTIL is the number that its client gave. Each X
+      is the number of an object at which it holds operations; they ascend. The
       lines are in the order in which the transactions were prepared, and there
       is none where no transaction is.
 
