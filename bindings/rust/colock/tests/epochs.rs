@@ -5,6 +5,7 @@ mod common;
 
 use colock::{Attempt, Decision, Ending, Error, KeyOutcome, Kind, OpenOptions, Reply, Retry, SharedStore, SharedTransaction, TransactionId, Type};
 use common::{id, one_way, program, until, until_asleep, Folder, LONG};
+use std::fs;
 use std::process::Command;
 use std::thread;
 
@@ -26,6 +27,17 @@ fn again(folder: &Folder) -> SharedStore {
     OpenOptions::new().program(program()).open(folder.file("a.db")).unwrap()
 }
 
+/// The same, with an archive.
+fn archived(folder: &Folder, options: OpenOptions<'_>) -> SharedStore {
+    options.archive(folder.file("old")).drain(1).program(program()).open(folder.file("a.db")).unwrap()
+}
+
+/// A store in a new file of these objects, with an archive.
+fn newly_archived(folder: &Folder, objects: &[&Type]) -> SharedStore {
+    fs::create_dir(folder.file("old")).unwrap();
+    archived(folder, OpenOptions::new().objects(objects).create(true))
+}
+
 /// Ends the epoch, by one object more.
 fn end_epoch(store: &SharedStore) {
     store.extend([&counter()]).unwrap();
@@ -45,6 +57,18 @@ fn of_two_lives(store: &SharedStore) -> (SharedTransaction<'_>, SharedTransactio
     let mut second = store.begin().unwrap();
     second.expect(1, "inc:1", "ok").unwrap();
     (first, second)
+}
+
+/// A transaction that has counted up at the first object.
+fn up(store: &SharedStore) -> SharedTransaction<'_> {
+    let mut t = store.begin().unwrap();
+    t.expect(0, "inc:1", "ok").unwrap();
+    t
+}
+
+/// What is said of each.
+fn told(store: &SharedStore, ids: &[TransactionId]) -> Vec<Option<bool>> {
+    ids.iter().map(|id| store.committed(*id).unwrap()).collect()
 }
 
 fn busy(blocker: &str) -> Result<Reply, Error> {
@@ -225,6 +249,39 @@ fn it_is_prepared_in_a_later_life() {
     store.close().unwrap();
 }
 
+/// Of five of one life one ends in its epoch, and the others in the three epochs after it and in the present one, by the archive.
+#[test]
+fn what_went_over_is_told_by_later_epochs() {
+    let (folder, of) = (Folder::new(), counter());
+    let store = newly_archived(&folder, &[&of]);
+    let [first, second, third, mut fourth, mut fifth] = [(); 5].map(|()| up(&store));
+    let ids = [&first, &second, &third, &fourth, &fifth].map(|t| t.id().unwrap());
+    first.commit().unwrap();
+    end_epoch(&store);
+    third.commit().unwrap();
+    assert_eq!(told(&store, &ids), [Some(true), None, Some(true), None, None]);
+    end_epoch(&store);
+    second.abort().unwrap();
+    fourth.prepare("a", 7).unwrap();
+    fifth.prepare("b", 7).unwrap();
+    end_epoch(&store);
+    assert_eq!(told(&store, &ids), [Some(true), Some(false), Some(true), None, None]);
+    kill(&store);
+    until(|| store.kept(0).is_err());
+    drop((fourth, fifth));
+    drop(store);
+    for (key, decision, wanted) in [("a", Decision::Commit, [Some(true), None]), ("b", Decision::Abort, [Some(true), Some(false)])] {
+        let store = archived(&folder, OpenOptions::new());
+        store.decide(key, decision).unwrap();
+        assert_eq!(told(&store, &ids), [&[Some(true), Some(false), Some(true)], &wanted[..]].concat());
+        store.close().unwrap();
+    }
+    let store = archived(&folder, OpenOptions::new());
+    assert_eq!(told(&store, &ids), [true, false, true, true, false].map(Some));
+    store.close().unwrap();
+    assert_eq!(told(&again(&folder), &ids), [None; 5]);
+}
+
 /// With its child what is open is lost, of whatever life, and who waits is told so.
 #[test]
 fn a_child_is_killed_in_a_later_life() {
@@ -271,6 +328,22 @@ fn what_is_open_is_aborted_where_a_yes_is_one_way() {
     assert_eq!((t.call(0, "inc:1"), t.rollback(1)), (Err(Error::EpochEnded), Err(Error::EpochEnded)));
     assert_eq!((store.begin().unwrap().begun().map(|id| id.life), t.commit(), idle.prepare("a", 0)), (Ok(2), Err(Error::EpochEnded), Err(Error::EpochEnded)));
     assert_eq!((store.kept(0), store.open_count(), store.outcome("a")), (Ok(0), Ok(0), Ok(KeyOutcome::Unknown)));
+    store.close().unwrap();
+}
+
+/// What is prepared goes over, in the place of one that was aborted.
+#[test]
+fn what_was_prepared_is_told_where_a_yes_is_one_way() {
+    let (folder, of) = (Folder::new(), counter());
+    let store = newly_archived(&folder, &[&of, &one_way()]);
+    let (first, mut second) = (up(&store), up(&store));
+    let ids = [&first, &second].map(|t| t.id().unwrap());
+    second.prepare("a", 7).unwrap();
+    end_epoch(&store);
+    assert_eq!(told(&store, &ids), [Some(false), None]);
+    up(&store).abort().unwrap();
+    store.decide("a", Decision::Commit).unwrap();
+    assert_eq!((told(&store, &ids), first.commit()), (vec![Some(false), Some(true)], Err(Error::EpochEnded)));
     store.close().unwrap();
 }
 

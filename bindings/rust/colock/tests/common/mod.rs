@@ -66,6 +66,24 @@ pub fn write_program(path: &Path, text: &str) {
     assert!(writer.wait().unwrap().success());
 }
 
+/// Writes a file of which nothing is there but the table with the id of a store: a page that names the table, and one with its row.
+pub fn write_store_id(path: &Path, id: [u8; 16]) {
+    const SIZE: usize = 512;
+    let mut pages = [0; 2 * SIZE];
+    pages[16..18].copy_from_slice(&512_u16.to_be_bytes());
+    // the columns of a row have their kinds in a header: text of 5 bytes is 23, 16 bytes are 44
+    let table = b"\x15\x01\x05\x17\x17\x17\x01tablestorestore\x02";
+    let row = [&[23, 1, 5, 0, 1, 44, 1, 3][..], &id, &[5]].concat();
+    for (page, leaf, cell) in [(0, 100, &table[..]), (SIZE, 0, &row)] {
+        let at = SIZE - cell.len();
+        pages[page + leaf] = 13;
+        pages[page + leaf + 4] = 1;
+        pages[page + leaf + 8..][..2].copy_from_slice(&(at as u16).to_be_bytes());
+        pages[page + at..][..cell.len()].copy_from_slice(cell);
+    }
+    fs::write(path, pages).unwrap();
+}
+
 /// A store, with the folder of its file where it has one.
 pub struct Fixture {
     store: SharedStore,
