@@ -25,7 +25,7 @@ from ._errors import (
 from ._events import Event, read_event
 from ._keys import PREPARED, UNKNOWN, Aborted, Committed, Outcome
 from ._objects import Given
-from ._outcomes import Archive, outcome_in
+from ._outcomes import Archive, History, outcome_in
 from ._prepared import PreparedTransaction, told_in
 from ._reads import Moment, Seen, States
 from ._replies import Operation
@@ -194,14 +194,16 @@ class Asking(Backend):
         self._check_connection()
         # by which the present life is known
         yield from self.moment()
-        if life == self.life:
+        present = self.life
+        if life == present:
             return (yield from self._of_this_life(number))
         if life + 1 == self._first_life:
-            return (yield from self._of_the_life_before(number))
+            return (yield from self._of_the_life_before(number, present))
         # An archived history is named by the store and the last life of its epoch. Of an earlier life of the epoch it
         # isn't certain: what was lost by a crash left its number to a later transaction. So only the file of this very
         # life says it.
-        return outcome_in(self._archived(life), number)
+        lines = self._archived(life)
+        return None if lines is None else (yield from self._since(History(life, lines), number, present))
 
     def _of_this_life(self, number: int) -> Steps[Optional[bool]]:
         """By the events of this life: those after what was found and aborted as the store was opened."""
@@ -209,22 +211,47 @@ class Asking(Backend):
             return outcome_in((yield from self._lines_of_this_life(0)), number)
         return None if self._found is None else outcome_in((yield from self._lines_of_this_life(sum(self._found))), number)
 
-    def _of_the_life_before(self, number: int) -> Steps[Optional[bool]]:
+    def _of_the_life_before(self, number: int, present: int) -> Steps[Optional[bool]]:
         """By the events that were found when this opening began, in the life that followed.
 
         Each opening and each new epoch is a life of its own, so the file was last in that life, and all that was
-        durable of it was found. What isn't among them is gone for ever, and its number may be another's now.
+        durable of it was found. What isn't among them is gone for ever, and its number may be another's now. What was open was
+        aborted then, but for what was prepared, which ends later.
         """
         if self._found is None:
             return None
-        lines = yield from self._first_lines()
-        return self._found.outcome(lines, number, self.life != self._first_life)
+        # none of them are asked for where there are none
+        lines = [] if self._found == (0, 0) else (yield from self._lines_in(self._first_life, present))
+        if lines is None or len(lines) < self._found.found:
+            return None
+        return (yield from self._since(History(self._first_life, lines), number, present)) if self._found.has(lines, number) else False
 
-    def _first_lines(self) -> Steps[Optional[List[bytes]]]:
-        """The lines of the events of the epoch in which the store was opened, where they are still to be had."""
-        if self._found == (0, 0):
-            return []
-        return (yield from self._lines_of_this_life(0)) if self.life == self._first_life else self._archived(self._first_life)
+    def _since(self, history: History, number: int, present: int) -> Steps[Optional[bool]]:
+        """By the history of an epoch in which it has this number, or by those of the epochs into which it went over."""
+        while history.life != present and outcome_in(history.lines, number) is None:
+            life = self._life_after(history.life, present)
+            lines = None if life is None else (yield from self._lines_in(life, present))
+            # no epoch goes on that was archived in this opening
+            place = history.number_after(number, lines, history.life < self._first_life)
+            if life is None or lines is None or place is None:
+                return None
+            history, number = History(life, lines), place
+        return outcome_in(history.lines, number)
+
+    def _life_after(self, life: int, present: int) -> Optional[int]:
+        """The last life of the epoch that followed one that ended in this life. None where an epoch may be missing.
+
+        An epoch begins in the next life, and each opening in it is one more. One that isn't in the archive ended in an opening
+        without it, and what was archived later had an opening of its own. So where there was one opening none is missing.
+        """
+        if life + 1 == present or (self._archive is not None and self._archive.has(life + 1)):
+            return life + 1
+        # each life after that of this opening is an epoch
+        return life + 2 if life + 1 < self._first_life else None
+
+    def _lines_in(self, life: int, present: int) -> Steps[Optional[List[bytes]]]:
+        """The lines of the events of the epoch that ended in this life, or of the present one."""
+        return (yield from self._lines_of_this_life(0)) if life == present else self._archived(life)
 
     def _archived(self, life: int) -> Optional[List[bytes]]:
         """The lines of the events of the epoch whose last life this was, by the archive, if there is one."""

@@ -43,10 +43,16 @@ class Questions:
         """What became of the transaction of this id, `S.N`, as `Transaction.id` and `OutcomeUnknown` give it.
 
         True where it is committed, False where it never will be, and None where it is open or prepared, or where it isn't
-        certain any more: of a store in memory after `renew` or `forget`, and of one in a file where neither the
-        events nor the archive say. The life before this opening is always known until an epoch ends, and then
-        by the archive. Of what outlives its epoch only `outcome` of its key says it, where it has one. Raises `ValueError` where it isn't an id,
-        and `ClosedError`, `ConnectionLost` or `OSError`.
+        certain any more: of a store in memory where a life ended by `renew`, or its end was forgotten, and of one in a file where
+        neither the events nor the archive say. The life before this opening is always known until an epoch ends, and then
+        by the archive.
+
+        One that outlived its epoch is followed through the later ones, by the archive and by the events of the present epoch, as
+        long as none but the oldest histories are taken out of the archive. It is None where an epoch may be missing: where the
+        file was opened more than once in one of them, or one doesn't begin with what went over. Then only `outcome` of its key says
+        it, where it has one. In memory it keeps its number where the store begins anew, and its end tells of it.
+
+        Raises `ValueError` where it isn't an id, and `ClosedError`, `ConnectionLost` or `OSError`.
         """
         life, number = read_id(id)
         self._check_no_turn()

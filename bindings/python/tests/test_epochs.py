@@ -19,17 +19,17 @@ MOST_ATTEMPTS, LONGEST_EPOCH = 20_000, 600.0
 
 
 class Epochs(OverChild):
-    def open(self, types):
+    def open(self, types, **options):
         """A store of these types in a file, in which what is open may go on for a second where an epoch has to end."""
         support.quietly()
         self.path = os.path.join(folder_of(self), "test.db")
-        store = Store.open(self.path, types, create=True, program=program(), drain=1)
+        store = Store.open(self.path, types, create=True, program=program(), drain=1, **options)
         self.addCleanup(support.closed, store)
         return store
 
-    def again(self):
+    def again(self, **options):
         """The store in the file once more."""
-        store = Store.open(self.path, program=program())
+        store = Store.open(self.path, program=program(), **options)
         self.addCleanup(support.closed, store)
         return store
 
@@ -38,6 +38,10 @@ class Epochs(OverChild):
         t = store.begin()
         t.expect(x, call, "ok")
         return t
+
+    def told(self, store, ids):
+        """What is said of each."""
+        return [store.committed(id) for id in ids]
 
     def end_epoch(self, store):
         """Ends the epoch, by one object more."""
@@ -184,6 +188,33 @@ class Strong(Epochs, unittest.TestCase):
             store.decide("a", Decision.COMMIT)
             self.assertEqual(store.kept(0), 5)
 
+    def test_what_went_over_is_told_by_later_epochs(self):
+        """Of five of one life one ends in its epoch, and the others in the three epochs after it and in the present one, by the archive."""
+        archive = folder_of(self)
+        store = self.open([COUNTER], archive=archive)
+        all_open = [self.up(store, call="inc:1") for _ in range(5)]
+        ids = [t.id for t in all_open]
+        first, second, third, fourth, fifth = all_open
+        first.commit()
+        self.end_epoch(store)
+        third.commit()
+        self.assertEqual(self.told(store, ids), [True, None, True, None, None])
+        self.end_epoch(store)
+        second.abort()
+        fourth.prepare("a")
+        fifth.prepare("b")
+        self.end_epoch(store)
+        self.assertEqual(self.told(store, ids), [True, False, True, None, None])
+        self.kill(store)
+        for key, decision, wanted in [("a", Decision.COMMIT, [True, None]), ("b", Decision.ABORT, [True, False])]:
+            with self.again(archive=archive) as store:
+                store.decide(key, decision)
+                self.assertEqual(self.told(store, ids), [True, False, True, *wanted])
+        with self.again(archive=archive) as store:
+            self.assertEqual(self.told(store, ids), [True, False, True, True, False])
+        with self.again() as store:
+            self.assertEqual(self.told(store, ids), [None] * 5)
+
     def test_a_kill_in_a_later_life(self):
         """With its program what is open is lost, of whatever life, and who waits is told so."""
         store = self.open([COUNTER])
@@ -221,6 +252,19 @@ class OneWay(Epochs, unittest.TestCase):
             self.assertEqual(later.id.split(".")[0], "2")
         self.assertEqual((store.kept(0), store.open_count(), store.outcome("a")), (0, 0, Unknown()))
         self.assertEqual(store._backend._open, {})
+
+    def test_what_was_prepared_is_told(self):
+        """It goes over, in the place of one that was aborted."""
+        store = self.open([COUNTER, support.one_way()], archive=folder_of(self))
+        first, second = self.up(store), self.up(store)
+        ids = [first.id, second.id]
+        second.prepare("a")
+        self.end_epoch(store)
+        self.assertEqual(self.told(store, ids), [False, None])
+        self.up(store).abort()
+        store.decide("a", Decision.COMMIT)
+        self.assertEqual(self.told(store, ids), [False, True])
+        self.assertRaises(colock.EpochEndedError, first.commit)
 
     def test_a_retry_begins_anew(self):
         store, tried = self.open([COUNTER, support.one_way()]), []

@@ -47,16 +47,14 @@ class Told(unittest.TestCase):
             self.assertIsNone(_prepared.told_in(line))
 
     def test_the_life_before(self):
-        """What was prepared there ends later, and the end of its epoch isn't its own."""
+        """What was found and is open ends later, as what was prepared. What wasn't found is gone, and its number is another's."""
         opened = _outcomes.Opened(5, 1)
         lines = [b"begin 0 0", b"begin 0 1", b"begin 0 2", b"commit 0 2", b"begin 0 3", b"abort 0 1"]
-        for more, is_over, told in [
-            ([], False, [None, False, True, None, False]),
-            ([b"commit 0 0", b"abort 0 3", b"begin 0 4", b"commit 0 4"], False, [True, False, True, False, False]),
-            ([b"commit 0 0", b"abort 0 3", b"begin 0 4", b"commit 0 4"], True, [True, False, True, None, False]),
-        ]:
-            self.assertEqual([opened.outcome(lines + more, number, is_over) for number in range(5)], told)
-        self.assertEqual([opened.outcome(of, 0, False) for of in (None, lines[:4])], [None, None])
+        ended = [*lines, b"commit 0 0", b"abort 0 3", b"begin 0 4", b"commit 0 4"]
+        for of in (lines, ended):
+            self.assertEqual([opened.has(of, number) for number in range(5)], [True, True, True, True, False])
+        self.assertEqual([_outcomes.outcome_in(lines, number) for number in range(5)], [None, False, True, None, None])
+        self.assertEqual([_outcomes.outcome_in(ended, number) for number in range(5)], [True, False, True, False, True])
 
 
 class Lines(Fakes):
