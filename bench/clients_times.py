@@ -14,13 +14,15 @@ BINDINGS = os.path.join(ROOT, "bindings")
 TURNS = programs.few(3, 1)
 SECONDS = programs.few("2", "0.05")
 SYNCS = programs.few(2_000, 20)
+# The most threads of a herd.
+HERD = programs.few("800", "10")
 PYTHON = [sys.executable, os.path.join(BINDINGS, "python", "tests", "clients_bench.py")]
 
 
 def program_of_rust(folder):
-    subprocess.run(["cargo", "build", "--quiet", "--release", "--offline", "--example", "clients_bench", "--target-dir", folder],
+    subprocess.run(["cargo", "build", "--quiet", *programs.RELEASE, "--offline", "--example", "clients_bench", "--target-dir", folder],
                    cwd=os.path.join(BINDINGS, "rust"), check=True, env={**os.environ, "COLOCK_LIB_DIR": programs.library()})
-    return os.path.join(folder, "release", "examples", "clients_bench")
+    return os.path.join(folder, programs.RELEASED, "examples", "clients_bench")
 
 
 def told(folder, *words):
@@ -65,7 +67,7 @@ def of_python(folder):
 
 def of_herds(folder, program):
     """The least time of a hand-over, by how many wait. The programs print how many there are in a second."""
-    parts = {"Rust": [[program, "herd"], [program, "herd", os.path.join(folder, "herd.db")]], "Python": [[*PYTHON, "herd"]]}
+    parts = {"Rust": [[program, "herd", HERD], [program, "herd", HERD, os.path.join(folder, "herd.db")]], "Python": [[*PYTHON, "herd", HERD]]}
     for language, commands in parts.items():
         for name, number in most(folder, commands).items():
             print(f"{language}: {name} {1e6 / number:,.1f} microseconds a hand-over", flush=True)

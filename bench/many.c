@@ -14,7 +14,12 @@
 #include <string.h>
 #include <time.h>
 
+/* FEW is for `bench/run each`. */
+#ifdef FEW
+enum { MOST = 4096, OPEN = 1024, COMMITS = 1000, TURNS = 20 };
+#else
 enum { MOST = 65536, OPEN = 16384, COMMITS = 100000, TURNS = 2000 };
+#endif
 
 static uint64_t call;
 

@@ -18,8 +18,9 @@ def few(usual, least):
     return least if SHARED else usual
 
 
-# How rustc optimizes: to compile takes most of the time of `bench/run each`.
-OPTIMIZED = few(["-O", "-C", "codegen-units=1"], ["-C", "opt-level=1"])
+# How rustc and cargo optimize, and cargo's name for that. To compile takes most of the time of `bench/run each`.
+OPTIMIZED = few(["-O", "-C", "codegen-units=1"], [])
+RELEASE, RELEASED = few((["--release"], "release"), ([], "debug"))
 
 # How many commands a run has where nothing else is said, and how often programs take turns.
 COMMANDS = few(200_000, 2_000)
@@ -90,15 +91,15 @@ def library_of_rust(folder):
     """The program of `bench/library`."""
     environment = {**os.environ, "COLOCK_LIB_DIR": library()}
     target = os.path.join(SHARED or folder, "target")
-    subprocess.run(["cargo", "build", "--quiet", "--release", "--offline", "--target-dir", target],
+    subprocess.run(["cargo", "build", "--quiet", *RELEASE, "--offline", "--target-dir", target],
                    cwd=os.path.join(HERE, "library"), env=environment, check=True)
-    return os.path.join(target, "release", "library")
+    return os.path.join(target, RELEASED, "library")
 
 
 def library_of_c(folder, name="library"):
     """The program of `bench/library.c`, or of another such file."""
-    return compiled(folder, f"{name}_c", "cc", "-O2", "-Wall", "-Wextra", os.path.join(HERE, f"{name}.c"), f"-I{C}",
-                    os.path.join(library(), "libcolock.a"))
+    words = ["cc", "-O2", "-Wall", "-Wextra", *few([], ["-DFEW"]), os.path.join(HERE, f"{name}.c"), f"-I{C}"]
+    return compiled(folder, f"{name}_c", *words, os.path.join(library(), "libcolock.a"))
 
 
 def printed(words):

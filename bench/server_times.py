@@ -26,10 +26,8 @@ SCRIPT = "local n = tonumber(redis.call('get', KEYS[1])) if n < 1 then return 's
 
 def released():
     """The folder of the server and of what asks it, made by cargo."""
-    # without optimization the gate has built it before
-    how, name = programs.few((["--release"], "release"), ([], "debug"))
-    subprocess.run(["cargo", "build", "--offline", "--quiet", *how], cwd=ROOT, check=True)
-    return os.path.join(os.environ.get("CARGO_TARGET_DIR") or os.path.join(ROOT, "target"), name)
+    subprocess.run(["cargo", "build", "--offline", "--quiet", *programs.RELEASE], cwd=ROOT, check=True)
+    return os.path.join(os.environ.get("CARGO_TARGET_DIR") or os.path.join(ROOT, "target"), programs.RELEASED)
 
 
 # ---- the server

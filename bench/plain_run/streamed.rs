@@ -33,6 +33,9 @@ struct Entry {
     stage: Stage,
 }
 
+/// The operation that was executed, and the number of its entry; else the slot of who was in the way, or none.
+type Called = Result<(u8, u32), Option<u32>>;
+
 /// An operation of an open transaction, with the number of its entry.
 #[derive(Clone, Copy)]
 pub struct Own {
@@ -128,9 +131,37 @@ impl Object<'_> {
         self.closed = 0;
     }
 
-    /// In escrow: executes the first of these operations that is legal and free, or answers who is in the way of the first
-    /// that is legal.
-    fn call_number(&mut self, slot: u16, operations: u64) -> Result<u8, Option<u32>> {
+    /// Executes the first of these operations that is legal and free, where a transaction sees a state of its own or none. The
+    /// operation and the number of its entry, or who is in the way of the first that is legal.
+    #[inline(always)]
+    fn call_table(&mut self, slot: u16, operations: u64, view: &mut u16) -> Called {
+        let seen = if *view == UNSEEN { self.state } else { *view };
+        let (mut left, mut blocker) = (operations, None);
+        while left != 0 {
+            let op = left.trailing_zeros() as u8;
+            left &= left - 1;
+            let next = self.table.next(seen, op);
+            if next == ILLEGAL {
+                continue;
+            }
+            let Some(other) = self.blocker(self.table.row(op), slot) else {
+                if self.kind == Kind::Undo {
+                    self.state = next;
+                } else {
+                    if *view == UNSEEN {
+                        self.viewers.push(slot);
+                    }
+                    *view = next;
+                }
+                return Ok((op, self.push(slot, op, seen)));
+            };
+            blocker = blocker.or(Some(other.into()));
+        }
+        Err(blocker)
+    }
+
+    /// The same in escrow, without an entry.
+    fn call_number(&mut self, slot: u16, operations: u64) -> Called {
         let (number, bounds) = &mut **self.number.as_mut().expect("a number");
         let (t, mut left, mut blocker) = (slot.into(), operations, None);
         let place = number.place(t);
@@ -142,7 +173,7 @@ impl Object<'_> {
                 let bounds = bounds[op as usize];
                 let Some(other) = number.blocker(place, t, bounds) else {
                     number.apply(place, t, bounds);
-                    return Ok(op);
+                    return Ok((op, 0));
                 };
                 blocker = blocker.or(Some(other));
             }
@@ -317,50 +348,22 @@ impl<'a> Streamed<'a> {
         }
         self.room = self.room.checked_sub(1).ok_or(Refusal::HistoryFull)?;
         let text = self.slots[slot as usize].text;
-        if object.kind == Kind::Escrow {
-            let answer = match object.call_number(slot, operations) {
-                Ok(op) => {
-                    self.slots[slot as usize].own.push(Own { x, op, number: 0 });
-                    Answer::Reply(op)
-                }
-                Err(Some(other)) => Answer::Busy(self.slots[other as usize].text),
-                Err(None) => Answer::None,
-            };
-            return Ok((text, operations, answer));
-        }
-        let place = slot as usize * many + x as usize;
-        let view = if object.kind == Kind::Undo {
-            UNSEEN
-        } else {
-            self.views[place]
-        };
-        let seen = if view == UNSEEN { object.state } else { view };
-        let (mut left, mut blocker) = (operations, None);
-        while left != 0 {
-            let op = left.trailing_zeros() as u8;
-            left &= left - 1;
-            let next = object.table.next(seen, op);
-            if next == ILLEGAL {
-                continue;
+        let done = match object.kind {
+            Kind::Undo => object.call_table(slot, operations, &mut { UNSEEN }),
+            Kind::Intentions => {
+                let view = &mut self.views[slot as usize * many + x as usize];
+                object.call_table(slot, operations, view)
             }
-            let Some(other) = object.blocker(object.table.row(op), slot) else {
-                let number = object.push(slot, op, seen);
-                if object.kind == Kind::Undo {
-                    object.state = next;
-                } else {
-                    self.views[place] = next;
-                    if view == UNSEEN {
-                        object.viewers.push(slot);
-                    }
-                }
+            Kind::Escrow => object.call_number(slot, operations),
+        };
+        let answer = match done {
+            Ok((op, number)) => {
                 self.slots[slot as usize].own.push(Own { x, op, number });
-                return Ok((text, operations, Answer::Reply(op)));
-            };
-            blocker = blocker.or(Some(other));
-        }
-        let answer = blocker.map_or(Answer::None, |other| {
-            Answer::Busy(self.slots[other as usize].text)
-        });
+                Answer::Reply(op)
+            }
+            Err(Some(other)) => Answer::Busy(self.slots[other as usize].text),
+            Err(None) => Answer::None,
+        };
         Ok((text, operations, answer))
     }
 

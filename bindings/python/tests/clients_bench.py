@@ -1,8 +1,8 @@
 #!/usr/bin/env python3
-"""clients_bench.py [SECONDS | herd]: how many transactions a second threads do. Lines `name value`, a value a second.
+"""clients_bench.py [SECONDS | herd MOST]: how many transactions a second threads do. Lines `name value`, a value a second.
 
-Each part runs this many seconds (2). With `herd` 10 threads, 100, 400 and 800 wait for one object, and each commits as
-soon as it has it. Without the program the parts over a child are left out.
+Each part runs this many seconds (2). With `herd` 10 threads, 100, 400 and 800, but no more than MOST, wait for one object,
+and each commits as soon as it has it; with each of these numbers there are MOST hand-overs. Without the program the parts over a child are left out.
 """
 import os
 import sys
@@ -17,9 +17,8 @@ from colock._program import find_program
 THREADS = 16
 THINK = 0.001
 
-# How many threads wait in `herd`; how many hand-overs there are with each of these numbers; the stack of such a thread.
+# How many threads wait in `herd`, and the stack of such a thread.
 HERDS = (10, 100, 400, 800)
-HAND_OVERS = 800
 STACK = 256 * 1024
 
 # A type of one call, which each other one keeps out.
@@ -153,21 +152,22 @@ def handed_over(store, waiting):
     return max(ends) - start
 
 
-def herd(store, name):
-    for waiting in HERDS:
-        seconds = sum(handed_over(store, waiting) for _ in range(HAND_OVERS // waiting))
-        told(f"{name}_{waiting}", HAND_OVERS / seconds)
+def herd(store, name, most):
+    for waiting in (waiting for waiting in HERDS if waiting <= most):
+        rounds = most // waiting
+        seconds = sum(handed_over(store, waiting) for _ in range(rounds))
+        told(f"{name}_{waiting}", rounds * waiting / seconds)
 
 
-def herds():
+def herds(most):
     threading.stack_size(STACK)
     with Store([Type(TOKEN)], 100_000_000) as store:
-        herd(store, "herd_store")
+        herd(store, "herd_store", most)
     program = program_of_children()
     if program is not None:
         with tempfile.TemporaryDirectory() as folder:
             with Store.open(os.path.join(folder, "bench.db"), [Type(TOKEN)], create=True, program=program) as store:
-                herd(store, "herd_child_store")
+                herd(store, "herd_child_store", most)
 
 
 def one_thread(seconds):
@@ -198,8 +198,8 @@ def throughput(seconds):
 
 
 def main():
-    if sys.argv[1:] == ["herd"]:
-        herds()
+    if sys.argv[1:2] == ["herd"]:
+        herds(int(sys.argv[2]))
     else:
         throughput(float(sys.argv[1]) if len(sys.argv) > 1 else 2.0)
 

@@ -1,4 +1,4 @@
-//! `clients_bench PART SECONDS [DATABASE]`, `clients_bench herd [DATABASE]`: what waiting, turns and reads cost, beside a plain
+//! `clients_bench PART SECONDS [DATABASE]`, `clients_bench herd MOST [DATABASE]`: what waiting, turns and reads cost, beside a plain
 //! mutex. It prints lines `NAME VALUE`, each value a number of commits a second.
 //!
 //! - `think`: sixteen threads count one counter up, and each transaction thinks for a millisecond.
@@ -9,8 +9,8 @@
 //! - `peeks`: sixteen threads sell from sixteen stocks, each from one drawn at random, alone and beside a thread that looks at all
 //!   stocks once a millisecond; in memory, or at a store in a file. Both take turns, each for SECONDS in all. `looks` are of the
 //!   thread that looks.
-//! - `herd`: 10 threads, 100, 400 and 800 wait for one object, and each commits as soon as it has it; in memory, or at a
-//!   store in a file.
+//! - `herd`: 10 threads, 100, 400 and 800, but no more than MOST, wait for one object, and each commits as soon as it has it;
+//!   in memory, or at a store in a file. With each of these numbers there are MOST hand-overs.
 //!
 //! The plain counter is held for the whole of a transaction; of its log each transaction has three entries.
 
@@ -27,8 +27,6 @@ const LONG: Duration = Duration::from_secs(600);
 
 /// How many threads wait in `herd`.
 const HERDS: [u64; 4] = [10, 100, 400, 800];
-/// How many hand-overs there are with each of these numbers.
-const HAND_OVERS: u64 = 800;
 /// The stack of one of many threads.
 const SMALL: usize = 128 * 1024;
 /// A type of one call, which each other one keeps out.
@@ -302,21 +300,22 @@ fn handed_over(store: &SharedStore, waiting: u64) -> Result<Duration, Error> {
     })
 }
 
-fn herd(store: &SharedStore, name: &str) -> Result<(), Error> {
-    for waiting in HERDS {
-        let took = (0..HAND_OVERS / waiting).map(|_| handed_over(store, waiting)).sum::<Result<Duration, Error>>()?;
-        println!("{name}_{waiting} {:.0}", HAND_OVERS as f64 / took.as_secs_f64());
+fn herd(store: &SharedStore, name: &str, most: u64) -> Result<(), Error> {
+    for waiting in HERDS.into_iter().filter(|&waiting| waiting <= most) {
+        let rounds = most / waiting;
+        let took = (0..rounds).map(|_| handed_over(store, waiting)).sum::<Result<Duration, Error>>()?;
+        println!("{name}_{waiting} {:.0}", (rounds * waiting) as f64 / took.as_secs_f64());
     }
     Ok(())
 }
 
-fn herd_in_memory() -> Result<(), Error> {
-    herd(&SharedStore::new([&Type::read(TOKEN, Kind::Undo)?], u32::MAX.into())?, "herd_store")
+fn herd_in_memory(most: u64) -> Result<(), Error> {
+    herd(&SharedStore::new([&Type::read(TOKEN, Kind::Undo)?], u32::MAX.into())?, "herd_store", most)
 }
 
-fn herd_over_child(path: &str) -> Result<(), Error> {
+fn herd_over_child(most: u64, path: &str) -> Result<(), Error> {
     let store = OpenOptions::new().objects([&Type::read(TOKEN, Kind::Undo)?]).create(true).open(path)?;
-    herd(&store, "herd_child_store")?;
+    herd(&store, "herd_child_store", most)?;
     store.close()
 }
 
@@ -330,9 +329,9 @@ fn main() -> Result<(), Box<dyn AnyError>> {
         [part, seconds] if part == "peeks" => peeks_in_memory(limit(seconds)?)?,
         [part, seconds, path] if part == "child" => child(limit(seconds)?, path)?,
         [part, seconds, path] if part == "peeks" => peeks_over_child(limit(seconds)?, path)?,
-        [part] if part == "herd" => herd_in_memory()?,
-        [part, path] if part == "herd" => herd_over_child(path)?,
-        _ => return Err("clients_bench think|mixed|turns|peeks SECONDS, child|peeks SECONDS DATABASE, or herd [DATABASE]".into()),
+        [part, most] if part == "herd" => herd_in_memory(most.parse()?)?,
+        [part, most, path] if part == "herd" => herd_over_child(most.parse()?, path)?,
+        _ => return Err("clients_bench think|mixed|turns|peeks SECONDS, child|peeks SECONDS DATABASE, or herd MOST [DATABASE]".into()),
     }
     Ok(())
 }
