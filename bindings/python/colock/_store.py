@@ -88,8 +88,8 @@ class Store(Questions):
         `archive` is a folder that keeps the history of each epoch, made where it isn't there; several stores may
         share it. `fast` supposes that the disk tears no write apart. `drain` is how many seconds what is open may go
         on where an epoch has to end and a yes of the checker is one-way, 5 where it isn't given: where each is strong, it goes on in
-        the next epoch. `outcomes` is how many of the last outcomes of keys stay at least, 1,000,000 where it isn't given: older ones
-        go where an epoch ends, and their keys are `Unknown` then. `program` is the program; else `COLOCK` of the environment names
+        the next epoch. `outcomes` is how many of the last outcomes of keys stay at least, in this opening, 1,000,000 where it isn't given:
+        older ones go where an epoch ends, and their keys are `Unknown` then. `program` is the program; else `COLOCK` of the environment names
         it, or it is a file `colock` beside the package, or on PATH. `limit` is how many seconds an answer may take.
 
         Raises `CannotOpen`, `OtherObjects`, `BadName`, `NameTaken`, `TooManyObjects`, `ValueError` where `create` comes without
