@@ -21,11 +21,16 @@ pub trait Databases {
     ghost is_clean: { Self → Type 0 };
 
     /// The trees of the database at a path, as its last commit left them. Of their commits it is supposed that the
-    /// machine's torn writes leave no more than `torn` says.
+    /// machine's torn writes leave no more than `torn` says. A machine that stops now leaves what the path has, and so does
+    /// an open that fails.
     fn open(&mut self, path: &str, torn: TornWrites) -> Result<Self::Opened, OpenFault>
         ensures numbered { IfOk result (λ trees. IsClean (Self.Opened.Store.view trees) → IsTrue (Self.Opened.Store.view trees).is_numbered) }
         ensures held { IfOk result (λ trees. IsClean (Self.Opened.Store.view trees) → IsTrue (Self.Opened.Store.view trees).is_open
-            → IfSome (holds self.old path.now) (λ db. (Self.Opened.Store.view trees).committed ≡ db)) };
+            → IfSome (holds self.old path.now) (λ db. (Self.Opened.Store.view trees).committed ≡ db)) }
+        ensures clean { IfOk result (λ trees. is_clean self.new → IsClean (Self.Opened.Store.view trees)) }
+        ensures left { IfOk result (λ trees. IsClean (Self.Opened.Store.view trees)
+            → IfSome (holds self.old path.now) (λ was. (db : Trees) → Self.Opened.Store.recovers trees db → db ≡ was)) }
+        ensures kept { OnErr result ((other : List ℕ) → holds self.new other ≡ holds self.old other) };
 
     /// The trees of a new database for a path, of which there are none yet. The path has nothing before they are
     /// published.
@@ -59,6 +64,7 @@ pub trait Databases {
     /// Lets go of the trees of the database at a path as they are, with no further call of its file: an open finds
     /// what a machine that stops now may have left.
     fn leave(&mut self, path: &str, trees: Self::Opened)
+        ensures before { is_clean self.new → is_clean self.old }
         ensures clean { is_clean self.new → IsClean (Self.Opened.Store.view trees) }
         ensures left { IsClean (Self.Opened.Store.view trees) → IfSome (holds self.new path.now) (Self.Opened.Store.recovers trees) };
 }

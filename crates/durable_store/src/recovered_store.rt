@@ -47,7 +47,7 @@ pub fn open<S: Alter>(alloc: Global, trees: S) -> Result<Durable<S>, (OpenError,
     ensures was_open { IfOk result (λ d. Clean S.Store d.journal → IsTrue (S.Store.view trees).is_open) }
     ensures found { IfOk result (λ d. Clean S.Store d.journal → IsRecovered S.Store (contents_of (S.Store.view trees).committed) d) }
     ensures crash { IfErr result (λ e. (db : Trees) → S.Store.recovers e.1 db
-        → (IsFile db × (contents_of db ≡ recovered (contents_of (S.Store.view trees).committed))) ⊎ S.Store.recovers trees db) }
+        → (IsClean (S.Store.view trees) × IsTrue (S.Store.view trees).is_open × IsFile db × (contents_of db ≡ recovered (contents_of (S.Store.view trees).committed))) ⊎ S.Store.recovers trees db) }
     ensures followed { IfErr result (λ e. IsStrayError e.0 → IsClean (S.Store.view e.1) → IsNotFollowed (contents_of (S.Store.view trees).committed)) }
 {
     match open_counted(alloc, trees) {
@@ -74,7 +74,7 @@ pub fn open_counted<S: Alter>(
     ensures found { IfOk result (λ r. Clean S.Store r.0.journal → IsRecovered S.Store (contents_of (S.Store.view trees).committed) r.0) }
     ensures counted { IfOk result (λ r. Clean S.Store r.0.journal → r.1 ≡ length (contents_of (S.Store.view trees).committed).events) }
     ensures crash { IfErr result (λ e. (db : Trees) → S.Store.recovers e.1 db
-        → (IsFile db × (contents_of db ≡ recovered (contents_of (S.Store.view trees).committed))) ⊎ S.Store.recovers trees db) }
+        → (IsClean (S.Store.view trees) × IsTrue (S.Store.view trees).is_open × IsFile db × (contents_of db ≡ recovered (contents_of (S.Store.view trees).committed))) ⊎ S.Store.recovers trees db) }
     ensures followed { IfErr result (λ e. IsStrayError e.0 → IsClean (S.Store.view e.1) → IsNotFollowed (contents_of (S.Store.view trees).committed)) }
 {
     let (journal, said) = match Journal::open(alloc, trees) {
