@@ -3,3 +3,4 @@ pub mod ServedLemmas
 pub mod Unsaid
 pub mod ArchivedEpochs
 pub mod StayingOutcomes
+pub mod Unserved

@@ -96,8 +96,19 @@ served-under {least} {clean} {clean'} {held} {db} {given} {given_now} {text} lef
 }
 
 -- where what is held at a path may be left, and is this
-is-left : (left : Option Trees) (may_be_left : Trees → Type 0) (x : Trees) → IfSome left may_be_left → left ≡ Some x → may_be_left x
+pub is-left : (left : Option Trees) (may_be_left : Trees → Type 0) (x : Trees) → IfSome left may_be_left → left ≡ Some x → may_be_left x
 is-left left may_be_left x may is = subst (λ (held : Option Trees). IfSome held may_be_left) is may
+
+pub begins-under : {least : ℕ} {clean clean' : Type 0} {held : Option Trees} (may may_now : Trees → Type 0) {given given_now : Option (List ℕ)} {text : List ℕ} → (clean' → clean) → (clean' → (x : Trees) → may_now x → may x)
+    → BeginsBefore least clean held may given given_now text → BeginsBefore least clean' held may_now given given_now text
+begins-under may may_now sure less it = record {
+  work = work-under sure it.work;
+  told = it.told;
+  read = it.read;
+  leaves = λ c.
+      let leaves = it.leaves (sure c) in
+      record { left = λ x is. leaves.left x (less c x is); found = λ t tells x is. leaves.found t tells x (less c x is) };
+}
 
 under : (least : ℕ) {clean clean' : Type 0} (held left : Option Trees) (db : Trees) (may_be_left : Trees → Type 0) (given given_now taken taken_now : Option (List ℕ)) (r : Result Verdict Fault) → (clean' → clean)
     → OnOk r (clean' → IfSome left (λ x. db ≡ x)) → OnErr r (clean' → IfSome left may_be_left)
@@ -106,26 +117,7 @@ under : (least : ℕ) {clean clean' : Type 0} (held left : Option Trees) (db : T
 under least held left db may_be_left given given_now taken taken_now (Ok v) sure same may c = (c.0, (c.1.0, served-under left sure same c.1.1), c.2)
 under least held left db may_be_left given given_now taken taken_now (Err fault) sure same may c = elim c [
   | inl none ↦ inl none
-  | inr part ↦
-      let it = part.1.1 in
-      inr (
-        part.0,
-        (
-          part.1.0,
-          record {
-            work = work-under sure it.work;
-            told = it.told;
-            read = it.read;
-            leaves = λ c.
-                let leaves = it.leaves (sure c) in
-                record {
-                  left = λ x is. leaves.left x (is-left left may_be_left x (may c) is);
-                  found = λ t tells x is. leaves.found t tells x (is-left left may_be_left x (may c) is);
-                };
-          },
-          part.1.2,
-        ),
-      )
+  | inr part ↦ inr (part.0, (part.1.0, begins-under may_be_left (λ x. left ≡ Some x) sure (λ c x is. is-left left may_be_left x (may c) is) part.1.1, part.1.2))
 ]
 
 -- and of an output that is this one
@@ -219,7 +211,7 @@ served-at {S} {g} {least} {given} {taken} {given_now} {taken_now} {trees} db beg
 part-more : (a b : Option (List ℕ)) (x y : List ℕ) → AppendsPart a b x → AppendsPart a b (x ++ y)
 part-more a b x y (n, within, part) = (n, omega (arith, length-append x y), subst (Appends a b) (sym (take-append-le n x y within)) part)
 
-cut-at : {S : Type 0} {g : Ghosts S} {least : ℕ} {given taken given_now taken_now : Option (List ℕ)} {trees : S} (db : Trees) (began : Durable S) (held : Option Trees) → IsDurable g began → ShowsCommit g began.journal → (Clean g began.journal → IfSome held (λ x. db ≡ x))
+pub cut-at : {S : Type 0} {g : Ghosts S} {least : ℕ} {given taken given_now taken_now : Option (List ℕ)} {trees : S} (db : Trees) (began : Durable S) (held : Option Trees) → IsDurable g began → ShowsCommit g began.journal → (Clean g began.journal → IfSome held (λ x. db ≡ x))
     → (Clean g began.journal → IsOpened least (contents_of db) (written g began.journal) began.store) → StopsIn g began given taken trees given_now taken_now
     → (text : List ℕ) × BeginsBefore least (IsClean (g.view trees)) held (g.recovers trees) given given_now text × AppendsPart taken taken_now text
 cut-at {S} {g} {least} {given} {taken} {given_now} {taken_now} {trees} db began held sound shows same found s =
@@ -237,10 +229,10 @@ cut-at {S} {g} {least} {given} {taken} {given_now} {taken_now} {trees} db began 
 -- what comes of a store that was opened
 pub comes-at : {S : Type 0} {g : Ghosts S} {least : ℕ} (given taken given_now taken_now : Option (List ℕ)) (trees : S) (db : Trees) (began : Durable S) (held : Option Trees) (r : Result Verdict Fault)
     → IsDurable g began → ShowsCommit g began.journal → (Clean g began.journal → IfSome held (λ x. db ≡ x)) → (Clean g began.journal → IsOpened least (contents_of db) (written g began.journal) began.store) → IfOk r (λ v. v ≡ Yes)
-    → OnOk r (ServesIn g began given taken trees given_now taken_now) → IfErr r (λ fault. (taken_now ≡ taken) ⊎ ((is_input fault ≡ false) × StopsIn g began given taken trees given_now taken_now))
+    → OnOk r (ServesIn g began given taken trees given_now taken_now) → IfErr r (λ fault. ((taken_now ≡ taken) × (trees ≡ began.journal.store)) ⊎ ((is_input fault ≡ false) × StopsIn g began given taken trees given_now taken_now))
     → ComesOfServing (BeginsBefore least (IsClean (g.view trees)) held (g.recovers trees) given given_now) (ServesDatabase least (IsClean (g.view trees)) held (Some (g.view trees).committed) given given_now) r taken taken_now
 comes-at given taken given_now taken_now trees db began held (Ok v) sound shows same found says told cut = let (text, served, more) = served-at db began held sound shows same found told in (text, (says, served), more)
-comes-at given taken given_now taken_now trees db began held (Err fault) sound shows same found says told cut = elim cut [ inl none ↦ inl none | inr part ↦ inr (part.0, cut-at db began held sound shows same found part.1) ]
+comes-at given taken given_now taken_now trees db began held (Err fault) sound shows same found says told cut = elim cut [ inl none ↦ inl none.0 | inr part ↦ inr (part.0, cut-at db began held sound shows same found part.1) ]
 
 -- a fault that is nothing of what the user gave
 pub is-no-input : (fault : Fault) → IsEarlyFault ⊥ fault → is_input fault ≡ false

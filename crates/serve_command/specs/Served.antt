@@ -151,11 +151,40 @@ abbrev pub ComesOfServing : (List ℕ → Type 0) → Answers → Result Verdict
 ComesOfServing begun answers (Ok verdict) old new = (text : List ℕ) × answers verdict text × Appends old new text
 ComesOfServing begun answers (Err fault) old new = (new ≡ old) ⊎ ((is_input fault ≡ false) × ((text : List ℕ) × begun text × AppendsPart old new text))
 
+-- ---- before serving begins
+
+-- the file as an opening leaves it that said this: in the next life, with an abort of each transaction that was open and isn't prepared; as many of the last
+-- outcomes stay as before, or at least so many
+abbrev pub IsAsOpened : ℕ → Contents → Contents → Type 0
+IsAsOpened least said file = (file ≡ recovered said) ⊎ (file ≡ with_least (recovered said) least)
+
+-- what is held where serving ended before it began: what was held, or the file as an opening leaves it. Each outcome that was known is
+pub record IsUnserved (least : ℕ) (was now : Trees) : Type 0 where
+  pub left : (now ≡ was) ⊎ (IsFile now × IsAsOpened least (contents_of was) (contents_of now))
+  pub known : (contents_of now).outcomes.at ≡ (contents_of was).outcomes.at
+
+-- whatever may be left is so
+abbrev pub LeavesUnserved : ℕ → Type 0 → Option Trees → (Trees → Type 0) → Type 0
+LeavesUnserved least clean held may_be_left = clean → IfSome held (λ was. (db : Trees) → may_be_left db → IsUnserved least was db)
+
+-- what serving leaves where it fails: it hasn't begun, or what may be left is what a beginning of its lines asked for
+abbrev pub FailsBefore : ℕ → Type 0 → Option Trees → (Trees → Type 0) → Option (List ℕ) → Option (List ℕ) → Type 0
+FailsBefore least clean held may_be_left given given_now =
+    LeavesUnserved least clean held may_be_left ⊎ ((text : List ℕ) × BeginsBefore least clean held may_be_left given given_now text)
+
+-- this, and what is held at the path then is what may be left
+abbrev pub FailsServing : ℕ → Type 0 → Option Trees → Option Trees → Option (List ℕ) → Option (List ℕ) → Type 0
+FailsServing least clean held left given given_now = FailsBefore least clean held (λ db. left ≡ Some db) given given_now
+
 -- ---- inside the command
 
 -- what is held at the path of these trees is their last commit
 abbrev pub IsHeld : View → Option Trees → Type 0
 IsHeld v held = IsClean v → IsTrue v.is_open → IfSome held (λ db. v.committed ≡ db)
+
+-- and nothing else may be left of them
+abbrev pub LeavesHeld : {S : Type 0} (g : Ghosts S) → S → Option Trees → Type 0
+LeavesHeld g trees held = IsClean (g.view trees) → IfSome held (λ was. (db : Trees) → g.recovers trees db → db ≡ was)
 
 -- a crash at this moment leaves the file where at least so many of the last outcomes stay, or what it could have left before
 abbrev pub LeavesStaying : {S : Type 0} (g : Ghosts S) → ℕ → Durable S → Durable S → Type 0

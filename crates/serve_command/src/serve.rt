@@ -9,7 +9,7 @@ ghost use Rattle.journal.specs.Journal.{Clean, ShowsCommit, written};
 ghost use Rattle.durable_store.specs.Durable.{IsDurable};
 ghost use Rattle.serve_command.specs.Archived.{ArchivesEpochs, KeepsBetween};
 ghost use Rattle.serve_command.specs.Found.{SaysFound};
-ghost use Rattle.serve_command.specs.Served.{BeginsBefore, BeginsServing, ComesOfServing, IsHeld, LeavesStaying, ServesDatabase, ServesIn, StopsIn};
+ghost use Rattle.serve_command.specs.Served.{BeginsBefore, BeginsServing, ComesOfServing, FailsBefore, FailsServing, IsHeld, LeavesHeld, LeavesStaying, ServesDatabase, ServesIn, StopsIn};
 ghost use Rattle.command_files.specs.Answers.{IsEarlyFault};
 ghost use Rattle.command_files.specs.Status.{is_input};
 
@@ -61,7 +61,7 @@ pub struct Serving<'a> {
 ///
 /// The database isn't opened or isn't one of a store, it failed, the archive, the input or the output failed, or memory was
 /// refused. Then no further call of the file is made, and what is at the path is the file after some of the lines that were
-/// read, among them each commit that was answered.
+/// read, among them each commit that was answered; or, before serving begins, what was there, or that as an opening leaves it.
 pub fn serve_database<
     'a,
     C: Clock,
@@ -87,6 +87,7 @@ pub fn serve_database<
     ensures comes { let path = asked.entry.path in ComesOfServing (BeginsServing asked.entry.outcomes (D.is_clean databases.new) (D.holds databases.old path.now) (D.holds databases.new path.now) (I.remaining input.old) (I.remaining input.new))
         (ServesDatabase asked.entry.outcomes (D.is_clean databases.new) (D.holds databases.old path.now) (D.holds databases.new path.now) (I.remaining input.old) (I.remaining input.new))
         result.0 (taken_by W.taken out) (taken_by W.taken result.1) }
+    ensures left { OnErr result.0 (FailsServing asked.entry.outcomes (D.is_clean databases.new) (D.holds databases.old asked.entry.path.now) (D.holds databases.new asked.entry.path.now) (I.remaining input.old) (I.remaining input.new)) }
     ensures says { OnOk result.0 (SaysFound (D.is_clean databases.new) (D.holds databases.old asked.entry.path.now) asked.entry.path.now (E.taken err.old) (E.taken err.new)) }
     ensures archives { OnOk result.0 (ArchivesEpochs asked.entry.outcomes (D.is_clean databases.new) (D.holds databases.old asked.entry.path.now) (D.holds databases.new asked.entry.path.now) (A.kept archive.old) (A.kept archive.new)) }
 {
@@ -119,6 +120,7 @@ fn let_go<'a, D: Databases>(
     served: &Result<Verdict, Fault<'a>>,
     databases: &mut D,
 )
+    ensures before { OnErr served.now (D.is_clean databases.new → D.is_clean databases.old) }
     ensures clean { D.is_clean databases.new → IsClean (D.Opened.Store.view trees) }
     ensures held { OnOk served.now (D.is_clean databases.new → IfSome (D.holds databases.new path.now) (λ db. (D.Opened.Store.view trees).committed ≡ db)) }
     ensures left { OnErr served.now (D.is_clean databases.new → IfSome (D.holds databases.new path.now) (D.Opened.Store.recovers trees)) }
@@ -148,6 +150,8 @@ fn serve_in<'a, C: Clock, S: Alter, N: Additions, A: Archive, I: Read, W: Out, E
         → ComesOfServing (BeginsBefore asked.entry.outcomes (IsClean (S.Store.view result.1)) held (S.Store.recovers result.1) (I.remaining input.old) (I.remaining input.new))
         (ServesDatabase asked.entry.outcomes (IsClean (S.Store.view result.1)) held (Some (S.Store.view result.1).committed) (I.remaining input.old) (I.remaining input.new))
         result.0 (taken_by W.taken client.old.out) (taken_by W.taken client.new.out) }
+    ensures left { (held : Option Trees) → IsHeld (S.Store.view trees) held → LeavesHeld S.Store trees held
+        → OnErr result.0 (FailsBefore asked.entry.outcomes (IsClean (S.Store.view trees) × IsClean (S.Store.view result.1)) held (S.Store.recovers result.1) (I.remaining input.old) (I.remaining input.new)) }
     ensures says { (held : Option Trees) → IsHeld (S.Store.view trees) held
         → OnOk result.0 (SaysFound (IsClean (S.Store.view result.1)) held asked.entry.path.now (E.taken err.old) (E.taken err.new)) }
     ensures archives { (held : Option Trees) → IsHeld (S.Store.view trees) held
@@ -214,7 +218,7 @@ fn serve_store<'a, C: Clock, S: Alter, N: Additions, A: Archive, I: Read, W: Out
     requires out_takes { W.fault (under client.old.out) ≡ None }
     ensures yes { IfOk result.0 (λ verdict. verdict ≡ Verdict.Yes) }
     ensures told { OnOk result.0 (ServesIn S.Store store (I.remaining input.old) (taken_by W.taken client.old.out) result.1 (I.remaining input.new) (taken_by W.taken client.new.out)) }
-    ensures cut { IfErr result.0 (λ fault. (taken_by W.taken client.new.out ≡ taken_by W.taken client.old.out)
+    ensures cut { IfErr result.0 (λ fault. ((taken_by W.taken client.new.out ≡ taken_by W.taken client.old.out) × (result.1 ≡ store.journal.store))
         ⊎ ((is_input fault ≡ false) × StopsIn S.Store store (I.remaining input.old) (taken_by W.taken client.old.out) result.1 (I.remaining input.new) (taken_by W.taken client.new.out))) }
     ensures archives { OnOk result.0 (IsClean (S.Store.view result.1)
         → KeepsBetween (written S.Store store.journal) (contents_of (S.Store.view result.1).committed) (A.kept archive.old) (A.kept archive.new)) }

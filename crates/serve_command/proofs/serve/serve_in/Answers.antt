@@ -1,4 +1,4 @@
-use Rattle.std.proofs.Common.{◌∙◌, ◌-◌, ap, length, sym, ℕ}
+use Rattle.std.proofs.Common.{◌∙◌, ◌-◌, ap, inl, length, sym, ℕ}
 use Rattle.store_laws.specs.Stored.{Stored}
 use Rattle.outputs.specs.Gathered.{taken_by}
 use Rattle.journal.specs.Contents.{contents_of}
@@ -6,6 +6,7 @@ use Rattle.serving.proofs.Results.{of-ok}
 use Rattle.serve_command.proofs.ArchivedEpochs.{archives-at}
 use Rattle.serve_command.proofs.ServedLemmas.{comes-at, says-at}
 use Rattle.serve_command.proofs.StayingOutcomes.{opened-at}
+use Rattle.serve_command.proofs.Unserved.{fails-at, opening-left, staying-left}
 use Rattle.serve_command.proofs.serve.serve_in.Goals as goal
 
 pub returns-in-Ok-stay_at_least-clause-comes : goal.returns-in-Ok-stay_at_least-clause-comes
@@ -47,3 +48,29 @@ returns-in-Ok-stay_at_least-clause-archives g c held is =
     (opened-at g.S.Store c.args.asked.outcomes (contents_of db) c.in-Ok.store c.stay_at_least.new.store stays.clean c.in-Ok.ensures.found
     (of-ok c.stay_at_least.result done.field-0 done.is stays.types) (of-ok c.stay_at_least.result done.field-0 done.is stays.history) (of-ok c.stay_at_least.result done.field-0 done.is stays.written))
     c.serve_store.ensures.told c.serve_store.ensures.archives
+
+pub returns-in-Ok-stay_at_least-clause-left : goal.returns-in-Ok-stay_at_least-clause-left
+returns-in-Ok-stay_at_least-clause-left g c held is leaves =
+    let db = (g.S.Store.view c.args.trees).committed in
+    let done = c.in-Ok-stay_at_least in
+    let stays = c.stay_at_least.ensures in
+    let opened = c.in-Ok.ensures in
+    fails-at (g.I.Read.remaining c.args.input.now) (taken_by g.W.Out.taken c.args.client.now.out) (g.I.Read.remaining c.serve_store.new.input) (taken_by g.W.Out.taken c.serve_store.new.client.out)
+    c.serve_store.result.1 db c.stay_at_least.new.store held c.serve_store.result.0 (of-ok c.stay_at_least.result done.field-0 done.is stays.sound) (of-ok c.stay_at_least.result done.field-0 done.is stays.shows)
+    (λ clean. let before = stays.clean clean in is (opened.clean before) (opened.was_open before))
+    (opened-at g.S.Store c.args.asked.outcomes (contents_of db) c.in-Ok.store c.stay_at_least.new.store stays.clean opened.found
+    (of-ok c.stay_at_least.result done.field-0 done.is stays.types) (of-ok c.stay_at_least.result done.field-0 done.is stays.history) (of-ok c.stay_at_least.result done.field-0 done.is stays.written))
+    (λ same. staying-left g.S.Store c.args.asked.outcomes c.args.trees c.serve_store.result.1 c.in-Ok.store c.stay_at_least.new.store held same stays.crash stays.clean opened.sound opened.is_open opened.was_open opened.found
+    (λ db now left. g.met.S.Store.settled c.in-Ok.store.journal.store db now left) is)
+    c.serve_store.ensures.cut
+
+pub returns-in-Err-stay_at_least-clause-left : goal.returns-in-Err-stay_at_least-clause-left
+returns-in-Err-stay_at_least-clause-left g c held is leaves =
+    let stays = c.stay_at_least.ensures in
+    let opened = c.in-Ok.ensures in
+    inl
+        (staying-left g.S.Store c.args.asked.outcomes c.args.trees c.into_trees.result c.in-Ok.store c.stay_at_least.new.store held c.into_trees.ensures stays.crash stays.clean opened.sound opened.is_open opened.was_open opened.found
+        (λ db now left. g.met.S.Store.settled c.in-Ok.store.journal.store db now left) is)
+
+pub returns-in-Err-clause-left : goal.returns-in-Err-clause-left
+returns-in-Err-clause-left g c held is leaves = inl (opening-left g.S.Store c.args.asked.outcomes c.args.trees c.in-Err.trees held c.in-Err.ensures.crash is leaves)
