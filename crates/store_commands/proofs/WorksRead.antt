@@ -25,7 +25,7 @@ use Rattle.worker_turns.specs.declared.outcome.Outcome.{Outcome}
 use Rattle.worker_turns.specs.declared.outcome.Outcome.TheVariants.{Committed, GaveUp, Refused, NotRun}
 use Rattle.worker_turns.specs.declared.outcome.Report.{Report}
 use Rattle.workers.specs.Worked.{HasWorked}
-use Rattle.work_text.specs.TextHistory.{IsShort, IsShortOutcome, IsShortReport, WorkIsRead}
+use Rattle.work_text.specs.TextHistory.{IsShortNumber, IsShortOutcome, IsShortReport, WorkIsRead}
 use Rattle.store_commands.specs.HistoryTexts.{IsReadAs}
 use Rattle.store_commands.specs.Works.{IsWorkOf, start_of_work}
 use Rattle.store_commands.proofs.Sizes.{size-within, files-within}
@@ -33,7 +33,7 @@ use Rattle.store_commands.proofs.RunTexts.{audit_short, commits_short, mapped}
 use Rattle.store_commands.proofs.RunsRead.{kept_short, read_as}
 
 -- an outcome is short where the transaction that it names is
-outcome_short : (outcome : Outcome) → ((t : ℕ) → outcome ≡ Committed t → IsShort t) → IsShortOutcome outcome
+outcome_short : (outcome : Outcome) → ((t : ℕ) → outcome ≡ Committed t → IsShortNumber t) → IsShortOutcome outcome
 outcome_short (Committed t) short = short t refl
 outcome_short GaveUp short = tt
 outcome_short (Refused r) short = tt

@@ -15,20 +15,20 @@ use Rattle.worker_turns.specs.declared.outcome.Outcome.{Outcome}
 use Rattle.worker_turns.specs.declared.outcome.Outcome.TheVariants.{Committed, GaveUp, Refused, NotRun}
 use Rattle.worker_turns.specs.declared.outcome.Report.{Report}
 use Rattle.work_text.specs.Lines.{kept_line, kept_text, job_words, outcome_words, report_text, reports_text}
-use Rattle.work_text.specs.TextHistory.{AreShort, IsShort, IsShortAudit, IsShortOutcome, IsShortReport, FitsWord}
+use Rattle.work_text.specs.TextHistory.{IsShortWork, IsShortNumber, IsShortAudit, IsShortOutcome, IsShortReport, FitsWord}
 
 -- ---- kept states
 
-kept_comment : (x state : ℕ) → IsShort x → FitsWord state → AreComments (spaced (kept_line (x, state)) ++ 10 ∷ [])
+kept_comment : (x state : ℕ) → IsShortNumber x → FitsWord state → AreComments (spaced (kept_line (x, state)) ++ 10 ∷ [])
 kept_comment x state place short =
     line_comment (codes "kept" ∷ decimal x ∷ decimal state ∷ []) (record { bytes = refl; short = omega arith }, (number_text x place, (long_number_text state short, tt))) (omega arith)
 
 -- ---- the audit
 
-commit_comment : (t : ℕ) → IsShort t → AreComments (committed_line t)
+commit_comment : (t : ℕ) → IsShortNumber t → AreComments (committed_line t)
 commit_comment t short = line_comment (codes "commit" ∷ decimal t ∷ []) (record { bytes = refl; short = omega arith }, (number_text t short, tt)) (omega arith)
 
-serial_comment : (x state : ℕ) → IsShort x → FitsWord state → AreComments (serial_line (x, state))
+serial_comment : (x state : ℕ) → IsShortNumber x → FitsWord state → AreComments (serial_line (x, state))
 serial_comment x state place short =
     line_comment (codes "serial" ∷ decimal x ∷ decimal state ∷ []) (record { bytes = refl; short = omega arith }, (number_text x place, (long_number_text state short, tt))) (omega arith)
 
@@ -38,7 +38,7 @@ audit = record { bytes = refl; short = omega arith }
 pub audit_comments : (said : Result Audit AuditFault) → IsShortAudit said → AreComments (audit_text said)
 audit_comments (Ok a) short =
     both_comments _ _ (line_comment (codes "audit" ∷ codes "yes" ∷ []) (audit, (record { bytes = refl; short = omega arith }, tt)) (omega arith))
-    (both_comments _ _ (each_comments IsShort committed_line commit_comment a.order.items short.order) (placed_comments FitsWord serial_line serial_comment 0 a.finals.items (omega (arith, short.objects)) short.finals))
+    (both_comments _ _ (each_comments IsShortNumber committed_line commit_comment a.order.items short.order) (placed_comments FitsWord serial_line serial_comment 0 a.finals.items (omega (arith, short.objects)) short.finals))
 audit_comments (Err (fault.BadEvent at)) short =
     line_comment (codes "audit" ∷ codes "no" ∷ codes "BadEvent" ∷ decimal at ∷ [])
     (audit, (record { bytes = refl; short = omega arith }, (record { bytes = refl; short = omega arith }, (number_text at short, tt)))) (omega arith)
@@ -52,7 +52,7 @@ audit_comments (Err fault.NoMemory) short = no_comments
 job : IsText (codes "job")
 job = record { bytes = refl; short = omega arith }
 
-job_comment : (w i : ℕ) (o : Outcome) → IsShort w → IsShort i → IsShortOutcome o → AreComments (spaced (job_words w (i, o)) ++ 10 ∷ [])
+job_comment : (w i : ℕ) (o : Outcome) → IsShortNumber w → IsShortNumber i → IsShortOutcome o → AreComments (spaced (job_words w (i, o)) ++ 10 ∷ [])
 job_comment w i (Committed t) worker place short =
     line_comment (codes "job" ∷ decimal w ∷ decimal i ∷ outcome_words (Committed t))
     (job, (number_text w worker, (number_text i place, (record { bytes = refl; short = omega arith }, (number_text t short, tt))))) (omega arith)
@@ -64,13 +64,13 @@ job_comment w i (Refused r) worker place short =
 job_comment w i NotRun worker place short =
     line_comment (codes "job" ∷ decimal w ∷ decimal i ∷ outcome_words NotRun) (job, (number_text w worker, (number_text i place, (record { bytes = refl; short = omega arith }, tt)))) (omega arith)
 
-report_comments : (w : ℕ) (r : Report) → IsShort w → IsShortReport r → AreComments (report_text (w, r))
+report_comments : (w : ℕ) (r : Report) → IsShortNumber w → IsShortReport r → AreComments (report_text (w, r))
 report_comments w r worker short =
     placed_comments IsShortOutcome (λ p. spaced (job_words w p) ++ 10 ∷ []) (λ i o place. job_comment w i o worker place) 0 r.outcomes.items (omega (arith, short.jobs)) short.outcomes
 
 -- ---- all of them
 
-pub comments_follow : (kept : List ℕ) (said : Result Audit AuditFault) (reports : List Report) → AreShort kept said reports
+pub comments_follow : (kept : List ℕ) (said : Result Audit AuditFault) (reports : List Report) → IsShortWork kept said reports
     → AreComments (kept_text kept ++ (audit_text said ++ reports_text reports))
 comments_follow kept said reports short =
     both_comments (kept_text kept) (audit_text said ++ reports_text reports)
