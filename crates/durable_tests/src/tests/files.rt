@@ -11,14 +11,16 @@ use durable_store::{OpenError, create, open};
 use journal::{GivenName, Journal, JournalError, Prepared};
 use object_trait::EventKind;
 use sqlite_trees::memory::MemStore;
-use sqlite_trees::store::Alter;
+use sqlite_trees::store::{Alter, Shape};
+use sqlite_value::row::Row;
+use sqlite_value::value::ValueRef;
 use std::process::Abort;
 use std::test::Fail;
 use store_text::ObjectLine;
 use test_support::printed::are_printed;
 use test_support::type_texts::COUNTER;
 use transaction_key::TransactionKey;
-use type_table::Kind;
+use type_table::{Kind, Operation};
 
 /// The text of a type with a fault.
 const FAULTY: &str = "type counter\nend\n";
@@ -145,6 +147,42 @@ fn strays_are_told<S: NewTrees + Drop, R: Abort + AllocGlobal>(rt: &R) {
     assert!(rt; stray == Some(OpenError::NotPrepared(0)));
 }
 
+/// Puts the row of the first event into these trees as a file of format 4 has it: transaction 0 begins.
+fn with_an_old_row<S: NewTrees + Drop>(rt: &(impl Abort + AllocGlobal), trees: S) -> S
+    ensures { IsTrue (S.Store.view result).is_numbered }
+{
+    let mut trees = trees;
+    assert!(rt; matches!(trees.shape(0), Shape::Table));
+    let mut row = Row::new(rt.alloc());
+    row.push(ValueRef::Int(0)).expect(rt, "no row");
+    row.push(ValueRef::Null).expect(rt, "no row");
+    row.push(ValueRef::Text(b"begin")).expect(rt, "no row");
+    row.push(ValueRef::Int(0)).expect(rt, "no row");
+    row.push(ValueRef::Null).expect(rt, "no row");
+    row.push(ValueRef::Null).expect(rt, "no row");
+    row.push(ValueRef::Null).expect(rt, "no row");
+    trees.put(0, &row).expect(rt, "not written");
+    trees.commit().expect(rt, "not committed");
+    trees.numbered()
+}
+
+/// That the lines of all events are those of the rows, of which the first one has an event as a file of format 4 has it, and the
+/// next one two.
+fn lines_are_those_of_rows<S: NewTrees + Drop, R: Abort + AllocGlobal>(rt: &R) {
+    let mut said = two_counters(rt);
+    said.header.format = 4;
+    let trees = with_an_old_row(rt, created(rt, S::no_trees(rt), &said));
+    let mut journal = journal_in(rt, trees);
+    let k = Operation::with(3, 250);
+    let counted = journal.append(EventKind::Op { k, t: 0, x: 1 });
+    counted.expect(rt, "not written");
+    let ended = journal.append(EventKind::Commit { t: 0 });
+    ended.expect(rt, "not written");
+    journal.commit().expect(rt, "not committed");
+    let lines = journal.event_lines(rt.alloc()).expect(rt, "no lines");
+    assert!(rt; lines.as_slice() == b"begin 0 0\nop 0 0 1 3 250\ncommit 0 0\n".as_slice());
+}
+
 /// Why no new file is made of one text and these lines. A file that is made is opened: its objects are at the initial
 /// states of their types, and nothing has happened.
 fn error_of_new<S: NewTrees + Drop, R: Abort + AllocGlobal>(
@@ -193,6 +231,11 @@ fn faults_are_told(rt: HostRuntime) {
     are_made::<MemStore, HostRuntime>(&rt);
     are_opened::<MemStore, HostRuntime>(&rt);
     strays_are_told::<MemStore, HostRuntime>(&rt);
+}
+
+#[test]
+fn lines_of_both_kinds_of_rows(rt: HostRuntime) {
+    lines_are_those_of_rows::<MemStore, HostRuntime>(&rt);
 }
 
 /// What each error says.
