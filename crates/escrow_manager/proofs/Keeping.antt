@@ -1,13 +1,14 @@
 -- What a manager keeps, and what it knows by that.
-use Rattle.std.proofs.Common.{◌≡◌, ◌↔◌, ℕ, ◌+◌, ◌-◌, ◌<◌, ◌≤◌, false, All, List, [], ◌∷◌, length, Some, refl, sym, ap, subst, ◌∙◌, arith}
-use Rattle.std.specs.Prelude.{slice_get}
+use Rattle.std.proofs.Common.{◌≡◌, ◌↔◌, ℕ, ◌+◌, ◌-◌, ◌<◌, ◌≤◌, true, false, All, List, [], ◌∷◌, length, Some, refl, sym, ap, subst, ◌∙◌, arith}
+use Rattle.std.specs.Prelude.{slice_get, nat_le, nat_lt}
+use Rattle.std.proofs.lemmas.Bool.{and_from, le-leb, lt-ltb}
 use Rattle.std.proofs.lemmas.List.Elements.{All-from_recursion}
 use Rattle.type_table.specs.Table.{Table}
 use Rattle.type_table.proofs.Elements.{each-weaker}
 use Rattle.type_table.specs.Run.{IsLegal}
 use Rattle.escrow_laws.specs.Bounds.{amounts_of}
 use Rattle.escrow_laws.specs.Firm.{IsIdleFrom, IsFirm}
-use Rattle.escrow_laws.specs.Marks.{mark_of, FitsIn}
+use Rattle.escrow_laws.specs.Marks.{mark_after, mark_of, FitsIn, is_legal_from}
 use Rattle.escrow_laws.specs.Laws.{MarksAreExact, MarksFit, FirmIsLegal, ExtremesTellFirm}
 use Rattle.escrow_laws.specs.declared.bounded.Bounded.{Bounded}
 use Rattle.escrow_laws.specs.declared.mark.Mark.{Mark}
@@ -102,6 +103,21 @@ module _ {m : Meaning} {marks : List OpenMark} {totals : Totals} (h : IsKeptInEs
   small-of exact fit legal t k b found here =
       let between = (legal-told t k (number_at m t) b found (view-told exact legal t)).1 here in
       more-small (greatest m.checked) m.base (number_at m t) (mark_at m t) b inside-of (fits-of fit legal t) (h.numeric.bounds.within k b found) between.0 between.1
+
+  -- and what it is of is legal from base
+  pub legal-with : MarksAreExact → MarksFit → FirmIsLegal → (t k : ℕ) (b : Bounded) → slice_get (bounds_in m.checked) k ≡ Some b → IsLegalFor m t k → is_legal_from (mark_after (mark_at m t) b) m.base ≡ true
+  legal-with exact fit legal t k b found here =
+      let x = mark_at m t in
+      let y = mark_after x b in
+      let between = (legal-told t k (number_at m t) b found (view-told exact legal t)).1 here in
+      let low = between.0 in
+      let high = between.1 in
+      let own = ((exact m.checked.file.table (greatest m.checked) (bounds_in m.checked) (own_of m.log t) h.numeric.bounds).legal m.base inside-of).1 (legal-of legal t) in
+      let least = own.0 in
+      let most = own.1 in
+      let fits = fits-of fit legal t in
+      let down = fits.down in
+      and_from (nat_le y.floor m.base) (nat_lt m.base y.ceiling) (le-leb y.floor m.base (omega (arith, low, high, least, most, down))) (lt-ltb m.base y.ceiling (omega (arith, low, high, least, most, down)))
 
   -- and the sums and extremes are
   pub sums-of : ExtremesTellFirm → AreSmall (greatest m.checked) marks

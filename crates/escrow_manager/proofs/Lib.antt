@@ -8,6 +8,7 @@ pub mod KeptMarks
 pub mod Keepers
 pub mod KeptOps
 pub mod KeptWays
+pub mod Lone
 pub mod Marking
 pub mod Passing
 pub mod Remarking

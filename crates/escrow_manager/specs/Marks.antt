@@ -1,5 +1,5 @@
 -- The marks of open transactions, in the order of the transactions' numbers.
-use Rattle.std.specs.Prelude.{ℕ, ◌+◌, ◌-◌, ◌≤◌, Bool, not, ◌&&◌, List}
+use Rattle.std.specs.Prelude.{ℕ, ◌+◌, ◌-◌, ◌≤◌, nat_le, nat_lt, Bool, not, ◌&&◌, ◌||◌, List}
 use Rattle.object_trait.specs.Rows as rows
 use Rattle.escrow_laws.specs.Marks.{unmarked, is_legal_from}
 use Rattle.escrow_laws.specs.declared.bounded.Bounded.{Bounded}
@@ -41,6 +41,10 @@ without_mark t marks = rows.without_row mark_owner t marks
 -- who has the mark u alone keeps who has the mark t: what t did is not legal from the lowest or the highest number that u may leave
 abbrev pub mark_keeps_alone : ℕ → Mark → Mark → Bool
 mark_keeps_alone base t u = not (is_legal_from t (base - u.fall) && is_legal_from t (base + u.rise))
+
+-- where what t did is legal, that is so only if u falls further than to the least number from which it is legal, or rises as far as to the first from which it no longer is
+abbrev pub moves_far : ℕ → Mark → Mark → Bool
+moves_far base t u = nat_lt (base - t.floor) u.fall || nat_le (t.ceiling - base) u.rise
 
 -- the numbers of a mark stay small with one more operation, on numbers from 0 to top
 pub record IsSmall (top : ℕ) (mark : Mark) (b : Bounded) : Type 0 where

@@ -1,14 +1,14 @@
 //! The entries of a transaction in the log of an object in escrow. All entries there are open.
 
 ghost use Rattle.std.specs.Prelude.{◌≡◌, false, ◌^◌, ◌<◌, ◌≤◌, ◌==◌, not, ◌&&◌, ◌||◌, nat_lt, true, Some, length, filter, cond, All};
-ghost use Rattle.std.specs.List.{find};
+ghost use Rattle.std.specs.List.{find, list_any};
 ghost use Rattle.std.specs.Option.{option_map, option_or};
 ghost use Rattle.type_table.specs.Run.{IsLegal};
-ghost use Rattle.escrow_laws.specs.Marks.{mark_after, mark_of, mark_keeps};
+ghost use Rattle.escrow_laws.specs.Marks.{mark_after, mark_of, mark_keeps, is_legal_from};
 ghost use Rattle.escrow_manager.specs.Numeric.{bounds_in, greatest, IsInEscrow};
 ghost use Rattle.object_trait.specs.Strike.{keep_first};
 ghost use Rattle.object_trait.specs.Meaning.{is_open_of, open_of, AreOpen, own_of};
-ghost use Rattle.escrow_manager.specs.Marks.{MarksAscend, mark_in, mark_keeps_alone, IsSmall};
+ghost use Rattle.escrow_manager.specs.Marks.{MarksAscend, mark_in, mark_keeps_alone, moves_far, IsSmall};
 ghost use Rattle.escrow_manager.specs.Totals.{HasShortSums};
 
 use crate::marks::mark_in;
@@ -94,6 +94,7 @@ pub fn mark_of(log: &Vec<LogEntry>, t: u32, checked: &CheckedType, base: u32) ->
 }
 
 /// Whether it is another's entry, and this other keeps t from what it did last.
+#[inline(always)]
 fn is_keeper(
     entry: LogEntry,
     marks: &Vec<OpenMark>,
@@ -121,6 +122,27 @@ fn keeps_alone(base: u32, t: Mark, u: Mark) -> bool
     let lowest = u64::from(base).saturating_sub(u.fall);
     let highest = u64::from(base) + u.rise;
     !(t.is_legal_from(lowest) && t.is_legal_from(highest))
+}
+
+/// Whether who has the mark u alone moves the number further than what who has the mark t did, which is
+/// legal, bears.
+fn moves_far(base: u32, t: Mark, u: Mark) -> bool
+    ensures { result ≡ moves_far base t u }
+{
+    let base = u64::from(base);
+    u.fall > base.saturating_sub(t.floor) || u.rise >= t.ceiling.saturating_sub(base)
+}
+
+/// Whether another than t does so.
+fn another_moves_far(marks: &Vec<OpenMark>, t: OpenMark, base: u32) -> bool
+    ensures { result ≡ list_any (λ o. moves_far base t.mark o.mark && not (o.by == t.by)) marks.now.items }
+{
+    for open in marks {
+        if moves_far(base, t.mark, open.mark) && open.by != t.by {
+            return true;
+        }
+    }
+    false
 }
 
 /// Whether it is another's entry, and this other keeps t from what it did last, and does so alone.
@@ -164,6 +186,28 @@ fn first_lone_keeper(
     None
 }
 
+/// The same, where what t did is legal. The log is gone through only where another moves the number so far.
+fn lone_keeper(
+    log: &Vec<LogEntry>,
+    marks: &Vec<OpenMark>,
+    t: OpenMark,
+    base: u32,
+    totals: Totals,
+    top: u32,
+) -> Option<u32>
+    requires ordered { MarksAscend marks.now.items }
+    requires short { All (λ o. HasShortSums o.mark) marks.now.items }
+    requires risen { totals.risen < 2 ^ 63 }
+    requires legal { is_legal_from t.mark base ≡ true }
+    ensures { result ≡ option_map (λ e. e.by) (find (λ e. mark_keeps_alone base t.mark (mark_in top e.by marks.now.items) && (not (e.by == t.by) && mark_keeps base totals.fallen totals.risen t.mark (mark_in top e.by marks.now.items))) log.now.items) }
+{
+    if another_moves_far(marks, t, base) {
+        first_lone_keeper(log, marks, t, base, totals, top)
+    } else {
+        None
+    }
+}
+
 /// Whose entry is the first that keeps t from what it did last, whether alone or not.
 fn first_keeper(
     log: &Vec<LogEntry>,
@@ -186,7 +230,7 @@ fn first_keeper(
 }
 
 /// Who is named, of those that keep t from what it did last: whose entry is the first that does so
-/// alone; where none does, whose is the first.
+/// alone; where none does, whose is the first. What t did is legal.
 pub fn named_keeper(
     log: &Vec<LogEntry>,
     marks: &Vec<OpenMark>,
@@ -198,9 +242,10 @@ pub fn named_keeper(
     requires ordered { MarksAscend marks.now.items }
     requires short { All (λ o. HasShortSums o.mark) marks.now.items }
     requires risen { totals.risen < 2 ^ 63 }
+    requires legal { is_legal_from t.mark base ≡ true }
     ensures { result ≡ option_or (option_map (λ e. e.by) (find (λ e. mark_keeps_alone base t.mark (mark_in top e.by marks.now.items) && (not (e.by == t.by) && mark_keeps base totals.fallen totals.risen t.mark (mark_in top e.by marks.now.items))) log.now.items)) (option_map (λ e. e.by) (find (λ e. not (e.by == t.by) && mark_keeps base totals.fallen totals.risen t.mark (mark_in top e.by marks.now.items)) log.now.items)) }
 {
-    match first_lone_keeper(log, marks, t, base, totals, top) {
+    match lone_keeper(log, marks, t, base, totals, top) {
         Some(u) => Some(u),
         None => first_keeper(log, marks, t, base, totals, top),
     }

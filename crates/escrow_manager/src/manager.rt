@@ -34,8 +34,9 @@ use type_table::{Kind, Operation};
 /// Beside the log it keeps a mark for each transaction that is open here, in the order of their
 /// numbers, and the totals of all marks. `legal` and `apply` look at the transaction's mark, found by
 /// halves; so does `blocker`, and at the totals, where by these nobody keeps anybody. Else it goes
-/// through the log once or twice. `commit`, `abort` and `strike` go through log and marks. Where no
-/// transaction is open, `apply_and_commit` moves the number alone.
+/// through the marks, and through the log up to the first entry of whom it names. `commit`, `abort` and
+/// `strike` go through log and marks. Where no transaction is open, `apply_and_commit` moves the number
+/// alone.
 #[derive(Drop)]
 pub struct EscrowManager {
     checked: Arc<CheckedType>,

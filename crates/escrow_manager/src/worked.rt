@@ -4,7 +4,7 @@
 ghost use Rattle.std.specs.Prelude.{◌≡◌, ◌≤◌, ℕ, true, false, [], ◌∷◌};
 ghost use Rattle.escrow_laws.specs.Marks.{unmarked, mark_of, mark_keeps};
 ghost use Rattle.escrow_laws.specs.Examples.{five_ops};
-ghost use Rattle.escrow_manager.specs.Marks.{MarksAscend, mark_index, mark_in, with_mark, without_mark, mark_keeps_alone};
+ghost use Rattle.escrow_manager.specs.Marks.{MarksAscend, mark_index, mark_in, with_mark, without_mark, mark_keeps_alone, moves_far};
 ghost use Rattle.escrow_manager.specs.Totals.{need_of, mark_limit, totals_of, totals_with, AreFirm};
 ghost use Rattle.escrow_manager.specs.Examples.{mark_by, taker, giver, both_marks, listing_both, asker, took_one, took_nine};
 ghost use Rattle.escrow_manager.specs.KeptAmount.{first_kept, first_beyond, last_refused, HasAmount, IsLeastAmount, IsMostAmount};
@@ -81,6 +81,8 @@ pub fn who_alone_keeps_is_named()
     ensures second { mark_keeps 10 15 80 asker took_nine ≡ true }
     ensures first_not_alone { mark_keeps_alone 10 asker took_one ≡ false }
     ensures second_alone { mark_keeps_alone 10 asker took_nine ≡ true }
+    ensures first_near { moves_far 10 asker took_one ≡ false }
+    ensures second_far { moves_far 10 asker took_nine ≡ true }
 {}
 
 /// Where 3 and 4 are listed, the least amount from 3 on is 5, and there is none above it; and the greatest

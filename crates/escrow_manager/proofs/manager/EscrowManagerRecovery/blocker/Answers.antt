@@ -1,6 +1,6 @@
-use Rattle.std.proofs.Common.{◌≡◌, ◌<◌, Some, sym, ap, subst, ◌∙◌, arith}
+use Rattle.std.proofs.Common.{◌≡◌, ◌<◌, true, Some, sym, ap, subst, ◌∙◌, arith}
 use Rattle.std.specs.Prelude.{slice_get}
-use Rattle.escrow_laws.specs.Marks.{mark_after}
+use Rattle.escrow_laws.specs.Marks.{mark_after, is_legal_from}
 use Rattle.escrow_laws.specs.declared.bounded.Bounded.{Bounded}
 use Rattle.escrow_laws.specs.declared.mark.Mark.{Mark}
 use Rattle.table_checker.specs.Checked.{Checked}
@@ -11,7 +11,7 @@ use Rattle.escrow_manager.specs.Marks.{IsSmall}
 use Rattle.escrow_manager.specs.Totals.{totals_with, AreFirm}
 use Rattle.escrow_manager.specs.declared.totals.Totals.{Totals}
 use Rattle.escrow_manager.proofs.Telling.{more-short, with-small}
-use Rattle.escrow_manager.proofs.Keeping.{meant, mark_at, op-found, top-small, small-of, sums-of, short-of}
+use Rattle.escrow_manager.proofs.Keeping.{meant, mark_at, op-found, top-small, small-of, legal-with, sums-of, short-of}
 use Rattle.escrow_manager.proofs.Blocking.{mark_with, totals_after, first_of, stopper-none, stopper-marks}
 use Rattle.escrow_manager.proofs.manager.EscrowManagerRecovery.blocker.Goals as goal
 
@@ -92,6 +92,11 @@ named_keeper-requires-clause-short c = short-of c.self.invariant c.marks_fit.ens
 -- they are the totals after k
 same_mark : (c : goal.After-with-totals) → c.marked-mark.result ≡ mark_with (meant c.self.inside) c.args.t (op c.before.before.before)
 same_mark c = c.marked-mark.ensures ∙ ap (λ (x : Mark). mark_after x (op c.before.before.before)) (exact c.before.before.before)
+
+pub named_keeper-requires-clause-legal : goal.named_keeper-requires-clause-legal
+named_keeper-requires-clause-legal c =
+    subst (λ x. is_legal_from x c.self.inside.base ≡ true) (sym (same_mark c.before.before.before.before))
+    (legal-with c.self.invariant c.marks_are_exact.ensures c.marks_fit.ensures c.firm_is_legal.ensures c.args.t c.args.k (op c.before.before.before.before.before.before.before) (found c.before.before.before.before.before.before.before) (subst (λ (m : Meaning). IsLegalFor m c.args.t c.args.k) (sym c.self.view_is) c.requires.legal))
 
 same_totals : (c : goal.After-with-totals) → c.with-totals.result ≡ totals_after (meant c.self.inside) c.self.inside.totals c.args.t (op c.before.before.before)
 same_totals c =
