@@ -1,5 +1,5 @@
 -- What a manager keeps by a further operation, a commit, an abort and a strike.
-use Rattle.std.proofs.Common.{◌≡◌, ℕ, ◌<◌, ◌≤◌, false, not, eqb, List, [], ◌∷◌, ◌++◌, length, take, Some, refl, sym, ap, subst, ◌∙◌, arith}
+use Rattle.std.proofs.Common.{◌≡◌, ℕ, ◌<◌, ◌≤◌, true, false, not, eqb, List, [], ◌∷◌, ◌++◌, length, take, Some, refl, sym, ap, subst, ◌∙◌, arith}
 use Rattle.std.specs.Prelude.{slice_get}
 use Rattle.std.specs.List.{filter, list_any}
 use Rattle.std.proofs.lemmas.List.{length_push, length-map}
@@ -10,7 +10,7 @@ use Rattle.type_table.specs.Run.{IsLegal}
 use Rattle.type_table.proofs.Elements.{differ_turned}
 use Rattle.escrow_laws.specs.Bounds.{amounts_of}
 use Rattle.escrow_laws.specs.Firm.{with_op}
-use Rattle.escrow_laws.specs.Marks.{mark_of}
+use Rattle.escrow_laws.specs.Marks.{mark_of, unmarked}
 use Rattle.escrow_laws.specs.Laws.{MarksAreExact, MarksFit, FirmIsLegal}
 use Rattle.escrow_laws.specs.declared.bounded.Bounded.{Bounded}
 use Rattle.escrow_laws.specs.declared.mark.Mark.{Mark}
@@ -28,13 +28,13 @@ use Rattle.object_trait.proofs.Escrow.{own-more}
 use Rattle.object_trait.proofs.Intentions.{filter-without, filter-itself}
 use Rattle.escrow_manager.specs.Numeric.{bounds_in, greatest, IsInEscrow}
 use Rattle.escrow_manager.specs.Marks.{mark_in, with_mark, without_mark}
-use Rattle.escrow_manager.specs.Totals.{need_of, mark_limit, totals_of, totals_with}
+use Rattle.escrow_manager.specs.Totals.{totals_of, totals_with, stand}
 use Rattle.escrow_manager.specs.Kept.{AreMarksOf, IsKeptInEscrow}
 use Rattle.escrow_manager.specs.declared.totals.Totals.{Totals}
 use Rattle.escrow_manager.proofs.Marking.{marks-put, marks-dropped, marks-same}
 use Rattle.escrow_manager.proofs.Keeping.{number_at, escrow-sound, escrow-view, fits-of, view-told}
 use Rattle.escrow_manager.proofs.Blocking.{mark_with, listed-with}
-use Rattle.escrow_manager.proofs.Summing.{totals-told}
+use Rattle.escrow_manager.proofs.Summing.{totals-told, totals-left}
 
 -- the totals of these marks of what was done at an object
 abbrev pub totals_at : Meaning → List OpenMark → Totals
@@ -175,11 +175,21 @@ pub kept-told : {m : Meaning} {marks : List OpenMark} {totals : Totals} (made : 
 kept-told {m} {marks} {totals} made h same told =
     subst (λ x. IsKeptInEscrow m marks x) (sym told) (subst (λ V. IsKeptInEscrow m V (totals_at m V)) (sym same) h)
 
--- where the extremes of the old mark follow from the new one, the totals with it are those of the marks with it
+-- where the old mark's extremes aren't the only ones, the totals with the new one are those of the marks with it
 pub told-with : {m : Meaning} {marks : List OpenMark} {totals : Totals} → IsKeptInEscrow m marks totals → (t top : ℕ) (old new : Mark) (made : List OpenMark) → top ≡ greatest m.checked → old ≡ mark_in (greatest m.checked) t marks →
-    made ≡ with_mark (record { by = t; mark = new }) marks → need_of old ≤ need_of new → mark_limit new ≤ mark_limit old → totals_with totals old new ≡ totals_of top made
-told-with {m} {marks} {totals} h t top old new made is_top is_old is_made more less =
+    made ≡ with_mark (record { by = t; mark = new }) marks → stand totals old new ≡ true → totals_with totals old new ≡ totals_of top made
+told-with {m} {marks} {totals} h t top old new made is_top is_old is_made is =
     let g = greatest m.checked in
     ap (λ x. totals_with x old new) h.summed ∙ ap (λ (x : Mark). totals_with (totals_of g marks) x new) is_old
-    ∙ totals-told g (record { by = t; mark = new }) marks h.listed.ordered (subst (λ (x : Mark). need_of x ≤ need_of new) is_old more) (subst (λ (x : Mark). mark_limit new ≤ mark_limit x) is_old less)
+    ∙ totals-told g (record { by = t; mark = new }) marks h.listed.ordered (subst (λ (x : Mark). stand (totals_of g marks) x new ≡ true) is_old (subst (λ x. stand x old new ≡ true) h.summed is))
     ∙ ap (totals_of g) (sym is_made) ∙ ap (λ n. totals_of n made) (sym is_top)
+
+-- and those without it are those of the marks without it
+pub told-without : {m : Meaning} {marks : List OpenMark} {totals : Totals} → IsKeptInEscrow m marks totals → (t top : ℕ) (old : Mark) (made : List OpenMark) → top ≡ greatest m.checked → old ≡ mark_in top t marks →
+    made ≡ without_mark t marks → stand totals old (unmarked top) ≡ true → totals_with totals old (unmarked top) ≡ totals_of top made
+told-without {m} {marks} {totals} h t top old made is_top is_old is_made is =
+    let summed : totals ≡ totals_of top marks = h.summed ∙ ap (λ n. totals_of n marks) (sym is_top) in
+    let stands : stand (totals_of top marks) (mark_in top t marks) (unmarked top) ≡ true =
+    subst (λ (x : Mark). stand (totals_of top marks) x (unmarked top) ≡ true) is_old (subst (λ x. stand x old (unmarked top) ≡ true) summed is) in
+    ap (λ x. totals_with x old (unmarked top)) summed ∙ ap (λ (x : Mark). totals_with (totals_of top marks) x (unmarked top)) is_old
+    ∙ totals-left top t marks h.listed.ordered stands ∙ ap (totals_of top) (sym is_made)

@@ -18,7 +18,8 @@ use Rattle.escrow_manager.specs.Numeric.{bounds_in, greatest}
 use Rattle.escrow_manager.specs.Marks.{mark_in}
 use Rattle.escrow_manager.specs.Kept.{IsKeptInEscrow}
 use Rattle.escrow_manager.specs.declared.totals.Totals.{Totals}
-use Rattle.escrow_manager.proofs.Telling.{sums-told, limit-least}
+use Rattle.escrow_manager.proofs.Summing.{limit-least}
+use Rattle.escrow_manager.proofs.Telling.{sums-told}
 use Rattle.escrow_manager.proofs.Summing.{counted, counted-both, needed-counted, limit-counted}
 use Rattle.escrow_manager.proofs.Keeping.{mark_at, idle-above, firm-of, inside-of}
 use Rattle.escrow_manager.proofs.Blocking.{named_of, stopper-marks}

@@ -87,6 +87,15 @@ module _ {m : Meaning} {marks : List OpenMark} {totals : Totals} (h : IsKeptInEs
   pub fits-of : MarksFit → FirmIsLegal → (t : ℕ) → FitsIn (greatest m.checked) m.base (mark_at m t)
   fits-of fit legal t = fit m.checked.file.table (greatest m.checked) m.base (bounds_in m.checked) (own_of m.log t) h.numeric.bounds inside-of (legal-of legal t)
 
+  -- on the numbers of 32 bits
+  pub fits-32 : MarksFit → FirmIsLegal → (t : ℕ) → FitsIn 4294967295 m.base (mark_at m t)
+  fits-32 fit legal t =
+      let one = fits-of fit legal t in
+      let most = top-small in
+      let up = one.up in
+      let last = one.most in
+      record { down = one.down; up = omega (arith, up, most); end = one.end; least = one.least; most = omega (arith, last, most) }
+
   -- what t sees
   pub view-told : MarksAreExact → FirmIsLegal → (t : ℕ) → view_of m t ≡ Some (number_at m t)
   view-told exact legal t =

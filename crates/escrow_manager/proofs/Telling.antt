@@ -17,6 +17,7 @@ use Rattle.escrow_manager.specs.Totals.{totals_of, totals_with, HasShortSums}
 use Rattle.escrow_manager.specs.Kept.{AreMarksOf}
 use Rattle.escrow_manager.specs.declared.totals.Totals.{Totals}
 use Rattle.escrow_manager.proofs.Marking.{marks-all}
+use Rattle.escrow_manager.proofs.Summing.{limit-least}
 
 -- ---- one transaction
 
@@ -67,10 +68,6 @@ more-small top base s mark b inside fits within low high =
 pub sums-told : ExtremesTellFirm → (T : Table) (top base m : ℕ) (ops : List Bounded) (own : ℕ → List ℕ) (marks : List OpenMark) → AreBounds T top ops → base ≤ top → AreMarksOf top ops own marks → IsIdleFrom m own →
     IsFirm T (amounts_of ops) base own → (fallen_of marks + most_needed marks ≤ base) × (base + risen_of marks < least_limit top marks)
 sums-told tell T top base m ops own marks bounds inside known idle firm = (tell T top base m ops own marks bounds inside (marks-all top ops own m marks known idle)).1 firm
-
-pub limit-least : (top : ℕ) (marks : List OpenMark) → least_limit top marks ≤ top + 1
-limit-least top [] = omega arith
-limit-least top (o ∷ os) = let rest = limit-least top os in omega (arith, rest)
 
 -- so the sums are small, and the extremes
 pub record AreSmall (top : ℕ) (marks : List OpenMark) : Type 0 where

@@ -1,5 +1,5 @@
 -- What is kept of all marks together: two sums and two extremes.
-use Rattle.std.specs.Prelude.{ℕ, ◌+◌, ◌-◌, ◌^◌, ◌<◌, ◌≤◌, max, min, List}
+use Rattle.std.specs.Prelude.{ℕ, ◌+◌, ◌-◌, ◌^◌, ◌<◌, ◌≤◌, ◌&&◌, ◌||◌, nat_le, nat_lt, Bool, max, min, List}
 use Rattle.escrow_laws.specs.Marks.{fallen_of, risen_of, most_needed, least_limit}
 use Rattle.escrow_laws.specs.declared.mark.Mark.{Mark}
 use Rattle.escrow_laws.specs.declared.mark.OpenMark.{OpenMark}
@@ -30,6 +30,11 @@ totals_with totals old new = record {
   needed = max totals.needed (need_of new);
   limit = min totals.limit (mark_limit new);
 }
+
+-- these are the extremes then: the new mark is no less extreme than the old one, or another mark is more so than the old one
+abbrev pub stand : Totals → Mark → Mark → Bool
+stand totals old new =
+    (nat_le (need_of old) (need_of new) || nat_lt (need_of old) totals.needed) && (nat_le (mark_limit new) (mark_limit old) || nat_lt totals.limit (mark_limit old))
 
 -- by these all is firm
 abbrev pub AreFirm : ℕ → Totals → Type 0

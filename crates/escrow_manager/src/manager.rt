@@ -1,6 +1,6 @@
 ghost use Rattle.type_table.specs.declared.kind.Kind.TheVariants.{Escrow};
-ghost use Rattle.std.specs.Prelude.{IsOk, IfOk, IfErr, ◌≡◌, ◌<◌, ◌↔◌, ◌≤◌, true, List, [], Some};
-ghost use Rattle.escrow_laws.specs.Marks.{mark_of};
+ghost use Rattle.std.specs.Prelude.{IsOk, IfOk, IfErr, ◌≡◌, ◌<◌, ◌↔◌, ◌≤◌, ◌+◌, ◌-◌, true, List, [], Some};
+ghost use Rattle.escrow_laws.specs.Marks.{mark_of, FitsIn};
 ghost use Rattle.escrow_laws.specs.declared.mark.OpenMark.{OpenMark as MarkOfOne};
 ghost use Rattle.object_trait.specs.Meaning.{own_of, view_of};
 ghost use Rattle.object_trait.specs.Steps.{IsFresh, MayApply, applied, IsCommit};
@@ -34,9 +34,9 @@ use type_table::{Kind, Operation};
 /// Beside the log it keeps a mark for each transaction that is open here, in the order of their
 /// numbers, and the totals of all marks. `legal` and `apply` look at the transaction's mark, found by
 /// halves; so does `blocker`, and at the totals, where by these nobody keeps anybody. Else it goes
-/// through the marks, and through the log up to the first entry of whom it names. `commit`, `abort` and
-/// `strike` go through log and marks. Where no transaction is open, `apply_and_commit` moves the number
-/// alone.
+/// through the marks, and through the log up to the first entry of whom it names. `commit` and `abort`
+/// go through the log, and through the marks where the totals don't follow from those before; `strike`
+/// goes through both. Where no transaction is open, `apply_and_commit` moves the number alone.
 #[derive(Drop)]
 pub struct EscrowManager {
     checked: Arc<CheckedType>,
@@ -119,9 +119,7 @@ impl EscrowManager {
         marks_are_exact();
         marks_fit();
         firm_is_legal();
-        let mark = self.mark_of(t);
-        let number = u64::from(self.base) + mark.above - mark.fall;
-        number as u32
+        number_after(self.base, self.mark_of(t))
     }
 
     /// Executes operation k for t, which commits, where no transaction is open: base is the number after it.
@@ -134,6 +132,15 @@ impl EscrowManager {
         // (taken first: with what is given, the number may be more than 32 bits hold)
         self.base = self.base - op.takes + op.gives;
     }
+}
+
+/// The number after operations with this mark, which are legal from base.
+fn number_after(base: u32, mark: Mark) -> u32
+    requires { FitsIn 4294967295 base mark }
+    ensures { result ≡ base + mark.above - mark.fall }
+{
+    let number = u64::from(base) + mark.above - mark.fall;
+    number as u32
 }
 
 /// Whether an operation is legal at a number.
@@ -231,10 +238,13 @@ impl Recovery for EscrowManager {
         extremes_tell_firm();
         firm_is_legal();
         sound_after_commit();
-        self.base = self.seen(t);
+        let top = greatest(&self.checked);
+        let at = place_of(&self.marks, t);
+        let old = mark_at(&self.marks, at, t, top);
+        self.base = number_after(self.base, old);
         take_out(&mut self.log, t);
-        drop_mark(&mut self.marks, t);
-        self.totals = Totals::of(&self.marks, greatest(&self.checked));
+        drop_mark(&mut self.marks, at, t);
+        self.totals = self.totals.without(old, &self.marks, top);
     }
 
     #[inline(always)]
@@ -256,9 +266,12 @@ impl Recovery for EscrowManager {
         keeps_first::<LogEntry>();
         keeps_others::<LogEntry>();
         sound_after_strike();
+        let top = greatest(&self.checked);
+        let at = place_of(&self.marks, t);
+        let old = mark_at(&self.marks, at, t, top);
         take_out(&mut self.log, t);
-        drop_mark(&mut self.marks, t);
-        self.totals = Totals::of(&self.marks, greatest(&self.checked));
+        drop_mark(&mut self.marks, at, t);
+        self.totals = self.totals.without(old, &self.marks, top);
     }
 
     fn strike(&mut self, t: u32, m: u32) {

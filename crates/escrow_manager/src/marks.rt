@@ -63,12 +63,12 @@ pub fn put_mark(marks: &mut Vec<OpenMark>, at: usize, own: OpenMark)
     }
 }
 
-/// Takes out t's mark, if it has one.
-pub fn drop_mark(marks: &mut Vec<OpenMark>, t: u32)
-    requires { MarksAscend marks.old.items }
+/// Takes out the mark of t, whose place this is, if it has one.
+pub fn drop_mark(marks: &mut Vec<OpenMark>, at: usize, t: u32)
+    requires ordered { MarksAscend marks.old.items }
+    requires place { at ≡ mark_index t marks.old.items }
     ensures { marks.new.items ≡ without_mark t marks.old.items }
 {
-    let at = place_of(marks, t);
     if is_at(marks, at, t) {
         marks.remove(at);
     }

@@ -1,8 +1,8 @@
 //! What is kept of the marks of all open transactions together.
 
 ghost use Rattle.std.specs.Prelude.{◌≡◌, ◌↔◌, ◌≤◌, ◌<◌, ◌^◌, true, [], All};
-ghost use Rattle.escrow_laws.specs.Marks.{fallen_of, risen_of};
-ghost use Rattle.escrow_manager.specs.Totals.{need_of, mark_limit, totals_of, totals_with, HasShortSums, AreFirm};
+ghost use Rattle.escrow_laws.specs.Marks.{unmarked, fallen_of, risen_of};
+ghost use Rattle.escrow_manager.specs.Totals.{need_of, mark_limit, totals_of, totals_with, stand, HasShortSums, AreFirm};
 
 use escrow_laws::{Mark, OpenMark};
 
@@ -76,18 +76,19 @@ impl Totals {
         }
     }
 
-    /// Whether a new mark needs as much as the old one did, and stays as far below its limit: then the
-    /// extremes of all follow from it and from those before.
-    pub fn stand(old: Mark, new: Mark) -> bool
+    /// Whether with a new mark in the place of an old one the extremes of all follow from it and from
+    /// those before: the old one wasn't the only one that needed the most, or had the least limit.
+    fn stand(self, old: Mark, new: Mark) -> bool
         requires old { HasShortSums old }
         requires new { HasShortSums new }
-        ensures { (result ≡ true) ↔ ((need_of old ≤ need_of new) × (mark_limit new ≤ mark_limit old)) }
+        ensures { result ≡ stand self old new }
     {
-        need_of(old) <= need_of(new) && limit_of(new) <= limit_of(old)
+        (need_of(old) <= need_of(new) || need_of(old) < self.needed)
+            && (limit_of(new) <= limit_of(old) || self.limit < limit_of(old))
     }
 
-    /// Those of these marks, of which the new one took the place of the old one: made anew only where
-    /// the extremes may have been the old one's.
+    /// Those of these marks, of which the new one took the place of the old one. They are made anew only
+    /// where the extremes may have been the old one's.
     pub fn after(self, old: Mark, new: Mark, marks: &Vec<OpenMark>, top: u32) -> Totals
         requires before { (self.fallen < 2 ^ 62) × (self.risen < 2 ^ 62) }
         requires old { HasShortSums old }
@@ -95,14 +96,27 @@ impl Totals {
         requires short { All (λ o. HasShortSums o.mark) marks.now.items }
         requires fallen { fallen_of marks.now.items < 2 ^ 62 }
         requires risen { risen_of marks.now.items < 2 ^ 62 }
-        requires told { need_of old ≤ need_of new → mark_limit new ≤ mark_limit old → totals_with self old new ≡ totals_of top marks.now.items }
+        requires told { stand self old new ≡ true → totals_with self old new ≡ totals_of top marks.now.items }
         ensures { result ≡ totals_of top marks.now.items }
     {
-        if Totals::stand(old, new) {
+        if self.stand(old, new) {
             self.with(old, new)
         } else {
             Totals::of(marks, top)
         }
+    }
+
+    /// Those of these marks, where the old one was taken out.
+    pub fn without(self, old: Mark, marks: &Vec<OpenMark>, top: u32) -> Totals
+        requires before { (self.fallen < 2 ^ 62) × (self.risen < 2 ^ 62) }
+        requires old { HasShortSums old }
+        requires short { All (λ o. HasShortSums o.mark) marks.now.items }
+        requires fallen { fallen_of marks.now.items < 2 ^ 62 }
+        requires risen { risen_of marks.now.items < 2 ^ 62 }
+        requires told { stand self old (unmarked top) ≡ true → totals_with self old (unmarked top) ≡ totals_of top marks.now.items }
+        ensures { result ≡ totals_of top marks.now.items }
+    {
+        self.after(old, Mark::unmarked(top), marks, top)
     }
 
     /// Whether by these all is firm, so that nobody keeps anybody from what he did last.

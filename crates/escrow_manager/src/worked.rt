@@ -5,7 +5,7 @@ ghost use Rattle.std.specs.Prelude.{◌≡◌, ◌≤◌, ℕ, true, false, [], 
 ghost use Rattle.escrow_laws.specs.Marks.{unmarked, mark_of, mark_keeps};
 ghost use Rattle.escrow_laws.specs.Examples.{five_ops};
 ghost use Rattle.escrow_manager.specs.Marks.{MarksAscend, mark_index, mark_in, with_mark, without_mark, mark_keeps_alone, moves_far};
-ghost use Rattle.escrow_manager.specs.Totals.{need_of, mark_limit, totals_of, totals_with, AreFirm};
+ghost use Rattle.escrow_manager.specs.Totals.{need_of, mark_limit, totals_of, totals_with, stand, AreFirm};
 ghost use Rattle.escrow_manager.specs.Examples.{mark_by, taker, giver, both_marks, listing_both, asker, took_one, took_nine};
 ghost use Rattle.escrow_manager.specs.KeptAmount.{first_kept, first_beyond, last_refused, HasAmount, IsLeastAmount, IsMostAmount};
 ghost use Rattle.escrow_manager.specs.declared.way.Way.TheVariants as Way;
@@ -36,6 +36,14 @@ pub fn totals_of_two()
     ensures of_taker { totals_of 5 (taker ∷ []) ≡ (record { fallen = 2; risen = 0; needed = 0; limit = 6 }) }
     ensures of_both { totals_of 5 both_marks ≡ (record { fallen = 3; risen = 1; needed = 0; limit = 6 }) }
     ensures one_more { totals_with (totals_of 5 (taker ∷ [])) (unmarked 5) giver.mark ≡ totals_of 5 both_marks }
+{}
+
+/// Without one of them the totals are the other's, and follow from those of both. Where the only one that
+/// stays below 2 goes, they don't.
+pub fn totals_without_one()
+    ensures stand { stand (totals_of 5 both_marks) giver.mark (unmarked 5) ≡ true }
+    ensures left { totals_with (totals_of 5 both_marks) giver.mark (unmarked 5) ≡ totals_of 5 (taker ∷ []) }
+    ensures anew { stand (totals_of 5 (mark_by 1 (2 ∷ []) ∷ [])) (mark_of 5 five_ops (2 ∷ [])) (unmarked 5) ≡ false }
 {}
 
 /// All is firm at 3 and at 4, where both may commit and nothing is above 5. At 2 they would take more

@@ -8,11 +8,11 @@ pub returns-then-is_at : goal.returns-then-is_at
 returns-then-is_at c =
     let t = c.args.t in
     let marks = c.args.marks.now.items in
-    c.remove.ensures.items ∙ ap (remove marks) c.place_of-at.ensures
-    ∙ drop_there mark_owner t marks c.requires (subst (λ n. IsMarkAt t n marks) c.place_of-at.ensures (c.is_at.ensures.there c.if-is_at.true))
+    c.remove.ensures.items ∙ ap (remove marks) c.requires.place
+    ∙ drop_there mark_owner t marks c.requires.ordered (subst (λ n. IsMarkAt t n marks) c.requires.place (c.is_at.ensures.there c.if-is_at.true))
 
 pub returns-else-is_at : goal.returns-else-is_at
 returns-else-is_at c =
     let t = c.args.t in
     let marks = c.args.marks.now.items in
-    drop_nowhere mark_owner t marks c.requires (λ here. c.is_at.ensures.elsewhere c.if-is_at.false (subst (λ n. IsMarkAt t n marks) (sym c.place_of-at.ensures) here))
+    drop_nowhere mark_owner t marks c.requires.ordered (λ here. c.is_at.ensures.elsewhere c.if-is_at.false (subst (λ n. IsMarkAt t n marks) (sym c.requires.place) here))

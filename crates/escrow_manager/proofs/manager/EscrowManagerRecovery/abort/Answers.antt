@@ -5,52 +5,85 @@ use Rattle.object_trait.specs.Strike.{keep_first}
 use Rattle.object_trait.specs.Meaning.{Meaning, is_open_of}
 use Rattle.object_trait.specs.Steps.{Keeps}
 use Rattle.escrow_manager.specs.Numeric.{greatest}
-use Rattle.escrow_manager.specs.Marks.{without_mark}
+use Rattle.escrow_manager.specs.Marks.{mark_in, without_mark}
 use Rattle.escrow_manager.specs.Totals.{totals_of, HasShortSums}
 use Rattle.escrow_manager.specs.Kept.{IsKeptInEscrow}
-use Rattle.escrow_manager.proofs.Keeping.{meant, all-open, top-small, short-of, sums-of}
-use Rattle.escrow_manager.proofs.Changing.{totals_at, with_log, left-keeps, dropped-kept, kept-told}
+use Rattle.escrow_manager.specs.declared.totals.Totals.{Totals}
+use Rattle.escrow_manager.proofs.Telling.{fits-short}
+use Rattle.escrow_manager.proofs.Keeping.{meant, mark_at, all-open, top-small, inside-of, fits-of, short-of, sums-of}
+use Rattle.escrow_manager.proofs.Changing.{totals_at, with_log, left-keeps, dropped-kept, kept-told, told-without}
 use Rattle.escrow_manager.proofs.manager.EscrowManagerRecovery.abort.Goals as goal
 
--- all of t's entries are taken out
-left : (c : goal.After-greatest) → c.take_out.new.log.items ≡ keep_first (is_open_of c.args.t) 0 c.self.inside.log.items
-left c = c.take_out.ensures ∙ sym (c.keeps_none.ensures (is_open_of c.args.t) c.self.inside.log.items)
+top_is : (c : goal.After-without-arg-2-1) → c.greatest-top.result ≡ greatest c.self.inside.checked.value
+top_is c = c.greatest-top.ensures.exact ∙ ap greatest c.deref.ensures
 
-kept : (c : goal.After-greatest) →
-    IsKeptInEscrow (with_log (meant c.self.inside) c.take_out.new.log.items) (without_mark c.args.t c.self.inside.marks.items) (totals_at (meant c.self.inside) (without_mark c.args.t c.self.inside.marks.items))
-kept c = dropped-kept c.sound_after_strike.ensures c.keeps_first.ensures c.keeps_others.ensures c.self.invariant c.args.t 0 c.take_out.new.log.items refl (left c)
+exact : (c : goal.After-without-arg-2-1) → c.mark_at-old.result ≡ mark_at (meant c.self.inside) c.args.t
+exact c = c.mark_at-old.ensures ∙ ap (λ n. mark_in n c.args.t c.self.inside.marks.items) (top_is c) ∙ c.self.invariant.listed.exact c.args.t
+
+pub place_of-at-requires : goal.place_of-at-requires
+place_of-at-requires c = c.self.invariant.listed.ordered
+
+pub mark_at-old-requires-clause-ordered : goal.mark_at-old-requires-clause-ordered
+mark_at-old-requires-clause-ordered c = c.self.invariant.listed.ordered
+
+pub drop_mark-requires-clause-ordered : goal.drop_mark-requires-clause-ordered
+drop_mark-requires-clause-ordered c = c.self.invariant.listed.ordered
 
 pub take_out-requires : goal.take_out-requires
 take_out-requires c = all-open c.self.invariant
 
-pub drop_mark-requires : goal.drop_mark-requires
-drop_mark-requires c = c.self.invariant.listed.ordered
+-- all of t's entries are taken out
+left : (c : goal.After-without-arg-2-1) → c.take_out.new.log.items ≡ keep_first (is_open_of c.args.t) 0 c.self.inside.log.items
+left c = c.take_out.ensures ∙ sym (c.keeps_none.ensures (is_open_of c.args.t) c.self.inside.log.items)
 
-pub of-self-inside-requires-clause-short : goal.of-self-inside-requires-clause-short
-of-self-inside-requires-clause-short c =
+kept : (c : goal.After-without-arg-2-1) →
+    IsKeptInEscrow (with_log (meant c.self.inside) c.take_out.new.log.items) (without_mark c.args.t c.self.inside.marks.items) (totals_at (meant c.self.inside) (without_mark c.args.t c.self.inside.marks.items))
+kept c = dropped-kept c.sound_after_strike.ensures c.keeps_first.ensures c.keeps_others.ensures c.self.invariant c.args.t 0 c.take_out.new.log.items refl (left c)
+
+pub without-self-inside-requires-clause-before : goal.without-self-inside-requires-clause-before
+without-self-inside-requires-clause-before c =
+    let all = sums-of c.self.invariant c.extremes_tell_firm.ensures in
+    let fallen = all.fallen in
+    let risen = all.risen in
+    let down = ap (λ (x : Totals). x.fallen) c.self.invariant.summed in
+    let up = ap (λ (x : Totals). x.risen) c.self.invariant.summed in
+    let top = top-small c.self.invariant in
+    (omega (arith, fallen, down, top), omega (arith, risen, up, top))
+
+pub without-self-inside-requires-clause-old : goal.without-self-inside-requires-clause-old
+without-self-inside-requires-clause-old c =
+    subst HasShortSums (sym (exact c))
+    (fits-short (greatest c.self.inside.checked.value) c.self.inside.base (mark_at (meant c.self.inside) c.args.t) (top-small c.self.invariant) (inside-of c.self.invariant) (fits-of c.self.invariant c.marks_fit.ensures c.firm_is_legal.ensures c.args.t))
+
+pub without-self-inside-requires-clause-short : goal.without-self-inside-requires-clause-short
+without-self-inside-requires-clause-short c =
     subst (λ (V : List OpenMark). All (λ (o : OpenMark). HasShortSums o.mark) V) (sym c.drop_mark.ensures) (short-of (kept c) c.marks_fit.ensures c.firm_is_legal.ensures)
 
-pub of-self-inside-requires-clause-fallen : goal.of-self-inside-requires-clause-fallen
-of-self-inside-requires-clause-fallen c =
+pub without-self-inside-requires-clause-fallen : goal.without-self-inside-requires-clause-fallen
+without-self-inside-requires-clause-fallen c =
     let all = sums-of (kept c) c.extremes_tell_firm.ensures in
     let few = all.fallen in
     let same = ap (λ (V : List OpenMark). fallen_of V) c.drop_mark.ensures in
     let top = top-small c.self.invariant in
     omega (arith, few, same, top)
 
-pub of-self-inside-requires-clause-risen : goal.of-self-inside-requires-clause-risen
-of-self-inside-requires-clause-risen c =
+pub without-self-inside-requires-clause-risen : goal.without-self-inside-requires-clause-risen
+without-self-inside-requires-clause-risen c =
     let all = sums-of (kept c) c.extremes_tell_firm.ensures in
     let few = all.risen in
     let same = ap (λ (V : List OpenMark). risen_of V) c.drop_mark.ensures in
     let top = top-small c.self.invariant in
     omega (arith, few, same, top)
 
+pub without-self-inside-requires-clause-told : goal.without-self-inside-requires-clause-told
+without-self-inside-requires-clause-told c =
+    told-without c.self.invariant c.args.t c.greatest-top.result c.mark_at-old.result c.drop_mark.new.marks.items (top_is c) c.mark_at-old.ensures c.drop_mark.ensures
+
 pub invariant_of-self : goal.invariant_of-self
 invariant_of-self c =
     let inside = c.self.inside in
     kept-told (without_mark c.args.t inside.marks.items) (kept c.before.before) c.drop_mark.ensures
-    (c.of-self-inside.ensures ∙ ap (λ top. totals_of top c.drop_mark.new.marks.items) (c.greatest.ensures.exact ∙ ap greatest c.deref.ensures))
+    (c.without-self-inside.ensures ∙ ap (λ top. totals_of top c.drop_mark.new.marks.items) (top_is c.before.before))
 
 pub returns : goal.returns
 returns c =

@@ -152,7 +152,7 @@ after-self-inside-requires-clause-risen c =
 
 pub after-self-inside-requires-clause-told : goal.after-self-inside-requires-clause-told
 after-self-inside-requires-clause-told c =
-    λ more less. told-with c.self.invariant c.args.t c.greatest-top.result c.mark_at-old.result c.marked-mark.result c.put_mark.new.marks.items (top_is c) (old_is c) (made c) more less
+    told-with c.self.invariant c.args.t c.greatest-top.result c.mark_at-old.result c.marked-mark.result c.put_mark.new.marks.items (top_is c) (old_is c) (made c)
 
 pub invariant_of-self-2 : goal.invariant_of-self-2
 invariant_of-self-2 c =
