@@ -11,6 +11,7 @@ pub mod KeptWays
 pub mod Lone
 pub mod Marking
 pub mod Passing
+pub mod Places
 pub mod Remarking
 pub mod Seeing
 pub mod Summing

@@ -32,11 +32,11 @@ use type_table::{Kind, Operation};
 /// transactions did, and it, stays legal whatever they do next.
 ///
 /// Beside the log it keeps a mark for each transaction that is open here, in the order of their
-/// numbers, and the totals of all marks. `legal` and `apply` look at the transaction's mark, found by
-/// halves; so does `blocker`, and at the totals, where by these nobody keeps anybody. Else it goes
-/// through the marks, and through the log up to the first entry of whom it names. `commit` and `abort`
-/// go through the log, and through the marks where the totals don't follow from those before; `strike`
-/// goes through both. Where no transaction is open, `apply_and_commit` moves the number alone.
+/// numbers, and the totals of all marks. `legal` and `apply` look at the transaction's mark, found at
+/// the end or by halves; so does `blocker`, and at the totals, where by these nobody keeps anybody. Else
+/// it goes through the marks, and through the log up to the first entry of whom it names. `commit` and
+/// `abort` go through the log, and through the marks where the totals don't follow from those before;
+/// `strike` goes through both. Where no transaction is open, `apply_and_commit` moves the number alone.
 #[derive(Drop)]
 pub struct EscrowManager {
     checked: Arc<CheckedType>,

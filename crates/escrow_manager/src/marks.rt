@@ -1,17 +1,36 @@
 //! The marks of open transactions, kept beside the log.
 
-ghost use Rattle.std.specs.Prelude.{◌≡◌, ◌<◌, true, false, ◌==◌, vec_len, vec_capacity};
+ghost use Rattle.std.specs.Prelude.{◌≡◌, ◌<◌, true, false, ◌==◌, IfSome, vec_len, vec_capacity};
 ghost use Rattle.std.specs.List.{list_any};
 ghost use Rattle.escrow_manager.specs.Marks.{MarksAscend, mark_index, IsMarkAt, mark_in, with_mark, without_mark};
 
 use escrow_laws::{Mark, OpenMark};
 
-/// The place of t's mark, or where it would be.
+/// The place of t's mark, or where it would be. It is looked for at the end first, where the latest
+/// transactions are.
 pub fn place_of(marks: &Vec<OpenMark>, t: u32) -> usize
     requires { MarksAscend marks.now.items }
     ensures { result ≡ mark_index t marks.now.items }
 {
-    marks.partition_point(|open| open.by < t)
+    match last_place(marks, t) {
+        Some(at) => at,
+        None => marks.partition_point(|open| open.by < t),
+    }
+}
+
+/// The same, where no mark is of a later transaction.
+fn last_place(marks: &Vec<OpenMark>, t: u32) -> Option<usize>
+    requires { MarksAscend marks.now.items }
+    ensures { IfSome result (λ at. at ≡ mark_index t marks.now.items) }
+{
+    let last = marks.last()?;
+    if last.by < t {
+        Some(marks.len())
+    } else if last.by == t {
+        Some(marks.len() - 1)
+    } else {
+        None
+    }
 }
 
 /// Whether t's mark is at this place.
@@ -58,6 +77,8 @@ pub fn put_mark(marks: &mut Vec<OpenMark>, at: usize, own: OpenMark)
 {
     if is_at(marks, at, own.by) {
         marks[at] = own;
+    } else if at == marks.len() {
+        marks.push_reserved(own);
     } else {
         let _ = marks.insert(at, own);
     }

@@ -5,8 +5,8 @@ use Rattle.escrow_laws.specs.declared.mark.OpenMark.{OpenMark}
 use Rattle.object_trait.proofs.Rows.{parted, place-found}
 use Rattle.escrow_manager.proofs.marks.place_of.Goals as goal
 
-pub returns : goal.returns
-returns c =
+pub returns-in-None : goal.returns-in-None
+returns-in-None c =
     let t = c.args.t in
     let marks = c.deref.result.now in
     let early = parted mark_owner t marks (subst (λ V. MarksAscend V) (sym c.deref.ensures.value) c.requires) in
