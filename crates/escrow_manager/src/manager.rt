@@ -182,6 +182,9 @@ impl Recovery for EscrowManager {
         extremes_tell_firm();
         firm_is_legal();
         firm_keeps_nobody();
+        if self.log.is_empty() {
+            return None;
+        }
         let old = self.mark_of(t);
         let mark = old.marked(bounded(&self.checked, k));
         let totals = self.totals.with(old, mark);
