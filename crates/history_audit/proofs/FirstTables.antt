@@ -4,7 +4,6 @@ use Rattle.std.proofs.lemmas.Option.{none-some}
 use Rattle.type_table.specs.Table.{Table, table_at}
 use Rattle.history_judge.specs.Replay.{AreStates}
 use Rattle.history_audit.specs.Epochs.{tables_at}
-use Rattle.history_audit.proofs.EpochTables.{none-begun}
 
 -- the first of the tables that begin at given states are the first, beginning at these
 pub first-at : (n : ℕ) (tables : List Table) (states : List ℕ) → take n (tables_at tables states) ≡ tables_at (take n tables) states
