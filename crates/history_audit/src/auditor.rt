@@ -8,7 +8,7 @@ ghost use Rattle.history_audit.specs.Auditor.{IsAuditing};
 ghost use Rattle.history_judge.specs.Replay.{AreStates};
 
 use declared_types::DeclaredType;
-use history_judge::{Audit, AuditFault, Judge, SerialRun, nothing_began};
+use history_judge::{Audit, AuditFault, Committed, Judge, SerialRun, nothing_began};
 use object_trait::Event;
 use serial_order::{own_after, summary_after};
 use std::alloc::{AllocError, Global};
@@ -52,8 +52,10 @@ impl Auditor {
         match self.judge.take(types, events, at) {
             Ok(None) => Ok(()),
             Ok(Some(committed)) => {
-                let operations = committed.operations.as_slice();
-                match self.serial.take(types, committed.number, operations) {
+                let Committed { number, operations } = committed;
+                let taken = self.serial.take(types, number, operations.as_slice());
+                self.judge.take_back(operations);
+                match taken {
                     Ok(()) => Ok(()),
                     Err(AllocError) => Err(AuditFault::NoMemory),
                 }

@@ -111,6 +111,13 @@ impl Judge {
         }
     }
 
+    /// Takes back operations that a commit handed out, so that another transaction has their room.
+    pub fn take_back(&mut self, operations: Operations)
+        ensures { self.new ≡ self.old }
+    {
+        self.rows.take_back(operations);
+    }
+
     // A transaction's number is the number of those before it.
     fn begin(&mut self, t: u32) -> Verdict
         ensures judged { (tables : List Table) → Takes tables self.old (kind.Begin t) result self.new }
@@ -168,7 +175,7 @@ impl Judge {
         if !self.rows.is_open(t) {
             return Err(EventFault::Bad);
         }
-        let _ = self.rows.end(t);
+        self.rows.close(t);
         Ok(())
     }
 

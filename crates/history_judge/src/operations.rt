@@ -1,7 +1,6 @@
 ghost use Rattle.std.specs.Prelude.{◌≡◌, [], ◌∷◌, ◌++◌, length, take, OnOk, OnErr};
 
 use crate::executed::Executed;
-use smallvec::SmallVec;
 use std::alloc::{AllocError, Global};
 use std::marker::Model;
 
@@ -9,7 +8,7 @@ use std::marker::Model;
 /// list of them.
 #[derive(Drop)]
 pub struct Operations {
-    list: SmallVec<Executed, 8>,
+    list: Vec<Executed>,
 }
 
 impl Model for Operations {
@@ -27,7 +26,7 @@ impl Operations {
         ensures { result ≡ [] }
     {
         Operations {
-            list: SmallVec::new(alloc),
+            list: Vec::new(alloc),
         }
     }
 

@@ -29,6 +29,8 @@ pub(crate) struct Slots {
     slot_of: Vec<u32>,
     // the open ones, without gaps
     slots: Vec<Slot>,
+    // lists that no transaction has any more, whose room is used again
+    spare: Vec<Operations>,
 }
 
 impl Model for Slots {
@@ -52,6 +54,7 @@ impl Slots {
         Slots {
             slot_of: Vec::new(alloc),
             slots: Vec::new(alloc),
+            spare: Vec::new(alloc),
         }
     }
 
@@ -91,7 +94,7 @@ impl Slots {
         }
         self.slot_of.reserve(1)?;
         self.slots.reserve(1)?;
-        let operations = Operations::new(*self.slot_of.allocator());
+        let operations = emptied(&mut self.spare, *self.slot_of.allocator());
         self.slots.push_reserved(Slot {
             number: t,
             operations,
@@ -136,5 +139,35 @@ impl Slots {
             operations,
         } = self.slots.swap_remove(slot as usize);
         operations
+    }
+
+    /// Ends t, whose operations nobody asks for.
+    pub(crate) fn close(&mut self, t: u32)
+        requires { has_row self.old t ≡ true }
+        ensures { self.new ≡ slice_set self.old t None }
+    {
+        let operations = self.end(t);
+        self.take_back(operations);
+    }
+
+    /// Takes a list back that was handed out.
+    pub(crate) fn take_back(&mut self, operations: Operations)
+        ensures { self.new ≡ self.old }
+    {
+        // where memory is refused it is let go
+        let _ = self.spare.push(operations);
+    }
+}
+
+/// A list of no operations, which has the room of one of these where there is one.
+fn emptied(spare: &mut Vec<Operations>, alloc: Global) -> Operations
+    ensures { result ≡ [] }
+{
+    match spare.pop() {
+        Some(mut operations) => {
+            operations.truncate(0);
+            operations
+        }
+        None => Operations::new(alloc),
     }
 }

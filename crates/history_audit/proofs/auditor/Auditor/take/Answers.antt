@@ -21,10 +21,10 @@ returns-in-Ok c =
     let tables = map (λ t. table_of t.now) c.args.types.now in
     let said = c.in-Ok-Some.ensures.taken in
     let old = c.args.self.now.serial in
-    let new = c.take-in-Ok-Some.new.self in
+    let new = c.take-taken.new.self in
     record {
-      judged = said.0;
+      judged = rw c.take_back.ensures said.0;
       serial = commit-run c.summary_after.ensures c.own_after.ensures tables c.args.events.now c.args.at c.runs_along.ensures c.in-Ok-Some.committed old new c.requires.so_far.serial
           (subst (IsHanded tables c.args.events.now c.args.at) c.in-Ok-Some.field-0-is said.1) c.in-Ok.ensures.states
-          (subst (λ (its : List Executed). ReplaysFrom old.illegal tables c.in-Ok-Some.committed.number its old new) c.as_slice-operations.ensures c.in-Ok.ensures.runs);
+          (subst (λ (its : List Executed). ReplaysFrom old.illegal tables c.in-Ok-Some.committed.number its old new) c.as_slice.ensures c.in-Ok.ensures.runs);
     }

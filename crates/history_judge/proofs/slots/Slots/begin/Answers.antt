@@ -15,4 +15,4 @@ returns-clause-ok c =
     rw (c.push_reserved.ensures.items, c.reserve-2.ensures.items, c.push_reserved-2.ensures.items, c.reserve.ensures.items)
     (begin-shows slot_number slot_row c.self.inside.slots.items c.self.inside.slot_of.items c.self.invariant c.args.self.now c.self.view_is c.len-slot.result
     (omega (arith, c.len-slot.ensures, c.self.inside.slots.ok.0)) (omega (arith, c.len-slot.ensures, c.self.inside.slots.ok.0, c.if-slot.false)) _
-    ∙ ap (λ its. c.args.self.now ++ Some its ∷ []) c.new-operations.ensures)
+    ∙ ap (λ its. c.args.self.now ++ Some its ∷ []) c.emptied-operations.ensures)
