@@ -150,12 +150,15 @@ class Strong(Epochs):
 
     @of_fake
     def test_a_commit_whose_answer_was_lost_is_known_by_its_key_alone(self):
-        for key, status, left in ((None, 503, "2"), ("k", 200, "1")):
+        for key, status, left, state in ((None, 503, "2", "unknown"), ("k", 200, "1", "committed")):
             self.restarted(lose_at="commit")
             one = self.served.begin()
             self.assertEqual(one.call(("A", f"hold:{3 - int(left)}")).json, {"replies": ["ok"]})
             self.extend()
             self.assertEqual((one.commit(key).status, self.free("A")), (status, left))
+            # nobody is told that it was aborted
+            self.assertEqual((one.known()["state"], one.commit(key).status), (state, status))
+            self.assertEqual((one.abort().problem, one.abort().json["state"]), ("ended", state))
 
     def filled(self, count):
         """The life, once there are 16 attempts more with so many calls each."""

@@ -66,7 +66,10 @@ class Failures(unittest.TestCase):
             self.restarted(**wrong)
             one = self.served.begin()
             one.call(("A12", "free"))
-            self.assertEqual(one.commit().status, status, wrong)
+            # asked again it says the same, and so does what is shown of it
+            self.assertEqual([one.commit().status for _ in range(2)], [status] * 2, wrong)
+            known = one.known()
+            self.assertEqual((known["state"], known.get("cause")), ("committed", None) if status == 200 else ("aborted", "lost"))
 
     @of_fake
     def test_a_commit_whose_answer_was_lost_is_known_by_its_key(self):
@@ -74,7 +77,8 @@ class Failures(unittest.TestCase):
             self.restarted(**wrong)
             one = self.served.begin()
             one.call(("A12", "free"))
-            self.assertEqual(one.commit(key).status, status, wrong)
+            self.assertEqual([one.commit(key).status for _ in range(2)], [status] * 2, wrong)
+            self.assertEqual(one.known()["state"], "committed" if status == 200 else "aborted")
 
     @of_fake
     def test_a_store_that_answers_nonsense_is_ended(self):

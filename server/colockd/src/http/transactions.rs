@@ -135,6 +135,7 @@ pub async fn commit(app: &App, asked: &Asked, name: TransactionName) -> Result<R
     let open = match known(app, &asked.caller, name) {
         Ok(Known::Open(open)) => open,
         Ok(Known::Ended(ended)) if ended.standing == Standing::Committed => return Ok(committed()),
+        Ok(Known::Ended(ended)) if ended.standing == Standing::Unknown && key.is_none() => return Err(ProblemKind::OutcomeUnknown.into()),
         known => {
             let problem = known.map_or_else(|problem| problem, |_| app.store.ended(name));
             return match key {
@@ -189,6 +190,7 @@ pub fn get(app: &App, asked: &Asked, name: TransactionName) -> Result<Response<B
         Known::Ended(ended) => ok(&match ended.standing {
             Standing::Committed => value!({"id": name.to_string(), "state": "committed", "owner": &*ended.owner}),
             Standing::Aborted(cause) => value!({"id": name.to_string(), "state": "aborted", "cause": cause.word(), "owner": &*ended.owner}),
+            Standing::Unknown => value!({"id": name.to_string(), "state": "unknown", "owner": &*ended.owner}),
         }),
     })
 }

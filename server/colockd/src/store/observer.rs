@@ -59,11 +59,23 @@ impl Observer {
 
     fn ended(&self, name: TransactionName, standing: Standing) {
         let Some(touched) = self.open.ends(name, standing) else { return };
+        self.counts(standing);
+        self.waits.ended(Number(name.packed()), touched);
+    }
+
+    /// It is known now what became of one whose commit the store didn't answer.
+    pub fn learns(&self, name: TransactionName, standing: Standing) {
+        if self.open.learns(name, standing) {
+            self.counts(standing);
+        }
+    }
+
+    fn counts(&self, standing: Standing) {
         match standing {
             Standing::Committed => self.metrics.commits.inc(),
             Standing::Aborted(cause) => self.metrics.aborted(cause, 1),
+            Standing::Unknown => {}
         }
-        self.waits.ended(Number(name.packed()), touched);
     }
 
     /// The store has no such open transaction. An end that was asked for was answered before; so the end of its epoch aborted it, unless
@@ -143,6 +155,7 @@ impl Observer {
         match (ending, answer) {
             (Ending::Commit, Answer::Ok(_)) => self.ended(name, Standing::Committed),
             (Ending::Abort(cause), Answer::Ok(_)) => self.ended(name, Standing::Aborted(cause)),
+            (Ending::Commit, _) => self.open.commits(name, false),
             _ => {}
         }
     }
@@ -272,6 +285,27 @@ mod tests {
         assert_eq!((observer.open.len(), observer.open.standing(NAME)), (1, Some(Standing::Committed)));
         observer.lost();
         assert!(observer.open.is_empty());
+    }
+
+    #[test]
+    fn of_a_commit_that_the_store_didnt_answer_nothing_is_counted_before_it_is_known() {
+        for (learnt, commits, lost) in [(Standing::Committed, 1, ""), (Standing::Aborted(Cause::Lost), 0, "colockd_aborts_total{cause=\"lost\"} 1\n")] {
+            let observer = observer();
+            tell(&observer, &begin(), "ok 3.0");
+            observer.open.commits(NAME, true);
+            observer.lost();
+            assert_eq!((observer.open.standing(NAME), observer.metrics.commits.get()), (Some(Standing::Unknown), 0));
+            (0..2).for_each(|_| observer.learns(NAME, learnt));
+            assert_eq!((observer.open.standing(NAME), observer.metrics.commits.get()), (Some(learnt), commits));
+            assert!(observer.metrics.text(|_| String::new()).is_ok_and(|text| String::from_utf8(text).unwrap().contains(lost)), "{learnt:?}");
+        }
+        // one that was refused is open, and isn't asked for any more
+        let observer = observer();
+        tell(&observer, &begin(), "ok 3.0");
+        observer.open.commits(NAME, true);
+        tell(&observer, &About::End(NAME, Ending::Commit), "refused KeyTaken");
+        observer.lost();
+        assert_eq!(observer.open.standing(NAME), Some(Standing::Aborted(Cause::Lost)));
     }
 
     #[test]

@@ -21,6 +21,8 @@ pub enum Standing {
     Committed,
     /// It was aborted, for this reason.
     Aborted(Cause),
+    /// The store ended before it answered the commit.
+    Unknown,
 }
 
 /// An operation that a transaction did.
@@ -38,6 +40,8 @@ pub struct Held {
 struct State {
     asked: Instant,
     in_use: usize,
+    /// Whether its commit is asked for, and not answered.
+    commits: bool,
     calls: u64,
     touched: Touched,
     held: VecDeque<Held>,
@@ -46,7 +50,7 @@ struct State {
 
 impl State {
     fn of(touched: Touched, hold: Option<Hold>) -> State {
-        State { asked: Instant::now(), in_use: 0, calls: 0, touched, held: VecDeque::new(), hold }
+        State { asked: Instant::now(), in_use: 0, commits: false, calls: 0, touched, held: VecDeque::new(), hold }
     }
 }
 
@@ -95,6 +99,15 @@ impl OpenTransaction {
     /// What holds it, where it is prepared.
     pub fn hold(&self) -> Option<Hold> {
         locked(&self.state).hold.clone()
+    }
+
+    /// What becomes of it where the store ends, for this reason.
+    fn left(&self, cause: Cause) -> Standing {
+        if locked(&self.state).commits {
+            Standing::Unknown
+        } else {
+            Standing::Aborted(cause)
+        }
     }
 
     fn is_prepared(&self) -> bool {
@@ -224,11 +237,27 @@ impl OpenTransactions {
         locked(&self.0).end(name, standing).map(|open| open.touched())
     }
 
-    /// All have ended that weren't prepared; how many those were.
+    /// The commit of one is asked for, or was answered.
+    pub fn commits(&self, name: TransactionName, is_asked: bool) {
+        if let Some(open) = locked(&self.0).open.get(&name) {
+            locked(&open.state).commits = is_asked;
+        }
+    }
+
+    /// All have ended that weren't prepared: they were aborted, but for those whose commit is asked for. How many were aborted.
     pub fn end_unprepared(&self, cause: Cause) -> usize {
         let mut table = locked(&self.0);
-        let names: Vec<_> = table.open.values().filter(|open| !open.is_prepared()).map(|open| open.name).collect();
-        names.iter().filter_map(|name| table.end(*name, Standing::Aborted(cause))).count()
+        let left: Vec<_> = table.open.values().filter(|open| !open.is_prepared()).map(|open| (open.name, open.left(cause))).collect();
+        left.iter().for_each(|(name, standing)| drop(table.end(*name, *standing)));
+        left.iter().filter(|(_, standing)| *standing != Standing::Unknown).count()
+    }
+
+    /// It is known now what became of one of which it wasn't; whether that is so.
+    pub fn learns(&self, name: TransactionName, standing: Standing) -> bool {
+        let mut table = locked(&self.0);
+        let Some(ended) = table.ended.get_mut(&name).filter(|ended| ended.standing == Standing::Unknown) else { return false };
+        ended.standing = standing;
+        true
     }
 
     /// What is known of one.
@@ -319,6 +348,23 @@ mod tests {
         all.ends(name(2, 0), Standing::Committed);
         assert!(matches!((all.known(name(1, 0)), all.known(name(2, 0))), (Some(Known::Open(_)), Some(Known::Ended(_)))));
         assert_eq!((all.count_of("shop"), all.end_unprepared(Cause::Lost), all.len()), (2, 2, 0));
+    }
+
+    #[test]
+    fn a_commit_that_wasnt_answered_may_be_known_later() {
+        let all = OpenTransactions::default();
+        let standing = |number| all.standing(name(1, number));
+        (0..4).for_each(|number| begin(&all, name(1, number)));
+        (0..3).for_each(|number| all.commits(name(1, number), true));
+        all.commits(name(1, 2), false);
+        assert_eq!(all.end_unprepared(Cause::Lost), 2);
+        let lost = Some(Standing::Aborted(Cause::Lost));
+        assert_eq!([0, 1, 2, 3].map(standing), [Some(Standing::Unknown), Some(Standing::Unknown), lost, lost]);
+        assert!(all.learns(name(1, 0), Standing::Committed) && all.learns(name(1, 1), Standing::Aborted(Cause::Lost)));
+        // what is known stays so
+        assert!(!all.learns(name(1, 0), Standing::Aborted(Cause::Lost)) && !all.learns(name(1, 2), Standing::Committed));
+        assert!(!all.learns(name(1, 4), Standing::Committed));
+        assert_eq!([0, 1, 2, 4].map(standing), [Some(Standing::Committed), lost, lost, None]);
     }
 
     #[test]

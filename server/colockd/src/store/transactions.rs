@@ -173,17 +173,22 @@ impl Store {
     /// A [`Problem`] where it didn't commit, or that isn't known.
     pub async fn commit(&self, name: TransactionName, key: Option<&str>) -> Result<(), Problem> {
         let words = key.map_or_else(|| format!("commit {name}"), |key| format!("commit {name} {key}"));
+        self.observer.open.commits(name, true);
         let told = self.engine.ask(Question::about(words, About::End(name, Ending::Commit))).await;
         let told = match told {
             Ok(told) => told,
-            Err(Lost::Unasked) => return Err(ProblemKind::StoreAway.into()),
+            Err(Lost::Unasked) => {
+                self.observer.learns(name, Standing::Aborted(Cause::Lost));
+                return Err(ProblemKind::StoreAway.into());
+            }
             Err(Lost::InFlight) => return self.commit_in_flight(name, key).await,
         };
         match told.answer() {
             Some(Answer::Ok(_)) => Ok(()),
-            Some(Answer::Refused(Refusal::NotOpen)) => match self.observer.open.known(name) {
-                Some(Known::Ended(ended)) if ended.standing == Standing::Committed => Ok(()),
-                _ => Err(self.ended(name)),
+            Some(Answer::Refused(Refusal::NotOpen)) => match self.observer.open.standing(name) {
+                Some(Standing::Committed) => Ok(()),
+                // the next store was asked, and the one before wasn't
+                _ => Err(self.uncommitted(name)),
             },
             Some(Answer::Refused(Refusal::Prepared)) => Err(self.prepared_problem(name)),
             Some(Answer::Refused(refusal)) => Err(Problem::new(refused(refusal), format!("the store refuses the commit: {refusal}"))),
@@ -199,10 +204,19 @@ impl Store {
             None => self.past.committed(&self.engine, greeting, name).await,
         };
         match committed {
-            Some(true) => Ok(()),
-            Some(false) => Err(self.ended(name)),
+            Some(true) => {
+                self.observer.learns(name, Standing::Committed);
+                Ok(())
+            }
+            Some(false) => Err(self.uncommitted(name)),
             None => Err(ProblemKind::OutcomeUnknown.into()),
         }
+    }
+
+    /// That a transaction has ended whose commit wasn't done, with the store if not before.
+    fn uncommitted(&self, name: TransactionName) -> Problem {
+        self.observer.learns(name, Standing::Aborted(Cause::Lost));
+        self.ended(name)
     }
 
     /// That a transaction has ended, and how as far as that is known.
@@ -212,6 +226,7 @@ impl Store {
             Some(Known::Ended(ended)) => match ended.standing {
                 Standing::Committed => problem.with("state", "committed"),
                 Standing::Aborted(cause) => problem.with("state", "aborted").with("cause", cause.word()),
+                Standing::Unknown => problem.with("state", "unknown"),
             },
             _ => problem.with("state", "aborted"),
         }
