@@ -69,8 +69,8 @@ returns-in-Err-stay_at_least-clause-left g c held is leaves =
     let stays = c.stay_at_least.ensures in
     let opened = c.in-Ok.ensures in
     inl
-        (staying-left g.S.Store c.args.asked.outcomes c.args.trees c.into_trees.result c.in-Ok.store c.stay_at_least.new.store held c.into_trees.ensures stays.crash stays.clean opened.sound opened.is_open opened.was_open opened.found
-        (λ db now left. g.met.S.Store.settled c.in-Ok.store.journal.store db now left) is)
+    (staying-left g.S.Store c.args.asked.outcomes c.args.trees c.into_trees.result c.in-Ok.store c.stay_at_least.new.store held c.into_trees.ensures stays.crash stays.clean opened.sound opened.is_open opened.was_open opened.found
+    (λ db now left. g.met.S.Store.settled c.in-Ok.store.journal.store db now left) is)
 
 pub returns-in-Err-clause-left : goal.returns-in-Err-clause-left
 returns-in-Err-clause-left g c held is leaves = inl (opening-left g.S.Store c.args.asked.outcomes c.args.trees c.in-Err.trees held c.in-Err.ensures.crash is leaves)
