@@ -33,12 +33,30 @@ impl Right {
     }
 }
 
+/// Some of the rights.
+#[derive(Clone, Copy, Debug, Default, PartialEq, Eq)]
+struct Rights([bool; Right::ALL.len()]);
+
+impl Rights {
+    fn has(self, right: Right) -> bool {
+        self.0[right as usize]
+    }
+}
+
+impl FromIterator<Right> for Rights {
+    fn from_iter<I: IntoIterator<Item = Right>>(all: I) -> Rights {
+        let mut rights = Rights::default();
+        all.into_iter().for_each(|right| rights.0[right as usize] = true);
+        rights
+    }
+}
+
 /// Who asks.
 #[derive(Clone, Debug, PartialEq, Eq)]
 pub struct Caller {
     /// The name of the token.
     pub name: Arc<str>,
-    rights: Vec<Right>,
+    rights: Rights,
 }
 
 impl Caller {
@@ -49,7 +67,7 @@ impl Caller {
 
     /// Whether this is allowed.
     pub fn may(&self, right: Right) -> bool {
-        self.rights.contains(&right)
+        self.rights.has(right)
     }
 }
 
@@ -148,7 +166,7 @@ fn token(line: &str) -> Result<Token, &'static str> {
         return Err("the name has to be 1 to 64 of a-z A-Z 0-9 _ : - .");
     }
     let right = |word: &str| Right::ALL.iter().find(|(known, _)| *known == word).map(|(_, right)| *right);
-    let rights = rights.split(',').map(right).collect::<Option<Vec<_>>>().ok_or("a right is read, write, types or admin")?;
+    let rights = rights.split(',').map(right).collect::<Option<Rights>>().ok_or("a right is read, write, types or admin")?;
     let mut bytes = [0; 32];
     hex::decode_to_slice(hash, &mut bytes).map_err(|_| "the hash has to be the 64 hexadecimal digits of a SHA-256")?;
     Ok(Token { hash: bytes, caller: Caller { name: Arc::from(name), rights } })

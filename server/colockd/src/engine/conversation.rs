@@ -153,7 +153,9 @@ fn add_line<A>(flight: &mut Flight<Waiter<A>>, asked: Asked<A>, lines: &mut Stri
     let Asked { question, to } = asked;
     let tag = flight.expect(question.form, Waiter { to, about: question.about, written: Instant::now() });
     // a string takes all that is written to it
-    let _ = writeln!(lines, "{tag} {}", question.words);
+    let _ = write!(lines, "{tag} ");
+    lines.push_str(&question.words);
+    lines.push('\n');
 }
 
 /// Hands each answer to whoever asked; why there are no more.

@@ -15,6 +15,7 @@ use crate::engine::conversation::{converse, How};
 use crate::engine::question::Question;
 use std::sync::Arc;
 use std::time::{Duration, Instant};
+use tokio::sync::mpsc::error::TrySendError;
 use tokio::sync::{mpsc, oneshot, watch};
 use tokio::time::{sleep, timeout};
 use tracing::{error, info, warn};
@@ -145,7 +146,8 @@ impl<A: Default + Send + 'static> Engine<A> {
                 status.changed().await.map_err(|_| Lost::Unasked)?;
             }
         };
-        timeout(limit, up).await.unwrap_or(Err(Lost::Unasked))
+        // boxed since timers are large, and what asks is moved
+        Box::pin(timeout(limit, up)).await.unwrap_or(Err(Lost::Unasked))
     }
 
     /// Waits for the first store, as long as it isn't started in vain too often; whether there is one.
@@ -170,7 +172,9 @@ impl<A: Default + Send + 'static> Engine<A> {
     /// [`Lost`] where none comes.
     pub async fn ask(&self, question: Question<A>) -> Outcome {
         let (to, told) = oneshot::channel();
-        self.put(Group { first: Asked { question, to }, rest: Vec::new(), is_end: false }).await?;
+        if let Err(group) = self.put_now(Group { first: Asked { question, to }, rest: Vec::new(), is_end: false }) {
+            Box::pin(self.put(group)).await?;
+        }
         told.await.unwrap_or(Err(Lost::InFlight))
     }
 
@@ -224,6 +228,16 @@ impl<A: Default + Send + 'static> Engine<A> {
                 return self.status() == Status::Ended;
             }
         }
+    }
+
+    /// Puts a group where the store is up and there is room, which is so almost always; else it comes back.
+    fn put_now(&self, group: Group<A>) -> Result<(), Group<A>> {
+        if !matches!(self.status(), Status::Up(_)) {
+            return Err(group);
+        }
+        self.groups.try_send(group).map_err(|unput| match unput {
+            TrySendError::Full(group) | TrySendError::Closed(group) => group,
+        })
     }
 
     async fn put(&self, group: Group<A>) -> Result<(), Lost> {

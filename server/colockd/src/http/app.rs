@@ -1,6 +1,7 @@
 //! What all requests share.
 
 use crate::http::body::Room;
+use crate::http::request_id::{RequestId, Run};
 use crate::limits::Limits;
 use crate::metrics::Metrics;
 use crate::problem::{Problem, ProblemKind};
@@ -34,8 +35,8 @@ pub struct App {
     pub is_insecure: bool,
     requests: Arc<Semaphore>,
     followers: Arc<Semaphore>,
-    ids: AtomicU64,
-    first_id: u64,
+    requests_begun: AtomicU64,
+    run: Run,
     is_draining: AtomicBool,
     is_closing: AtomicBool,
     ready: Mutex<Option<Instant>>,
@@ -44,9 +45,6 @@ pub struct App {
 impl App {
     /// For a store.
     pub fn new(store: Arc<Store>, tokens: Option<Tokens>, limits: Limits, metrics: Arc<Metrics>) -> App {
-        let mut first = [0; 8];
-        // without a drawn beginning ids are unique in one run alone
-        let _ = getrandom::getrandom(&mut first);
         App {
             store,
             tokens,
@@ -57,17 +55,22 @@ impl App {
             is_insecure: false,
             requests: Arc::new(Semaphore::new(limits.requests)),
             followers: Arc::new(Semaphore::new(limits.followers)),
-            ids: AtomicU64::new(0),
-            first_id: u64::from_ne_bytes(first),
+            requests_begun: AtomicU64::new(0),
+            run: Run::drawn(),
             is_draining: AtomicBool::new(false),
             is_closing: AtomicBool::new(false),
             ready: Mutex::default(),
         }
     }
 
-    /// The id of a request.
-    pub fn next_id(&self) -> String {
-        format!("{:016x}-{:x}", self.first_id, self.ids.fetch_add(1, Ordering::Relaxed))
+    /// The number of another request.
+    pub fn next_number(&self) -> u64 {
+        self.requests_begun.fetch_add(1, Ordering::Relaxed)
+    }
+
+    /// The id of the request with this number.
+    pub fn id(&self, number: u64) -> RequestId<'_> {
+        self.run.request(number)
     }
 
     /// Whether only this machine is to ask: nobody said otherwise, and there are no tokens.

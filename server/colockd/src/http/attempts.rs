@@ -1,7 +1,7 @@
 //! Whole transactions: one in a request, or a list of them.
 
 use crate::http::app::App;
-use crate::http::body::{parsed, seconds};
+use crate::http::body::{self, parsed, seconds};
 use crate::http::handling::{checked_key, key_in, Asked};
 use crate::http::replies::ok;
 use crate::limits::{LONGEST_WAIT, MOST_ATTEMPTS};
@@ -12,6 +12,7 @@ use futures_util::future::join_all;
 use hyper::{Body, Response};
 use serde::{Deserialize, Serialize};
 use serde_json::{Map, Value};
+use std::future::Future;
 use std::time::Duration;
 
 /// An attempt as it is asked for.
@@ -35,22 +36,28 @@ struct Done {
 /// # Errors
 ///
 /// A [`Problem`] where it isn't done.
-pub async fn attempt(app: &App, mut asked: Asked) -> Result<Response<Body>, Problem> {
-    app.begins()?;
-    let key = key_in(&asked.headers)?;
-    let bytes = asked.bytes(app).await?;
-    if is_list(&bytes) {
-        return Box::pin(list(app, parsed(&bytes)?, key.as_deref())).await;
+pub fn attempt(app: &App, asked: Asked) -> impl Future<Output = Result<Response<Body>, Problem>> + Send + '_ {
+    let (begins, key, body) = (app.begins(), key_in(&asked.headers), asked.body);
+    async move {
+        begins?;
+        let key = key?;
+        let bytes = body::read(body, &app.limits, &app.bodies).await?;
+        if is_list(&bytes) {
+            return Box::pin(list(app, parsed(&bytes)?, key.as_deref())).await;
+        }
+        let attempt = attempt_of(app, parsed(&bytes)?, key)?;
+        drop(bytes);
+        let replies = app.store.attempt(attempt).await?;
+        Ok(ok(&Done { replies }))
     }
-    let done = one(app, parsed(&bytes)?, key).await?;
-    Ok(ok(&done))
 }
 
 fn is_list(bytes: &[u8]) -> bool {
     bytes.iter().find(|byte| !byte.is_ascii_whitespace()) == Some(&b'[')
 }
 
-async fn one(app: &App, asked: AttemptAsked, header: Option<String>) -> Result<Done, Problem> {
+/// What is asked for, with the key of the body or the header.
+fn attempt_of(app: &App, asked: AttemptAsked, header: Option<String>) -> Result<Attempt, Problem> {
     let wait = seconds("wait", asked.wait, LONGEST_WAIT)?;
     let key = match (asked.key, header) {
         (Some(key), None) => Some(checked_key(&key)?),
@@ -59,12 +66,12 @@ async fn one(app: &App, asked: AttemptAsked, header: Option<String>) -> Result<D
         }
         (_, header) => header,
     };
-    let calls = resolved(asked.calls, &app.store.objects)?;
-    done(app, Attempt { calls, key, wait }).await
+    Ok(Attempt { calls: resolved(asked.calls, &app.store.objects)?, key, wait })
 }
 
-async fn done(app: &App, attempt: Attempt) -> Result<Done, Problem> {
-    let replies = app.store.attempt(attempt).await?;
+/// Does one of a list.
+async fn one(app: &App, asked: AttemptAsked) -> Result<Done, Problem> {
+    let replies = app.store.attempt(attempt_of(app, asked, None)?).await?;
     Ok(Done { replies })
 }
 
@@ -76,7 +83,7 @@ async fn list(app: &App, all: Vec<AttemptAsked>, header: Option<&str>) -> Result
     if header.is_some() {
         return Err(Problem::new(ProblemKind::BadHeader, "of a list each has a `key` of its own").with("header", "Idempotency-Key"));
     }
-    let answers = join_all(all.into_iter().map(|asked| one(app, asked, None))).await;
+    let answers = join_all(all.into_iter().map(|asked| one(app, asked))).await;
     Ok(ok(&answers.into_iter().map(member).collect::<Vec<_>>()))
 }
 

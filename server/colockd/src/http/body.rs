@@ -5,8 +5,10 @@ use crate::problem::{Problem, ProblemKind};
 use hyper::body::HttpBody;
 use hyper::Body;
 use serde::de::DeserializeOwned;
+use std::future::{poll_fn, Future};
 use std::ops::Deref;
 use std::sync::Arc;
+use std::task::Poll;
 use std::time::Duration;
 use tokio::sync::{OwnedSemaphorePermit, Semaphore};
 use tokio::time::timeout;
@@ -75,8 +77,28 @@ pub async fn read(mut body: Body, limits: &Limits, room: &Room) -> Result<Bytes,
         }
         Ok(())
     };
-    timeout(limits.patience, all).await.map_err(|_| slow(limits.patience))??;
+    limited(limits.patience, all).await.ok_or_else(|| slow(limits.patience))??;
     Ok(taken)
+}
+
+/// Waits for a future for so long. Where it is ready at its second poll, as a body is that came with its head, there is no timer.
+async fn limited<T>(limit: Duration, future: impl Future<Output = T>) -> Option<T> {
+    tokio::pin!(future);
+    let mut was_polled = false;
+    let soon = poll_fn(|context| match future.as_mut().poll(context) {
+        Poll::Ready(done) => Poll::Ready(Some(done)),
+        Poll::Pending if was_polled => Poll::Ready(None),
+        Poll::Pending => {
+            was_polled = true;
+            context.waker().wake_by_ref();
+            Poll::Pending
+        }
+    });
+    match soon.await {
+        Some(done) => Some(done),
+        // boxed since timers are large, and each request moves its future
+        None => Box::pin(timeout(limit, future)).await.ok(),
+    }
 }
 
 fn large(limits: &Limits) -> Problem {

@@ -128,9 +128,9 @@ async fn answer_all<S: AsyncRead + AsyncWrite + Unpin + Send + 'static>(app: Arc
     let (patience, requests) = (app.limits.patience, Arc::new(Requests::default()));
     let begun = Arc::clone(&requests);
     let service = service_fn(move |request| {
-        let (app, asked) = (Arc::clone(&app), begun.begins());
+        let (asked, answer) = (begun.begins(), handle(Arc::clone(&app), peer, request));
         async move {
-            let answer = handle(app, peer, request).await;
+            let answer = answer.await;
             drop(asked);
             Ok::<_, Infallible>(answer)
         }

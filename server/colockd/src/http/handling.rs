@@ -4,15 +4,22 @@ use crate::http::action::Action;
 use crate::http::app::App;
 use crate::http::body::Bytes;
 use crate::http::origin::is_own;
+use crate::http::request_id::RequestId;
 use crate::http::{attempts, body, decisions, events, objects, page, replies, status, transactions, types};
 use crate::limits::LONGEST_PATH;
 use crate::problem::{Problem, ProblemKind};
 use crate::tokens::Caller;
-use hyper::header::{HeaderMap, HeaderValue};
-use hyper::{Body, Request, Response};
+use hyper::header::{HeaderMap, HeaderName};
+use hyper::{Body, Request, Response, StatusCode};
+use std::future::Future;
 use std::net::SocketAddr;
 use std::sync::Arc;
-use std::time::Instant;
+use std::time::{Duration, Instant};
+use tokio::sync::OwnedSemaphorePermit;
+
+static REQUEST_ID: HeaderName = HeaderName::from_static("x-request-id");
+
+static IDEMPOTENCY_KEY: HeaderName = HeaderName::from_static("idempotency-key");
 
 /// What an answer is found by.
 pub struct Asked {
@@ -26,8 +33,6 @@ pub struct Asked {
     pub headers: HeaderMap,
     /// The body.
     pub body: Body,
-    /// The id of the request.
-    pub id: String,
 }
 
 impl Asked {
@@ -41,46 +46,62 @@ impl Asked {
     }
 }
 
-/// Answers a request.
-pub async fn handle(app: Arc<App>, peer: SocketAddr, request: Request<Body>) -> Response<Body> {
-    let (start, id) = (Instant::now(), app.next_id());
-    let _counted = app.metrics.counts_request();
-    let found = Action::of(request.method(), request.uri().path());
-    let label = found.as_ref().map_or("none", Action::label);
-    let answered = match found {
-        Ok(action) => admitted(&app, peer, action, request, &id).await,
-        Err(problem) => Err(problem),
-    };
-    let mut response = answered.unwrap_or_else(|problem| replies::problem(&problem));
-    let (seconds, status) = (start.elapsed(), response.status());
-    app.metrics.request_seconds.with_label_values(&[label, status.as_str()]).observe(seconds.as_secs_f64());
-    if matches!(label, "attempts" | "commit") && seconds >= app.slow {
-        tracing::warn!(id, route = label, status = status.as_u16(), seconds = seconds.as_secs_f64(), "a slow commit");
-    }
-    tracing::debug!(id, route = label, status = status.as_u16(), seconds = seconds.as_secs_f64(), "answered");
-    if let Ok(id) = HeaderValue::from_str(&id) {
-        response.headers_mut().insert("x-request-id", id);
-    }
-    response
+/// A request that is answered by what it asks for.
+struct Admitted {
+    asked: Asked,
+    _place: Option<OwnedSemaphorePermit>,
 }
 
-async fn admitted(app: &Arc<App>, peer: SocketAddr, action: Action, request: Request<Body>, id: &str) -> Result<Response<Body>, Problem> {
+/// Answers a request. What is asked is found out at once: the future is moved, and has only what it needs.
+pub fn handle(app: Arc<App>, peer: SocketAddr, request: Request<Body>) -> impl Future<Output = Response<Body>> + Send {
+    let (start, number) = (Instant::now(), app.next_number());
+    let counted = app.metrics.counts_request();
+    let found = Action::of(request.method(), request.uri().path());
+    let label = found.as_ref().map_or("none", Action::label);
+    let admitted = found.and_then(|action| admitted(&app, peer, action, request, app.id(number)));
+    async move {
+        let _counted = counted;
+        let answered = match admitted {
+            Ok(Admitted { asked, _place }) => dispatch(&app, asked).await,
+            Err(problem) => Err(problem),
+        };
+        let mut response = answered.unwrap_or_else(|problem| replies::problem(&problem));
+        note(&app, app.id(number), label, response.status(), start.elapsed());
+        if let Some(id) = app.id(number).value() {
+            response.headers_mut().insert(&REQUEST_ID, id);
+        }
+        response
+    }
+}
+
+/// Counts a request that was answered, and logs it.
+fn note(app: &App, id: RequestId<'_>, label: &'static str, status: StatusCode, took: Duration) {
+    let seconds = took.as_secs_f64();
+    app.metrics.request_seconds.with_label_values(&[label, status.as_str()]).observe(seconds);
+    if matches!(label, "attempts" | "commit") && took >= app.slow {
+        tracing::warn!(%id, route = label, status = status.as_u16(), seconds, "a slow commit");
+    }
+    tracing::debug!(%id, route = label, status = status.as_u16(), seconds, "answered");
+}
+
+/// What is asked, where it may be.
+fn admitted(app: &App, peer: SocketAddr, action: Action, request: Request<Body>, id: RequestId<'_>) -> Result<Admitted, Problem> {
     if request.uri().path_and_query().map_or(0, |path| path.as_str().len()) > LONGEST_PATH {
         return Err(ProblemKind::LongPath.into());
     }
     let caller = known(app, &action, &request);
     if let Err(problem) = &caller {
         app.metrics.refused_tokens.inc();
-        tracing::warn!(id, %peer, route = action.label(), problem = problem.kind.name(), caller = caller_name(app, request.headers()), "refused");
+        tracing::warn!(%id, %peer, route = action.label(), problem = problem.kind.name(), caller = caller_name(app, request.headers()), "refused");
     }
     let caller = caller?;
-    let _place = match action {
+    let place = match action {
         Action::Healthz | Action::Events => None,
         _ => Some(app.admitted()?),
     };
     let (parts, body) = request.into_parts();
     let query = parts.uri.query().map(str::to_string);
-    dispatch(app, Asked { action, caller, query, headers: parts.headers, body, id: id.to_string() }).await
+    Ok(Admitted { asked: Asked { action, caller, query, headers: parts.headers, body }, _place: place })
 }
 
 /// Who asks, where it may.
@@ -149,7 +170,7 @@ async fn rarely(app: &Arc<App>, asked: Asked) -> Result<Response<Body>, Problem>
 ///
 /// A [`Problem`] where it isn't a key.
 pub fn key_in(headers: &HeaderMap) -> Result<Option<String>, Problem> {
-    let mut all = headers.get_all("idempotency-key").iter();
+    let mut all = headers.get_all(&IDEMPOTENCY_KEY).iter();
     let Some(value) = all.next() else { return Ok(None) };
     if all.next().is_some() {
         return Err(Problem::new(ProblemKind::BadHeader, "Idempotency-Key is there twice").with("header", "Idempotency-Key"));

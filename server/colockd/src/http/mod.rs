@@ -14,6 +14,7 @@ pub mod page;
 pub mod patient;
 pub mod query;
 pub mod replies;
+pub mod request_id;
 pub mod status;
 pub mod tls;
 pub mod transactions;

@@ -9,7 +9,7 @@ use std::sync::Arc;
 use std::task::{ready, Context, Poll};
 use std::time::Duration;
 use tokio::io::{AsyncRead, AsyncWrite, ReadBuf};
-use tokio::time::{sleep, Sleep};
+use tokio::time::{sleep, sleep_until, Instant, Sleep};
 
 /// How a connection of HTTP/2 begins.
 const HTTP_2: &[u8] = b"PRI";
@@ -68,7 +68,7 @@ impl Drop for Request {
 struct Head {
     /// How many requests there were before it.
     before: usize,
-    limit: Pin<Box<Sleep>>,
+    deadline: Instant,
 }
 
 /// A stream with limits.
@@ -79,6 +79,8 @@ pub struct Patient<S> {
     requests: Arc<Requests>,
     writing: Option<Pin<Box<Sleep>>>,
     head: Option<Head>,
+    /// It wakes where a head is late; most heads come whole, and set none.
+    late: Option<Pin<Box<Sleep>>>,
     is_first: bool,
     is_http_2: bool,
     is_shut: bool,
@@ -88,7 +90,7 @@ pub struct Patient<S> {
 impl<S> Patient<S> {
     /// Of a stream, by which these requests come.
     pub fn new(stream: S, patience: Duration, requests: Arc<Requests>) -> Patient<S> {
-        Patient { stream, patience, requests, writing: None, head: None, is_first: true, is_http_2: false, is_shut: false, lingered: 0 }
+        Patient { stream, patience, requests, writing: None, head: None, late: None, is_first: true, is_http_2: false, is_shut: false, lingered: 0 }
     }
 
     /// A write that waits, waits so long.
@@ -108,7 +110,12 @@ impl<S> Patient<S> {
         if self.head.as_ref().is_some_and(|head| head.before != self.requests.begun()) {
             self.head = None;
         }
-        self.head.as_mut().is_some_and(|head| head.limit.as_mut().poll(context).is_ready())
+        let Some(head) = &self.head else { return false };
+        let late = self.late.get_or_insert_with(|| Box::pin(sleep_until(head.deadline)));
+        if late.deadline() != head.deadline {
+            late.as_mut().reset(head.deadline);
+        }
+        late.as_mut().poll(context).is_ready()
     }
 
     /// Some bytes were read.
@@ -118,7 +125,7 @@ impl<S> Patient<S> {
             self.is_http_2 = bytes.starts_with(HTTP_2);
         }
         if self.head.is_none() && !self.is_http_2 && self.requests.are_answered() {
-            self.head = Some(Head { before: self.requests.begun(), limit: Box::pin(sleep(self.patience)) });
+            self.head = Some(Head { before: self.requests.begun(), deadline: Instant::now() + self.patience });
         }
     }
 }

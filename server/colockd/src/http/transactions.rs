@@ -140,7 +140,7 @@ pub async fn commit(app: &App, asked: &Asked, name: TransactionName) -> Result<R
             let problem = known.map_or_else(|problem| problem, |_| app.store.ended(name));
             return match key {
                 // where it is long gone, its key may know it
-                Some(key) if problem.kind != ProblemKind::NoRight => app.store.committed_under(name, &key).await.map(|()| committed()),
+                Some(key) if problem.kind != ProblemKind::NoRight => Box::pin(app.store.committed_under(name, &key)).await.map(|()| committed()),
                 _ => Err(problem),
             };
         }

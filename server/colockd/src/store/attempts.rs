@@ -7,7 +7,7 @@ use crate::names::TransactionName;
 use crate::problem::{Problem, ProblemKind};
 use crate::store::about::{About, AttemptCalls, AttemptPlace};
 use crate::store::bell::Bell;
-use crate::store::calls::{words, Call};
+use crate::store::calls::{add_words, Call};
 use crate::store::waits::Stay;
 use crate::store::Store;
 use std::sync::Arc;
@@ -32,6 +32,20 @@ pub struct Attempt {
     pub key: Option<String>,
     /// How long it is tried.
     pub wait: Duration,
+}
+
+impl Attempt {
+    /// The line that asks for it.
+    fn line(&self) -> String {
+        let mut line = String::with_capacity(16 + 24 * self.calls.len());
+        line.push_str("do");
+        if let Some(key) = &self.key {
+            line.push_str(" =");
+            line.push_str(key);
+        }
+        add_words(&mut line, &self.calls);
+        line
+    }
 }
 
 /// What is done after a try.
@@ -65,10 +79,7 @@ impl Store {
     /// A [`Problem`] where it isn't done.
     pub async fn attempt(&self, attempt: Attempt) -> Result<Vec<String>, Problem> {
         let trying = self.trying(&attempt);
-        let line = match &attempt.key {
-            Some(key) => format!("do ={key}{}", words(&attempt.calls)),
-            None => format!("do{}", words(&attempt.calls)),
-        };
+        let line = attempt.line();
         let mut has_waited = false;
         let done = loop {
             let told = self.engine.ask(Question::about(line.as_str(), About::Attempt(Arc::clone(&trying.about)))).await;
@@ -77,7 +88,8 @@ impl Store {
                 Next::Ends(problem) => break Err(problem),
                 Next::Again => {}
                 Next::Sleep(end, kind) if Instant::now() >= end => break Err(kind.into()),
-                Next::Sleep(..) => sleep(BETWEEN_TRIES).await,
+                // boxed since timers are large, and each request moves its future
+                Next::Sleep(..) => Box::pin(sleep(BETWEEN_TRIES)).await,
                 Next::WaitForBell(problem) => {
                     has_waited = true;
                     let Some(bell) = trying.bell() else { break Err(problem) };

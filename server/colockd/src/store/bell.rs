@@ -52,7 +52,8 @@ impl Bell {
             if let Some(woken) = locked(&self.rung).take() {
                 return Some(woken);
             }
-            if timeout_at(deadline, self.notify.notified()).await.is_err() {
+            // boxed since timers are large, and what waits is moved
+            if Box::pin(timeout_at(deadline, self.notify.notified())).await.is_err() {
                 return locked(&self.rung).take();
             }
         }

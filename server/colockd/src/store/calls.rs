@@ -5,18 +5,43 @@ use crate::names::{is_name, is_object_name};
 use crate::problem::{Problem, ProblemKind};
 use crate::store::objects::{ObjectEntry, SharedObjects};
 use colock_waiting::{Class, ObjectIndex};
-use serde::Deserialize;
+use serde::de::{Error, Unexpected, Visitor};
+use serde::{Deserialize, Deserializer};
 use std::fmt::{self, Write};
 use std::sync::Arc;
 
 /// An object as it is asked for.
-#[derive(Clone, Debug, Deserialize, PartialEq, Eq)]
-#[serde(untagged)]
+#[derive(Clone, Debug, PartialEq, Eq)]
 pub enum ObjectAsked {
     /// By its name.
     Name(String),
     /// By its number.
     Number(u32),
+}
+
+impl<'de> Deserialize<'de> for ObjectAsked {
+    fn deserialize<D: Deserializer<'de>>(deserializer: D) -> Result<ObjectAsked, D::Error> {
+        deserializer.deserialize_any(OfObject)
+    }
+}
+
+/// Takes a text as a name.
+struct OfObject;
+
+impl Visitor<'_> for OfObject {
+    type Value = ObjectAsked;
+
+    fn expecting(&self, f: &mut fmt::Formatter<'_>) -> fmt::Result {
+        f.write_str("the name or the number of an object")
+    }
+
+    fn visit_str<E: Error>(self, name: &str) -> Result<ObjectAsked, E> {
+        Ok(ObjectAsked::Name(name.to_string()))
+    }
+
+    fn visit_u64<E: Error>(self, number: u64) -> Result<ObjectAsked, E> {
+        u32::try_from(number).map(ObjectAsked::Number).map_err(|_| E::invalid_value(Unexpected::Unsigned(number), &self))
+    }
 }
 
 impl fmt::Display for ObjectAsked {
@@ -109,19 +134,18 @@ pub fn shown(word: &str) -> String {
     word.chars().take(80).collect()
 }
 
-/// The words of calls in a line.
-pub fn words(calls: &[Call]) -> String {
-    let mut words = String::with_capacity(calls.len() * 24);
+/// Puts the words of calls into a line.
+pub fn add_words(line: &mut String, calls: &[Call]) {
     for call in calls {
         // a string takes all that is written to it
-        let _ = write!(words, " {} {}", call.object.number, call.name);
+        let _ = write!(line, " {} ", call.object.number);
+        line.push_str(&call.name);
     }
-    words
 }
 
 #[cfg(test)]
 mod tests {
-    use super::{resolved, words, CallAsked, ObjectAsked};
+    use super::{add_words, resolved, CallAsked, ObjectAsked};
     use crate::problem::ProblemKind;
     use crate::store::objects::{listed, listed_types, SharedObjects};
 
@@ -143,7 +167,18 @@ mod tests {
     fn objects_are_asked_for_by_name_or_number() {
         let calls = asked(r#"[{"object": "a", "call": "hold"}, {"object": 1, "call": "hold"}]"#);
         assert_eq!(calls[1].object, ObjectAsked::Number(1));
-        assert_eq!(words(&resolved(calls, &objects()).unwrap()), " 0 hold 1 hold");
+        let mut line = "do".to_string();
+        add_words(&mut line, &resolved(calls, &objects()).unwrap());
+        assert_eq!(line, "do 0 hold 1 hold");
+    }
+
+    #[test]
+    fn what_is_neither_a_name_nor_a_number_is_told() {
+        for wrong in ["true", "4294967296", "-1", "null", "1.5", "[]"] {
+            let text = format!(r#"[{{"object": {wrong}, "call": "hold"}}]"#);
+            let told = serde_json::from_str::<Vec<CallAsked>>(&text).unwrap_err().to_string();
+            assert!(told.contains("expected the name or the number of an object"), "{wrong}: {told}");
+        }
     }
 
     #[test]

@@ -60,7 +60,7 @@ impl Store {
             let told = self.engine.ask(Question::about("begin", About::Begin(beginning.clone()))).await.map_err(|_| ProblemKind::StoreAway)?;
             match told.answer() {
                 Some(Answer::Ok(name)) => return name.parse().map_err(|_| unexpected(&told)),
-                Some(Answer::Drain) if Instant::now() < end => sleep(BETWEEN_BEGINS).await,
+                Some(Answer::Drain) if Instant::now() < end => Box::pin(sleep(BETWEEN_BEGINS)).await,
                 Some(Answer::Drain) => return Err(ProblemKind::EpochEnding.into()),
                 Some(Answer::Refused(refusal)) => return Err(refused(refusal).into()),
                 _ => return Err(unexpected(&told)),
@@ -83,7 +83,7 @@ impl Store {
         if let Some(bell) = &asking.bell {
             if self.observer.waits.goes_behind(asking.asker(), bell) {
                 has_waited = true;
-                self.woken(&asking, || asking.problem(ProblemKind::Busy, "an older one that waits goes first")).await?;
+                Box::pin(self.woken(&asking, || asking.problem(ProblemKind::Busy, "an older one that waits goes first"))).await?;
             }
         }
         let done = loop {
@@ -106,7 +106,7 @@ impl Store {
         let told = self.engine.ask(Question::about(words, about)).await.map_err(|_| self.ended(asking.open.name))?;
         match told.answer() {
             Some(Answer::Reply(reply)) => Ok(Some(reply.to_string())),
-            Some(Answer::Busy(blocker)) => self.woken(asking, || asking.busy(blocker)).await.map(|()| None),
+            Some(Answer::Busy(blocker)) => Box::pin(self.woken(asking, || asking.busy(blocker))).await.map(|()| None),
             Some(Answer::Illegal) => Err(asking.problem(ProblemKind::Illegal, "no operation of it is legal now")),
             Some(Answer::Refused(Refusal::NotOpen)) => Err(self.ended(asking.open.name)),
             Some(Answer::Refused(Refusal::Prepared)) => Err(self.prepared_problem(asking.open.name)),
@@ -181,7 +181,7 @@ impl Store {
                 self.observer.learns(name, Standing::Aborted(Cause::Lost));
                 return Err(ProblemKind::StoreAway.into());
             }
-            Err(Lost::InFlight) => return self.commit_in_flight(name, key).await,
+            Err(Lost::InFlight) => return Box::pin(self.commit_in_flight(name, key)).await,
         };
         match told.answer() {
             Some(Answer::Ok(_)) => Ok(()),
