@@ -14,7 +14,9 @@ use Rattle.journal.specs.EmptyTable.{EmptiesEpoch}
 use Rattle.journal.specs.Contents.{IsFile, contents_of, extended_at}
 use Rattle.journal.specs.declared.numbers.Numbers.{Numbers}
 use Rattle.journal.proofs.Outcomes.{same-numbers}
-use Rattle.journal.specs.Journal.{CountsOutcomes, IsKeptFile, IsNamedOnce}
+use Rattle.journal.specs.OutcomeIndex.{CountsOutcomes}
+use Rattle.journal.specs.declared.outcome_index.OutcomeIndex.{OutcomeIndex}
+use Rattle.journal.specs.Journal.{IsKeptFile, IsNamedOnce}
 use Rattle.journal.proofs.RowLemmas.{rows-told}
 
 -- the views are those of the file before, without events and prepared transactions, with the first states, with all states, with all types, and with all objects
@@ -77,8 +79,8 @@ module _ (old none first states types new : View) (starts : List ℕ) (n prepare
   outcomes : new.trees 6 ≡ old.trees 6
   outcomes = stays 6 (λ is. omega (arith, is)) (λ is. omega (arith, is)) (λ is. omega (arith, is)) (λ is. omega (arith, is)) (λ is. omega (arith, is)) (lit< tt)
 
-  pub extends-numbers : (m : Numbers) → CountsOutcomes old m → CountsOutcomes new m
-  extends-numbers m has = same-numbers old new m outcomes gone.sound has
+  pub extends-numbers : (m : Numbers) (index : OutcomeIndex) → CountsOutcomes old m index → CountsOutcomes new m index
+  extends-numbers m index has = same-numbers old new m index outcomes gone.sound has
 
   pub extends : contents_of new.trees ≡ extended_at (contents_of old.trees) texts lines (front ++ back)
   extends = rw (events, headers, types-told, objects-told, states-told, prepared, outcomes) refl

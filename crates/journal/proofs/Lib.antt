@@ -8,6 +8,10 @@ pub mod Names
 pub mod Opens
 pub mod Emptied
 pub mod PutRows
+pub mod PlacedRows
+pub mod LastNumbers
+pub mod KeptRows
+pub mod KnownPlaces
 pub mod OutcomeNumbers
 pub mod StaysKnown
 pub mod Outcomes

@@ -16,7 +16,9 @@ use Rattle.journal.specs.declared.numbers.Numbers.{Numbers}
 use Rattle.journal.specs.Contents.{Contents, IsFile, contents_of}
 use Rattle.journal.specs.EmptyTable.{IsListedAnew, ListsAnew, MayEmpty}
 use Rattle.journal.specs.EventRow.{event_told, row_starts}
-use Rattle.journal.specs.Journal.{CountsOutcomes, IsKeptFile, IsNamedOnce, IsOwnNamed, IsRemade}
+use Rattle.journal.specs.OutcomeIndex.{CountsOutcomes}
+use Rattle.journal.specs.declared.outcome_index.OutcomeIndex.{OutcomeIndex}
+use Rattle.journal.specs.Journal.{IsKeptFile, IsNamedOnce, IsOwnNamed, IsRemade}
 use Rattle.journal.proofs.Emptied.{each-put, numbered-so}
 use Rattle.journal.proofs.Outcomes.{same-file, same-numbers}
 
@@ -79,8 +81,8 @@ module _ (old new : View) (starts : List ℕ) (n prepared : ℕ) (header : Heade
   pub says-same : contents_of new.trees ≡ contents_of old.trees
   says-same = rw (anew.rows 0 (lit< tt), anew.rows 1 (lit< tt), anew.rows 2 (lit< tt), anew.rows 3 (lit< tt), anew.rows 4 (lit< tt), anew.rows 5 (lit< tt), anew.rows 6 (lit< tt)) refl
 
-  pub counts-same : (m : Numbers) → CountsOutcomes old m → CountsOutcomes new m
-  counts-same m has = same-numbers old new m (anew.rows 6 (lit< tt)) anew.sound has
+  pub counts-same : (m : Numbers) (index : OutcomeIndex) → CountsOutcomes old m index → CountsOutcomes new m index
+  counts-same m index has = same-numbers old new m index (anew.rows 6 (lit< tt)) anew.sound has
 
   pub file-same : IsKeptFile new starts n prepared header
   file-same = record {

@@ -1,50 +1,64 @@
--- Outcomes and their numbers, as rows: what a file knows after one is kept, or let go, or its row is freed.
-use Rattle.std.proofs.Common.{◌≡◌, ◌<◌, ◌≤◌, ℕ, ◌+◌, ◌-◌, ◌==◌, List, map, slice_get, Option, Some, None, false, true, refl, sym, ap, ◌∙◌, inl, inr, arith, Bool, nat_lt, if◌then◌else◌}
-use Rattle.std.specs.Prelude.{pos, negsuc, option_map, unwrap_or}
+-- Outcomes and their numbers, as rows: what a file knows after one is kept, or let go, after a pointer is put, and after a row is freed.
+use Rattle.std.proofs.Common.{◌≡◌, ◌<◌, ◌≤◌, ℕ, ◌+◌, ◌-◌, ◌==◌, List, [], Option, Some, None, false, true, refl, sym, ap, subst, ◌∙◌, inl, inr, arith, Bool, cond, nat_lt, if◌then◌else◌}
+use Rattle.std.specs.Prelude.{pos, option_map}
+use Rattle.std.specs.Ordering.{is_eq, nat_cmp}
+use Rattle.std.specs.BTreeMap.{BTreeMap, get}
 use Rattle.std.proofs.Math.Path.{fun_ext}
-use Rattle.std.proofs.lemmas.Bool.{cases_eq, eq-eqb, le-ltb, lt-ltb, ltb-false, ltb-true, ne_eqb}
+use Rattle.std.proofs.lemmas.Bool.{cases_eq, eq-eqb, le-ltb, ltb-false, ltb-true, ne_eqb}
+use Rattle.std.proofs.lemmas.Option.{same_Some}
 use Rattle.sqlite_value.specs.Order.{Row}
 use Rattle.sqlite_trees.specs.Tree.{put_row, without_rowid}
 use Rattle.transaction_key.specs.TransactionKey.{key_place}
 use Rattle.journal.specs.declared.numbers.Numbers.{Numbers}
+use Rattle.journal.specs.declared.outcome_index.OutcomeIndex.{OutcomeIndex}
 use Rattle.journal.specs.declared.outcome_row.KeptOutcome.{KeptOutcome}
 use Rattle.journal.specs.declared.outcome_row.KeyedOutcome.{KeyedOutcome}
-use Rattle.journal.specs.Numbers.{first_numbers, numbers_in, numbers_row, numbers_told}
-use Rattle.journal.specs.OutcomeRow.{kept_row, outcome_read_back, outcome_row, outcome_told}
+use Rattle.journal.specs.declared.place_row.PlaceRow.{PlaceRow}
+use Rattle.journal.specs.declared.place_row.PlaceRow.TheVariants.{Pointer}
+use Rattle.journal.specs.Numbers.{AreCounted, numbers_in, numbers_row}
+use Rattle.journal.specs.OutcomeRow.{outcome_row}
+use Rattle.journal.specs.PlaceRow.{pointer_row}
+use Rattle.journal.specs.OutcomeIndex.{KnowsPlaces, awaiting_from, kept_from, kept_row, last_number, outcome_numbered, numbered_from, placed}
 use Rattle.journal.specs.Outcomes.{Outcomes, let_go, number_kept, outcomes_in, outcomes_of, outcomes_with, staying_from}
-use Rattle.journal.proofs.PutRows.{freed-other, freed-own, nowhere-itself, nowhere-place, place-itself, place-nowhere, pos-apart, put-other, put-own}
-
--- ---- rows
+use Rattle.journal.specs.Swept.{place_number}
+use Rattle.journal.proofs.PlacedRows.{ChangesAt, freed-changes, freed-none, numbered-as, numbers-there, outcome-there, place-low, placed-as, placed-none, pointer-there, put-changes, renumbered-numbered, renumbered-placed}
+use Rattle.journal.proofs.KeptRows.{kept-known, kept-last, number-freed, place-freed, same-count, same-kept}
+use Rattle.journal.proofs.KnownPlaces.{added-places, cmp-apart, cmp-same, last-new, none-awaits, none-in, put-places, round-kept, round-places, same-places}
 
 -- with an outcome at a place
 abbrev kept_with : (ℕ → Option KeptOutcome) → ℕ → KeptOutcome → ℕ → Option KeptOutcome
 kept_with kept place o n = if n == place then Some o else kept n
 
-pub outcome-there : (rows : List Row) (place : ℕ) (o : KeptOutcome) → kept_row (put_row (outcome_row place o) rows) ≡ kept_with (kept_row rows) place o
-unfolding kept_row
-outcome-there rows place o = fun_ext (λ n. elim (cases_eq n place) [
-  | inl is ↦ rw (is, eq-eqb place place refl) (put-own outcome_told (pos place) (outcome_row place o) refl (place-itself place) rows ∙ ap Some (outcome_read_back place o))
-  | inr differs ↦
-      let none : (n == place) ≡ false = ne_eqb n place differs in
-      rw none (ap (λ rs. slice_get (map outcome_told rs) 0) (put-other outcome_told (pos place) (outcome_row place o) refl (pos n) (pos-apart place n differs) rows))
-])
+abbrev all_of : Numbers → (ℕ → Option KeyedOutcome) → (ℕ → ℕ) → Outcomes
+all_of m at numbers = record { at = at; numbers = numbers; next = m.next; least = m.least }
 
-pub outcome-numbers : (rows : List Row) (place : ℕ) (o : KeptOutcome) → numbers_in (put_row (outcome_row place o) rows) ≡ numbers_in rows
-unfolding numbers_in
-outcome-numbers rows place o =
-    ap (λ rs. unwrap_or (slice_get (map numbers_told rs) 0) first_numbers) (put-other outcome_told (pos place) (outcome_row place o) refl (negsuc 0) (place-nowhere place) rows)
+-- ---- what a file says of its outcomes, by its numbers
 
-pub numbers-there : (rows : List Row) (m : Numbers) → numbers_in (put_row (numbers_row m) rows) ≡ m
-unfolding numbers_in
-numbers-there rows m = ap (λ found. unwrap_or found first_numbers) (put-own numbers_told (negsuc 0) (numbers_row m) refl nowhere-itself rows)
+pub outcomes-known : (rows : List Row) (m : Numbers) → m ≡ numbers_in rows → outcomes_in rows ≡ outcomes_of m (kept_from rows (awaiting_from m) m.awaiting)
+unfolding outcomes_in
+outcomes-known rows m is =
+    ap (λ (k : Numbers). outcomes_of k (kept_row rows)) (sym is)
+    ∙ ap (outcomes_of m) (fun_ext (λ p. kept-known rows m p is))
 
-pub numbers-outcomes : (rows : List Row) (m : Numbers) → kept_row (put_row (numbers_row m) rows) ≡ kept_row rows
-unfolding kept_row
-numbers-outcomes rows m = fun_ext (λ n. ap (λ rs. slice_get (map outcome_told rs) 0) (put-other numbers_told (negsuc 0) (numbers_row m) refl (pos n) (nowhere-place n) rows))
+-- at one place
+pub outcome-at : (rows : List Row) (m : Numbers) (p : ℕ) → m ≡ numbers_in rows → (outcomes_in rows).at p ≡ option_map (λ (o : KeptOutcome). o.kept) (staying_from m.first (kept_row rows p))
+unfolding outcomes_in
+outcome-at rows m p is = ap (λ (k : Numbers). option_map (λ (o : KeptOutcome). o.kept) (staying_from k.first (kept_row rows p))) (sym is)
+
+-- where the same of it stays
+pub same-outcomes : (m : Numbers) (one two : ℕ → Option KeptOutcome) → ((p : ℕ) → staying_from m.first (one p) ≡ staying_from m.first (two p)) → outcomes_of m one ≡ outcomes_of m two
+same-outcomes m one two same = ap (λ (s : ℕ → Option KeptOutcome). all_of m (λ n. option_map (λ (o : KeptOutcome). o.kept) (s n)) (λ n. number_kept (s n))) (fun_ext (λ n. same n))
 
 -- the numbers are written anew
-pub renumbered : (rows : List Row) (m : Numbers) → outcomes_in (put_row (numbers_row m) rows) ≡ outcomes_of m (kept_row rows)
-renumbered rows m = ap (λ (k : Numbers). outcomes_of k (kept_row (put_row (numbers_row m) rows))) (numbers-there rows m) ∙ ap (outcomes_of m) (numbers-outcomes rows m)
+renumbered-kept : (rows : List Row) (m : Numbers) (base count p : ℕ) → kept_from (put_row (numbers_row m) rows) base count p ≡ kept_from rows base count p
+renumbered-kept rows m base count p = same-kept rows (put_row (numbers_row m) rows) base p count (λ n low. renumbered-numbered rows m n) (λ none. renumbered-placed rows m p)
+
+pub renumbered : (rows : List Row) (m : Numbers) → outcomes_in (put_row (numbers_row m) rows) ≡ outcomes_of m (kept_from rows (awaiting_from m) m.awaiting)
+renumbered rows m = outcomes-known (put_row (numbers_row m) rows) m (sym (numbers-there rows m)) ∙ ap (outcomes_of m) (fun_ext (λ p. renumbered-kept rows m (awaiting_from m) m.awaiting p))
+
+pub renumbered-places : (rows : List Row) (m n : Numbers) (index : OutcomeIndex) → awaiting_from n ≡ awaiting_from m → n.next ≡ m.next → KnowsPlaces rows m index → KnowsPlaces (put_row (numbers_row n) rows) n index
+renumbered-places rows m n index base next knows =
+    same-places rows (put_row (numbers_row n) rows) m n index base next (λ k from. renumbered-numbered rows n k) (λ p k from is. renumbered-placed rows n p ∙ is) knows
 
 -- ---- one is kept
 
@@ -64,20 +78,72 @@ module _ (m : Numbers) (kept : ℕ → Option KeptOutcome) (o : KeyedOutcome) (w
   number-there n true = rw stays refl
   number-there n false = refl
 
-  pub keeps-one : (next : Numbers) → next ≡ record { next = m.next + 1; first = m.first; least = m.least } → outcomes_of next (kept_with kept (key_place o.key) its) ≡ outcomes_with (outcomes_of m kept) o
+  pub keeps-one : (next : Numbers) → next ≡ record { next = m.next + 1; first = m.first; least = m.least; awaiting = m.awaiting + 1 } → outcomes_of next (kept_with kept (key_place o.key) its) ≡ outcomes_with (outcomes_of m kept) o
   keeps-one next is = rw is (
       ap (λ at. let all : Outcomes = record { at = at; numbers = λ n. number_kept (staying_from m.first (kept_with kept (key_place o.key) its n)); next = m.next + 1; least = m.least } in all)
       (fun_ext (λ n. at-place n (n == key_place o.key)))
       ∙ ap (λ numbers. let all : Outcomes = record { at = (outcomes_with (outcomes_of m kept) o).at; numbers = numbers; next = m.next + 1; least = m.least } in all)
       (fun_ext (λ n. number-there n (n == key_place o.key))))
 
-pub kept-more : (rows : List Row) (m next : Numbers) (o : KeyedOutcome) → m ≡ numbers_in rows → m.first ≤ m.next → next ≡ record { next = m.next + 1; first = m.first; least = m.least }
-    → outcomes_in (put_row (numbers_row next) (put_row (outcome_row (key_place o.key) (record { kept = o; number = m.next })) rows)) ≡ outcomes_with (outcomes_in rows) o
-kept-more rows m next o known within is =
-    renumbered (put_row (outcome_row (key_place o.key) (record { kept = o; number = m.next })) rows) next
-    ∙ ap (outcomes_of next) (outcome-there rows (key_place o.key) (record { kept = o; number = m.next }))
-    ∙ keeps-one m (kept_row rows) o within next is
-    ∙ ap (λ (k : Numbers). outcomes_with (outcomes_of k (kept_row rows)) o) known
+module _ (rows : List Row) (m next : Numbers) (o : KeyedOutcome) (known : m ≡ numbers_in rows) (counted : AreCounted m)
+    (is : next ≡ record { next = m.next + 1; first = m.first; least = m.least; awaiting = m.awaiting + 1 }) (low : key_place o.key < numbered_from) where
+  abbrev it : KeptOutcome
+  it = record { kept = o; number = m.next }
+
+  -- the rows with its own
+  abbrev more : List Row
+  more = put_row (outcome_row (numbered_from + m.next) it) rows
+
+  changes : ChangesAt rows more (numbered_from + m.next)
+  changes = put-changes rows (numbered_from + m.next) (outcome_row (numbered_from + m.next) it) refl
+
+  other : (k : ℕ) → (k ≡ m.next → ⊥) → outcome_numbered more k ≡ outcome_numbered rows k
+  other k differs = numbered-as rows more k (changes.others (numbered_from + k) (λ same. differs (omega (arith, same))))
+
+  at-places : (p : ℕ) → placed more p ≡ placed rows p
+  at-places p = placed-as rows more p (λ within. changes.others p (λ same. omega (arith, within, same)))
+
+  base : awaiting_from next ≡ awaiting_from m
+  base = let ahead = ap (λ (k : Numbers). k.next) is in let await = ap (λ (k : Numbers). k.awaiting) is in let within = counted.awaits in omega (arith, ahead, await, within)
+
+  count : next.awaiting ≡ m.next + 1 - awaiting_from m
+  count = let await = ap (λ (k : Numbers). k.awaiting) is in let within = counted.awaits in omega (arith, await, within)
+
+  many : m.next - awaiting_from m ≡ m.awaiting
+  many = let within = counted.awaits in omega (arith, within)
+
+  last : (p : ℕ) → last_number more p (awaiting_from m) (m.next + 1 - awaiting_from m) ≡ cond (is_eq (nat_cmp (key_place o.key) p)) (Some m.next) (last_number more p (awaiting_from m) m.awaiting)
+  last p =
+      last-new more (awaiting_from m) m.next it p (omega arith) (outcome-there rows m.next o) low
+      ∙ ap (λ k. cond (is_eq (nat_cmp (key_place o.key) p)) (Some m.next) (last_number more p (awaiting_from m) k)) many
+
+  there : (p : ℕ) → kept_from more (awaiting_from m) (m.next + 1 - awaiting_from m) p ≡ kept_with (kept_from rows (awaiting_from m) m.awaiting) (key_place o.key) it p
+  there p = elim (cases_eq p (key_place o.key)) [
+    | inl same ↦
+        rw (same, eq-eqb (key_place o.key) (key_place o.key) refl)
+        (kept-last more (awaiting_from m) (m.next + 1 - awaiting_from m) (key_place o.key) m.next
+        (last (key_place o.key) ∙ ap (λ b. cond b (Some m.next) (last_number more (key_place o.key) (awaiting_from m) m.awaiting)) (cmp-same (key_place o.key) (key_place o.key) refl))
+        ∙ outcome-there rows m.next o)
+    | inr differs ↦
+        let none : (p == key_place o.key) ≡ false = ne_eqb p (key_place o.key) differs in
+        rw none
+        (same-count more (awaiting_from m) p _ _ (last p ∙ ap (λ b. cond b (Some m.next) (last_number more p (awaiting_from m) m.awaiting)) (cmp-apart (key_place o.key) p (λ same. differs (sym same))))
+        ∙ same-kept rows more (awaiting_from m) p m.awaiting (λ n before. other n (let within = counted.awaits in λ same. omega (arith, before, same, within))) (λ none. at-places p))
+  ]
+
+  pub kept-more : outcomes_in (put_row (numbers_row next) more) ≡ outcomes_with (outcomes_in rows) o
+  kept-more =
+      renumbered more next
+      ∙ ap (outcomes_of next) (fun_ext (λ p. ap (λ b. kept_from more b next.awaiting p) base ∙ ap (λ k. kept_from more (awaiting_from m) k p) count ∙ there p))
+      ∙ keeps-one m (kept_from rows (awaiting_from m) m.awaiting) o counted.within next is
+      ∙ ap (λ (all : Outcomes). outcomes_with all o) (sym (outcomes-known rows m known))
+
+  -- and the journal knows of it
+  pub knows-more : (index : OutcomeIndex) (fresh : BTreeMap ℕ ℕ) → ((q : ℕ) → get nat_cmp fresh q ≡ cond (is_eq (nat_cmp (key_place o.key) q)) (Some m.next) (get nat_cmp index.fresh q))
+      → KnowsPlaces rows m index → KnowsPlaces (put_row (numbers_row next) more) next (record { due = index.due; fresh = fresh; begun = index.begun })
+  knows-more index fresh has knows =
+      renumbered-places more next next (record { due = index.due; fresh = fresh; begun = index.begun }) refl refl
+      (added-places rows more m next index it fresh is counted.awaits other (outcome-there rows m.next o) at-places low has knows)
 
 -- ---- some are let go
 
@@ -151,10 +217,7 @@ module _ (first bound : ℕ) where
             let high : nat_lt o.number bound ≡ false = le-ltb o.number bound (let large = ltb-false o.number first low in omega (arith, within, large)) in
             rw (low, high) refl
 
-abbrev all_of : Numbers → (ℕ → Option KeyedOutcome) → (ℕ → ℕ) → Outcomes
-all_of m at numbers = record { at = at; numbers = numbers; next = m.next; least = m.least }
-
-pub let-go-first : (m next : Numbers) (kept : ℕ → Option KeptOutcome) → m.first < m.next - m.least → next ≡ record { next = m.next; first = m.next - m.least; least = m.least }
+pub let-go-first : (m next : Numbers) (kept : ℕ → Option KeptOutcome) → m.first < m.next - m.least → next ≡ record { next = m.next; first = m.next - m.least; least = m.least; awaiting = m.awaiting }
     → outcomes_of next kept ≡ let_go (outcomes_of m kept)
 let-go-first m next kept after is = rw is (
     ap (λ at. all_of m at (λ n. number_kept (staying_from (m.next - m.least) (kept n)))) (fun_ext (λ n. goes m.first (m.next - m.least) after (kept n)))
@@ -165,36 +228,116 @@ let-go-none-new m kept within = sym (
     ap (λ at. all_of m at (let_go (outcomes_of m kept)).numbers) (fun_ext (λ n. stays-so m.first (m.next - m.least) within (kept n)))
     ∙ ap (all_of m (outcomes_of m kept).at) (fun_ext (λ n. stays-number m.first (m.next - m.least) within (kept n))))
 
+-- ---- a pointer is put
+
+module _ (rows : List Row) (m : Numbers) (index : OutcomeIndex) (due : BTreeMap ℕ ℕ) (p n : ℕ) (low : p < numbered_from) (known : m ≡ numbers_in rows) (counted : AreCounted m)
+    (was : get nat_cmp index.due p ≡ Some n) (has : (q : ℕ) → get nat_cmp due q ≡ cond (is_eq (nat_cmp p q)) None (get nat_cmp index.due q)) (knows : KnowsPlaces rows m index) where
+  abbrev pointed : List Row
+  pointed = put_row (pointer_row p n) rows
+
+  points : ChangesAt rows pointed p
+  points = put-changes rows p (pointer_row p n) refl
+
+  same-number : (k : ℕ) → outcome_numbered pointed k ≡ outcome_numbered rows k
+  same-number k = numbered-as rows pointed k (points.others (numbered_from + k) (λ same. omega (arith, low, same)))
+
+  pub pointed-numbers : m ≡ numbers_in pointed
+  pointed-numbers = known ∙ sym points.numbers
+
+  -- one that has the place awaits, so its row isn't looked at
+  pointed-kept : (q : ℕ) → kept_from pointed (awaiting_from m) m.awaiting q ≡ kept_from rows (awaiting_from m) m.awaiting q
+  pointed-kept q = same-kept rows pointed (awaiting_from m) q m.awaiting (λ k before. same-number k) (λ none. placed-as rows pointed q (λ within. points.others q (λ same.
+      none-awaits rows m index counted.awaits knows p n was (subst (λ r. last_number rows r (awaiting_from m) m.awaiting ≡ None) same none))))
+
+  pub pointed-same : outcomes_in pointed ≡ outcomes_in rows
+  pointed-same = outcomes-known pointed m pointed-numbers ∙ ap (outcomes_of m) (fun_ext pointed-kept) ∙ sym (outcomes-known rows m known)
+
+  pub pointed-places : KnowsPlaces pointed m (record { due = due; fresh = index.fresh; begun = index.begun })
+  pointed-places = put-places rows pointed m index due p n same-number (pointer-there rows p n low) (λ q differs. placed-as rows pointed q (λ within. points.others q differs)) was has knows
+
+-- ---- a round begins
+
+module _ (rows : List Row) (m n : Numbers) (index later : OutcomeIndex) (known : m ≡ numbers_in rows) (counted : AreCounted m) (knows : KnowsPlaces rows m index) (none : index.due.entries ≡ [])
+    (is : n ≡ record { next = m.next; first = m.first; least = m.least; awaiting = m.next - index.begun }) where
+  ahead : n.next ≡ m.next
+  ahead = ap (λ (k : Numbers). k.next) is
+
+  await : n.awaiting ≡ m.next - index.begun
+  await = ap (λ (k : Numbers). k.awaiting) is
+
+  pub round-same : outcomes_in (put_row (numbers_row n) rows) ≡ outcomes_in rows
+  round-same =
+      let before = knows.before in
+      let from : awaiting_from n ≡ index.begun = omega (arith, ahead, await, before) in
+      renumbered rows n
+      ∙ ap (outcomes_of n) (fun_ext (λ p. ap (λ b. kept_from rows b n.awaiting p) from ∙ ap (λ k. kept_from rows index.begun k p) await
+      ∙ sym (round-kept rows m index counted.awaits knows p (λ q. none-in index.due q none))))
+      ∙ ap (λ (k : Numbers). outcomes_of k (kept_from rows (awaiting_from m) m.awaiting)) is
+      ∙ sym (outcomes-known rows m known)
+
+  pub later-places : later.due ≡ index.fresh → later.fresh.entries ≡ [] → later.begun ≡ m.next → KnowsPlaces (put_row (numbers_row n) rows) n later
+  later-places due fresh begun = renumbered-places rows n n later refl refl (round-places rows m n index later ahead await due fresh begun knows)
+
 -- ---- a row is freed
 
-pub freed-there : (rows : List Row) (place : ℕ) → kept_row (without_rowid (pos place) rows) ≡ (λ n. if n == place then None else kept_row rows n)
-unfolding kept_row
-freed-there rows place = fun_ext (λ n. elim (cases_eq n place) [
-  | inl is ↦ rw (is, eq-eqb place place refl) (ap (λ rs. slice_get (map outcome_told rs) 0) (freed-own (pos place) rows))
-  | inr differs ↦
-      let none : (n == place) ≡ false = ne_eqb n place differs in
-      rw none (ap (λ rs. slice_get (map outcome_told rs) 0) (freed-other (pos place) (pos n) (pos-apart n place (λ is. differs (sym is))) rows))
-])
+module _ (rows : List Row) (m : Numbers) (index : OutcomeIndex) (known : m ≡ numbers_in rows) (knows : KnowsPlaces rows m index) where
+  -- at a place
+  module _ (p : ℕ) (it : PlaceRow) (there : placed rows p ≡ Some it) (goes : place_number it < m.first) (before : place_number it < awaiting_from m) where
+    abbrev unplaced : List Row
+    unplaced = without_rowid (pos p) rows
 
-pub freed-numbers : (rows : List Row) (place : ℕ) → numbers_in (without_rowid (pos place) rows) ≡ numbers_in rows
-unfolding numbers_in
-freed-numbers rows place = ap (λ rs. unwrap_or (slice_get (map numbers_told rs) 0) first_numbers) (freed-other (pos place) (negsuc 0) (nowhere-place place) rows)
+    frees : ChangesAt rows unplaced p
+    frees = freed-changes rows p
 
-module _ (m : Numbers) (kept : ℕ → Option KeptOutcome) (place : ℕ) (gone : KeptOutcome) (there : kept place ≡ Some gone) (before : gone.number < m.first) where
-  low : staying_from m.first (kept place) ≡ None
-  low = ap (staying_from m.first) there ∙ ap (λ b. if b then None else Some gone) (lt-ltb gone.number m.first before)
+    numbers-stay : (k : ℕ) → outcome_numbered unplaced k ≡ outcome_numbered rows k
+    numbers-stay k = numbered-as rows unplaced k (frees.others (numbered_from + k) (λ same. let low = place-low rows p it there in omega (arith, low, same)))
 
-  without : (n : ℕ) → staying_from m.first (if n == place then None else kept n) ≡ staying_from m.first (kept n)
-  without n = elim (cases_eq n place) [
-    | inl is ↦ rw (is, eq-eqb place place refl) (sym low)
-    | inr differs ↦ let none : (n == place) ≡ false = ne_eqb n place differs in rw none refl
-  ]
+    others-stay : (q : ℕ) → (q ≡ p → ⊥) → placed unplaced q ≡ placed rows q
+    others-stay q differs = placed-as rows unplaced q (λ within. frees.others q differs)
 
-  pub frees-gone : outcomes_of m (λ n. if n == place then None else kept n) ≡ outcomes_of m kept
-  frees-gone = ap (λ (s : ℕ → Option KeptOutcome). all_of m (λ n. option_map (λ (o : KeptOutcome). o.kept) (s n)) (λ n. number_kept (s n))) (fun_ext (λ n. without n))
+    kept-still : (q : ℕ) → staying_from m.first (kept_from unplaced (awaiting_from m) m.awaiting q) ≡ staying_from m.first (kept_from rows (awaiting_from m) m.awaiting q)
+    kept-still q = elim (cases_eq q p) [
+      | inl same ↦ subst (λ r. staying_from m.first (kept_from unplaced (awaiting_from m) m.awaiting r) ≡ staying_from m.first (kept_from rows (awaiting_from m) m.awaiting r)) (sym same)
+          (place-freed m.first rows unplaced (awaiting_from m) p it goes numbers-stay m.awaiting there (placed-none unplaced p (freed-none rows p)))
+      | inr differs ↦ ap (staying_from m.first) (same-kept rows unplaced (awaiting_from m) q m.awaiting (λ k low. numbers-stay k) (λ none. others-stay q differs))
+    ]
 
-pub freed-same : (rows : List Row) (place : ℕ) (gone : KeptOutcome) → kept_row rows place ≡ Some gone → gone.number < (numbers_in rows).first → outcomes_in (without_rowid (pos place) rows) ≡ outcomes_in rows
-freed-same rows place gone there before =
-    ap (λ (k : Numbers). outcomes_of k (kept_row (without_rowid (pos place) rows))) (freed-numbers rows place)
-    ∙ ap (outcomes_of (numbers_in rows)) (freed-there rows place)
-    ∙ frees-gone (numbers_in rows) (kept_row rows) place gone there before
+    pub place-freed-numbers : m ≡ numbers_in unplaced
+    place-freed-numbers = known ∙ sym frees.numbers
+
+    pub place-freed-same : outcomes_in unplaced ≡ outcomes_in rows
+    place-freed-same = outcomes-known unplaced m place-freed-numbers ∙ same-outcomes m _ _ kept-still ∙ sym (outcomes-known rows m known)
+
+    pub place-freed-places : KnowsPlaces unplaced m index
+    place-freed-places = same-places rows unplaced m m index refl refl (λ k from. numbers-stay k) (λ q k from is. elim (cases_eq q p) [
+      | inl same ↦ absurd (
+          let number : k ≡ place_number it = sym (ap place_number (same_Some it (Pointer k) (sym there ∙ ap (placed rows) (sym same) ∙ is))) in
+          omega (arith, before, from, number))
+      | inr differs ↦ others-stay q differs ∙ is
+    ]) knows
+
+  -- by a number
+  module _ (n : ℕ) (goes : n < m.first) (before : n < awaiting_from m) where
+    abbrev unnumbered : List Row
+    unnumbered = without_rowid (pos (numbered_from + n)) rows
+
+    loses : ChangesAt rows unnumbered (numbered_from + n)
+    loses = freed-changes rows (numbered_from + n)
+
+    others-numbered : (k : ℕ) → (k ≡ n → ⊥) → outcome_numbered unnumbered k ≡ outcome_numbered rows k
+    others-numbered k differs = numbered-as rows unnumbered k (loses.others (numbered_from + k) (λ same. differs (omega (arith, same))))
+
+    places-stay : (p : ℕ) → placed unnumbered p ≡ placed rows p
+    places-stay p = placed-as rows unnumbered p (λ within. loses.others p (λ same. omega (arith, within, same)))
+
+    pub number-freed-numbers : m ≡ numbers_in unnumbered
+    number-freed-numbers = known ∙ sym loses.numbers
+
+    pub number-freed-same : outcomes_in unnumbered ≡ outcomes_in rows
+    number-freed-same =
+        outcomes-known unnumbered m number-freed-numbers
+        ∙ same-outcomes m _ _ (λ p. number-freed m.first rows unnumbered (awaiting_from m) p n goes others-numbered m.awaiting before (places-stay p))
+        ∙ sym (outcomes-known rows m known)
+
+    pub number-freed-places : KnowsPlaces unnumbered m index
+    number-freed-places = same-places rows unnumbered m m index refl refl (λ k from. others-numbered k (λ same. omega (arith, before, from, same))) (λ p k from is. places-stay p ∙ is) knows

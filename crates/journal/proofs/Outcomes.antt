@@ -1,63 +1,32 @@
 -- What is kept of transactions that have keys, in a file.
-use Rattle.std.proofs.Common.{◌≡◌, ℕ, ◌+◌, ◌-◌, ◌<◌, ◌≤◌, List, [], length, map, Option, Some, None, false, true, refl, sym, ap, subst, ◌∙◌, IsTrue, inl, inr, lit<, arith, Bool}
-use Rattle.std.specs.Prelude.{pos, negsuc, option_map, slice_get, unwrap_or}
+use Rattle.std.proofs.Common.{◌≡◌, ℕ, ◌+◌, ◌-◌, ◌<◌, ◌≤◌, List, [], length, map, Some, None, false, true, refl, sym, ap, subst, ◌∙◌, IsTrue, inl, inr, lit<, arith, Bool, cond, nat_lt, if◌then◌else◌}
+use Rattle.std.specs.Ordering.{is_eq, nat_cmp}
+use Rattle.std.specs.BTreeMap.{BTreeMap, get}
+use Rattle.std.proofs.Math.Path.{fun_ext}
 use Rattle.std.proofs.lemmas.Bool.{cases_eq}
-use Rattle.std.proofs.lemmas.Option.{none-some, same_Some}
 use Rattle.sqlite_value.specs.Order.{Row}
 use Rattle.sqlite_trees.specs.Objects.{catalog_tree}
 use Rattle.sqlite_trees.specs.Tree.{put_row, Trees}
-use Rattle.sqlite_trees.specs.View.{View, Finds, SetsTree}
+use Rattle.sqlite_trees.specs.View.{View, SetsTree}
 use Rattle.transaction_key.specs.TransactionKey.{key_place}
 use Rattle.event_text.specs.EventText.{AreShort}
 use Rattle.journal.specs.declared.header.Header.{Header}
 use Rattle.journal.specs.declared.numbers.Numbers.{Numbers}
-use Rattle.journal.specs.declared.outcome_row.KeptOutcome.{KeptOutcome}
+use Rattle.journal.specs.declared.outcome_index.OutcomeIndex.{OutcomeIndex}
 use Rattle.journal.specs.declared.outcome_row.KeyedOutcome.{KeyedOutcome}
-use Rattle.journal.specs.Numbers.{AreCounted, first_numbers, numbers_in, numbers_row, numbers_told}
-use Rattle.journal.specs.OutcomeRow.{kept_row, outcome_row, outcome_told}
+use Rattle.journal.specs.Numbers.{AreCounted, first_numbers, numbers_in, numbers_row}
+use Rattle.journal.specs.OutcomeRow.{outcome_row}
+use Rattle.journal.specs.PlaceRow.{pointer_row}
+use Rattle.journal.specs.OutcomeIndex.{CountsOutcomes, KnowsOutcomes, awaiting_from, kept_from, kept_row, last_number, led_to, numbered_from, placed, row_at}
 use Rattle.journal.specs.Outcomes.{Outcomes, let_go, no_outcomes, outcomes_in, outcomes_of, staying}
 use Rattle.journal.specs.EventRow.{event_told, row_starts}
 use Rattle.journal.specs.Contents.{Contents, IsFile, IsOlderThan, contents_of, keyed_format, preparing_format, with_outcome}
 use Rattle.journal.specs.EmptyTable.{Empties}
-use Rattle.journal.specs.Swept.{Frees, KeepsKnown}
+use Rattle.journal.specs.Swept.{Frees, place_number}
 use Rattle.journal.specs.Tables.{IsUnused, OnlyReads}
-use Rattle.journal.specs.Journal.{CountsOutcomes, HasTables, IsKeptFile, IsNamedOnce}
-use Rattle.journal.proofs.OutcomeNumbers.{freed-numbers, freed-same, kept-more, let-go-first, let-go-none-new, numbers-there, renumbered}
-
--- ---- a row is looked for
-
-pub none-there : (rows : List Row) (n : ℕ) (row : Row) (found : Bool) → found ≡ false → Finds rows (pos n) row found → None ≡ kept_row rows n
-unfolding kept_row
-none-there rows n row true none finds = absurd (cc)
-none-there rows n row false none finds = ap (λ rs. slice_get (map outcome_told rs) 0) (sym finds)
-
-pub one-there : (rows : List Row) (n : ℕ) (row : Row) (found : Bool) (o : KeptOutcome) → IsTrue found → Finds rows (pos n) row found → outcome_told row ≡ o → Some o ≡ kept_row rows n
-unfolding kept_row
-one-there rows n row true o there finds is = sym (ap (λ rs. slice_get (map outcome_told rs) 0) finds ∙ ap Some is)
-one-there rows n row false o there finds is = absurd (cc)
-
-pub number-there : (rows : List Row) (n : ℕ) (row : Row) (found : Bool) (number : ℕ) → IsTrue found → Finds rows (pos n) row found → (outcome_told row).number ≡ number
-    → Some number ≡ option_map (λ (o : KeptOutcome). o.number) (kept_row rows n)
-number-there rows n row found number there finds is = ap Some (sym is) ∙ ap (option_map (λ (o : KeptOutcome). o.number)) (one-there rows n row found (outcome_told row) there finds refl)
-
-pub no-number-there : (rows : List Row) (n : ℕ) (row : Row) (found : Bool) → found ≡ false → Finds rows (pos n) row found → None ≡ option_map (λ (o : KeptOutcome). o.number) (kept_row rows n)
-no-number-there rows n row found none finds = ap (option_map (λ (o : KeptOutcome). o.number)) (none-there rows n row found none finds)
-
--- and the row of their numbers
-pub none-nowhere : (rows : List Row) (row : Row) (found : Bool) → found ≡ false → Finds rows (negsuc 0) row found → first_numbers ≡ numbers_in rows
-unfolding numbers_in
-none-nowhere rows row true none finds = absurd (cc)
-none-nowhere rows row false none finds = ap (λ rs. unwrap_or (slice_get (map numbers_told rs) 0) first_numbers) (sym finds)
-
-pub one-nowhere : (rows : List Row) (row : Row) (found : Bool) (m : Numbers) → IsTrue found → Finds rows (negsuc 0) row found → numbers_told row ≡ m → m ≡ numbers_in rows
-unfolding numbers_in
-one-nowhere rows row true m there finds is = sym (ap (λ rs. unwrap_or (slice_get (map numbers_told rs) 0) first_numbers) finds ∙ is)
-one-nowhere rows row false m there finds is = absurd (cc)
-
--- an outcome that has a number is there
-pub some-number : (k : Option KeptOutcome) (number : ℕ) → Some number ≡ option_map (λ (o : KeptOutcome). o.number) k → (gone : KeptOutcome) × (k ≡ Some gone) × (gone.number ≡ number)
-some-number None number is = absurd (none-some number (sym is))
-some-number (Some o) number is = (o, refl, sym (same_Some number o.number is))
+use Rattle.journal.specs.Journal.{HasTables, IsKeptFile, IsNamedOnce}
+use Rattle.journal.proofs.PlacedRows.{numbers-there}
+use Rattle.journal.proofs.OutcomeNumbers.{kept-more, knows-more, later-places, let-go-first, let-go-none-new, number-freed-numbers, number-freed-places, number-freed-same, outcomes-known, place-freed-numbers, place-freed-places, place-freed-same, pointed-numbers, pointed-places, pointed-same, renumbered, renumbered-places, round-same}
 
 -- where nothing is, nothing is kept
 empty-numbers : numbers_in [] ≡ first_numbers
@@ -65,10 +34,15 @@ unfolding numbers_in
 empty-numbers = refl
 
 empty-rows : kept_row [] ≡ (λ n. None)
-unfolding kept_row
-empty-rows = refl
+unfolding kept_row kept_from last_number placed row_at
+empty-rows = fun_ext (λ p. ap (λ (k : Numbers). kept_from [] (awaiting_from k) k.awaiting p) empty-numbers ∙ by p (nat_lt p numbered_from))
+  where
+    by : (p : ℕ) (b : Bool) → led_to [] 1 p (if b then None else None) ≡ None
+    by p true = refl
+    by p false = refl
 
 pub empty-outcomes : outcomes_in [] ≡ no_outcomes
+unfolding outcomes_in
 empty-outcomes = ap (λ (m : Numbers). outcomes_of m (kept_row [])) empty-numbers ∙ ap (outcomes_of first_numbers) empty-rows
 
 pub none-kept : (old new : View) → OnlyReads old new → IsUnused old → old.trees 6 ≡ [] → (contents_of new.committed).outcomes ≡ no_outcomes
@@ -122,81 +96,155 @@ pub numbered-keyed : (v : View) (starts : List ℕ) (n prepared : ℕ) (header :
 numbered-keyed v starts n prepared header m kept sound is other older =
     other (is ∙ ap numbers_in ((kept.file sound).outcomes (subst (IsOlderThan keyed_format) (sym (kept.header_is sound)) older)) ∙ empty-numbers)
 
--- where their rows are as they were, so are the numbers
-pub same-numbers : (old new : View) (m : Numbers) → new.trees 6 ≡ old.trees 6 → old.is_broken ≡ false → CountsOutcomes old m → CountsOutcomes new m
-same-numbers old new m rows sound has now = let (is, counted) = has sound in (is ∙ sym (ap numbers_in rows), counted)
+-- where their rows are as they were, so is what is known of them
+pub same-numbers : (old new : View) (m : Numbers) (index : OutcomeIndex) → new.trees 6 ≡ old.trees 6 → old.is_broken ≡ false → CountsOutcomes old m index → CountsOutcomes new m index
+same-numbers old new m index rows sound has now = subst (λ rs. KnowsOutcomes rs m index) (sym rows) (has sound)
 
 -- ---- an outcome is kept, with the next number
 
-module _ (old mid new : View) (starts : List ℕ) (n prepared : ℕ) (header : Header) (m next : Numbers) (o : KeyedOutcome)
-    (puts : SetsTree old mid 6 (put_row (outcome_row (key_place o.key) (record { kept = o; number = m.next })))) (counts : SetsTree mid new 6 (put_row (numbers_row next)))
-    (kept : IsKeptFile old starts n prepared header) (has : CountsOutcomes old m) (keyed : header.format < keyed_format → ⊥) (is : next ≡ record { next = m.next + 1; first = m.first; least = m.least }) where
+module _ (old mid new : View) (starts : List ℕ) (n prepared : ℕ) (header : Header) (m next : Numbers) (index : OutcomeIndex) (o : KeyedOutcome)
+    (puts : SetsTree old mid 6 (put_row (outcome_row (numbered_from + m.next) (record { kept = o; number = m.next })))) (counts : SetsTree mid new 6 (put_row (numbers_row next)))
+    (kept : IsKeptFile old starts n prepared header) (has : CountsOutcomes old m index) (keyed : header.format < keyed_format → ⊥)
+    (is : next ≡ record { next = m.next + 1; first = m.first; least = m.least; awaiting = m.awaiting + 1 }) (low : key_place o.key < numbered_from) where
   abbrev edit_of : List Row → List Row
-  edit_of = put_row (outcome_row (key_place o.key) (record { kept = o; number = m.next }))
+  edit_of = put_row (outcome_row (numbered_from + m.next) (record { kept = o; number = m.next }))
 
   between : IsKeptFile mid starts n prepared header
   between = keeps-file old mid starts n prepared header edit_of puts kept keyed
+
+  rows-are : mid.trees 6 ≡ edit_of (old.trees 6)
+  rows-are = edited old mid starts n prepared header edit_of puts kept keyed
 
   pub keeps-outcome : contents_of new.trees ≡ with_outcome (contents_of old.trees) o
   keeps-outcome =
       changes mid new starts n prepared header (put_row (numbers_row next)) counts between keyed
       ∙ ap (λ (c : Contents). record c { outcomes = outcomes_in (put_row (numbers_row next) (mid.trees 6)) }) (changes old mid starts n prepared header edit_of puts kept keyed)
-      ∙ ap (λ rows. record (contents_of old.trees) { outcomes = outcomes_in (put_row (numbers_row next) rows) }) (edited old mid starts n prepared header edit_of puts kept keyed)
-      ∙ ap (λ (all : Outcomes). record (contents_of old.trees) { outcomes = all }) (kept-more (old.trees 6) m next o (has puts.sound).0 (has puts.sound).1.within is)
+      ∙ ap (λ rows. record (contents_of old.trees) { outcomes = outcomes_in (put_row (numbers_row next) rows) }) rows-are
+      ∙ ap (λ (all : Outcomes). record (contents_of old.trees) { outcomes = all }) (kept-more (old.trees 6) m next o (has puts.sound).numbers (has puts.sound).counted is low)
 
   pub keeps-outcome-file : IsKeptFile new starts n prepared header
   keeps-outcome-file = keeps-file mid new starts n prepared header (put_row (numbers_row next)) counts between keyed
 
--- the numbers are those that were written
-pub has-written : (old new : View) (next : Numbers) → SetsTree old new 6 (put_row (numbers_row next)) → AreCounted next → CountsOutcomes new next
-has-written old new next sets counted sound = (sym (ap (λ (v : View). numbers_in (v.trees 6)) sets.is ∙ numbers-there (old.trees 6) next), counted)
+  -- which is known of too
+  pub keeps-outcome-known : AreCounted next → (fresh : BTreeMap ℕ ℕ) → ((q : ℕ) → get nat_cmp fresh q ≡ cond (is_eq (nat_cmp (key_place o.key) q)) (Some m.next) (get nat_cmp index.fresh q))
+      → CountsOutcomes new next (record { due = index.due; fresh = fresh; begun = index.begun })
+  keeps-outcome-known counted fresh got sound =
+      let rows : new.trees 6 ≡ put_row (numbers_row next) (edit_of (old.trees 6)) = edited mid new starts n prepared header (put_row (numbers_row next)) counts between keyed ∙ ap (put_row (numbers_row next)) rows-are in
+      let known = has puts.sound in
+      subst (λ rs. KnowsOutcomes rs next (record { due = index.due; fresh = fresh; begun = index.begun })) (sym rows) (record {
+        numbers = sym (numbers-there (edit_of (old.trees 6)) next);
+        counted = counted;
+        places = knows-more (old.trees 6) m next o known.numbers known.counted is low index fresh got known.places;
+      })
 
 -- ---- other outcomes stay
 
-module _ (old new : View) (starts : List ℕ) (n prepared : ℕ) (header : Header) (m next : Numbers) (counts : SetsTree old new 6 (put_row (numbers_row next)))
-    (kept : IsKeptFile old starts n prepared header) (has : CountsOutcomes old m) (keyed : header.format < keyed_format → ⊥) where
-  pub recounts : contents_of new.trees ≡ record (contents_of old.trees) { outcomes = outcomes_of next (kept_row (old.trees 6)) }
+module _ (old new : View) (starts : List ℕ) (n prepared : ℕ) (header : Header) (m next : Numbers) (index : OutcomeIndex) (counts : SetsTree old new 6 (put_row (numbers_row next)))
+    (kept : IsKeptFile old starts n prepared header) (has : CountsOutcomes old m index) (keyed : header.format < keyed_format → ⊥) where
+  rows-now : new.trees 6 ≡ put_row (numbers_row next) (old.trees 6)
+  rows-now = edited old new starts n prepared header (put_row (numbers_row next)) counts kept keyed
+
+  recounts : contents_of new.trees ≡ record (contents_of old.trees) { outcomes = outcomes_of next (kept_from (old.trees 6) (awaiting_from next) next.awaiting) }
   recounts = changes old new starts n prepared header (put_row (numbers_row next)) counts kept keyed ∙ ap (λ (all : Outcomes). record (contents_of old.trees) { outcomes = all }) (renumbered (old.trees 6) next)
 
+  -- where as many await they are known of as before
+  pub has-written : AreCounted next → next.next ≡ m.next → next.awaiting ≡ m.awaiting → CountsOutcomes new next index
+  has-written counted ahead await sound =
+      let same : awaiting_from next ≡ awaiting_from m = ap (λ k. k - next.awaiting) ahead ∙ ap (λ k. m.next - k) await in
+      subst (λ rs. KnowsOutcomes rs next index) (sym rows-now) (record {
+        numbers = sym (numbers-there (old.trees 6) next);
+        counted = counted;
+        places = renumbered-places (old.trees 6) m next index same ahead (has counts.sound).places;
+      })
+
   -- so many of the last from now on
-  pub keeps-least : (least : ℕ) → next ≡ record { next = m.next; first = m.first; least = least } → contents_of new.trees ≡ record (contents_of old.trees) { outcomes = staying (contents_of old.trees).outcomes least }
+  pub keeps-least : (least : ℕ) → next ≡ record { next = m.next; first = m.first; least = least; awaiting = m.awaiting } → contents_of new.trees ≡ record (contents_of old.trees) { outcomes = staying (contents_of old.trees).outcomes least }
   keeps-least least is =
-      recounts ∙ ap (λ (k : Numbers). record (contents_of old.trees) { outcomes = outcomes_of k (kept_row (old.trees 6)) }) is
-      ∙ ap (λ (k : Numbers). record (contents_of old.trees) { outcomes = staying (outcomes_of k (kept_row (old.trees 6))) least }) (has counts.sound).0
+      recounts ∙ ap (λ (k : Numbers). record (contents_of old.trees) { outcomes = outcomes_of k (kept_from (old.trees 6) (awaiting_from k) k.awaiting) }) is
+      ∙ ap (λ (all : Outcomes). record (contents_of old.trees) { outcomes = staying all least }) (sym (outcomes-known (old.trees 6) m (has counts.sound).numbers))
 
   -- or those since which fewer were kept
-  pub lets-go : m.first < m.next - m.least → next ≡ record { next = m.next; first = m.next - m.least; least = m.least }
+  pub lets-go : m.first < m.next - m.least → next ≡ record { next = m.next; first = m.next - m.least; least = m.least; awaiting = m.awaiting }
       → contents_of new.trees ≡ record (contents_of old.trees) { outcomes = let_go (contents_of old.trees).outcomes }
   lets-go after is =
-      recounts ∙ ap (λ (all : Outcomes). record (contents_of old.trees) { outcomes = all }) (let-go-first m next (kept_row (old.trees 6)) after is)
-      ∙ ap (λ (k : Numbers). record (contents_of old.trees) { outcomes = let_go (outcomes_of k (kept_row (old.trees 6))) }) (has counts.sound).0
+      recounts ∙ ap (λ (k : Numbers). record (contents_of old.trees) { outcomes = outcomes_of next (kept_from (old.trees 6) (awaiting_from k) k.awaiting) }) is
+      ∙ ap (λ (all : Outcomes). record (contents_of old.trees) { outcomes = all }) (let-go-first m next (kept_from (old.trees 6) (awaiting_from m) m.awaiting) after is)
+      ∙ ap (λ (all : Outcomes). record (contents_of old.trees) { outcomes = let_go all }) (sym (outcomes-known (old.trees 6) m (has counts.sound).numbers))
 
-module _ (old new : View) (starts : List ℕ) (n prepared : ℕ) (header : Header) (found : Numbers) (first : ℕ) (kept : IsKeptFile old starts n prepared header) (sound : old.is_broken ≡ false)
-    (is : found ≡ numbers_in (old.trees 6)) (counted : AreCounted found) (at : first ≡ found.next - found.least) (after : found.first < first)
-    (counts : SetsTree old new 6 (put_row (numbers_row (record { next = found.next; first = first; least = found.least })))) where
+  -- or all, where a round of pointers is put
+  pub begins-round : index.due.entries ≡ [] → next ≡ record { next = m.next; first = m.first; least = m.least; awaiting = m.next - index.begun } → contents_of new.trees ≡ contents_of old.trees
+  begins-round none is =
+      changes old new starts n prepared header (put_row (numbers_row next)) counts kept keyed
+      ∙ ap (λ (all : Outcomes). record (contents_of old.trees) { outcomes = all })
+      (round-same (old.trees 6) m next index index (has counts.sound).numbers (has counts.sound).counted (has counts.sound).places none is)
+
+  pub begins-round-known : (later : OutcomeIndex) → AreCounted next → index.due.entries ≡ [] → next ≡ record { next = m.next; first = m.first; least = m.least; awaiting = m.next - index.begun }
+      → later.due ≡ index.fresh → later.fresh.entries ≡ [] → later.begun ≡ m.next → CountsOutcomes new next later
+  begins-round-known later counted none is due fresh begun sound = subst (λ rs. KnowsOutcomes rs next later) (sym rows-now) (record {
+    numbers = sym (numbers-there (old.trees 6) next);
+    counted = counted;
+    places = later-places (old.trees 6) m next index later (has counts.sound).numbers (has counts.sound).counted (has counts.sound).places none is due fresh begun;
+  })
+
+module _ (old new : View) (starts : List ℕ) (n prepared : ℕ) (header : Header) (m found : Numbers) (index : OutcomeIndex) (first : ℕ) (kept : IsKeptFile old starts n prepared header) (sound : old.is_broken ≡ false)
+    (has : CountsOutcomes old m index) (is : found ≡ numbers_in (old.trees 6)) (at : first ≡ found.next - found.least) (after : found.first < first)
+    (counts : SetsTree old new 6 (put_row (numbers_row (record { next = found.next; first = first; least = found.least; awaiting = found.awaiting })))) where
   abbrev next : Numbers
-  next = record { next = found.next; first = first; least = found.least }
+  next = record { next = found.next; first = first; least = found.least; awaiting = found.awaiting }
+
+  found-known : found ≡ m
+  found-known = is ∙ sym (has sound).numbers
+
+  counted : AreCounted found
+  counted = subst AreCounted (sym found-known) (has sound).counted
+
+  known : CountsOutcomes old found index
+  known = subst (λ (k : Numbers). CountsOutcomes old k index) (sym found-known) has
 
   newer : header.format < keyed_format → ⊥
   newer = numbered-keyed old starts n prepared header found kept sound is
-      (λ same. let many = ap (λ (k : Numbers). k.next) same in let few = ap (λ (k : Numbers). k.least) same in omega (arith, after, at, many, few))
+      (λ first'. let many = ap (λ (k : Numbers). k.next) first' in let few = ap (λ (k : Numbers). k.least) first' in omega (arith, after, at, many, few))
 
   pub lets-go-counted : AreCounted next
-  lets-go-counted = let short = counted.short in record { some = counted.some; within = omega (arith, at); short = counted.short; few = counted.few }
+  lets-go-counted = let short = counted.short in record { some = counted.some; within = omega (arith, at); awaits = counted.awaits; short = counted.short; few = counted.few }
 
   pub lets-go-file : IsKeptFile new starts n prepared header
   lets-go-file = keeps-file old new starts n prepared header (put_row (numbers_row next)) counts kept newer
 
-  pub lets-go-numbers : CountsOutcomes new next
-  lets-go-numbers = has-written old new next counts lets-go-counted
+  pub lets-go-numbers : CountsOutcomes new next index
+  lets-go-numbers = has-written old new starts n prepared header found next index counts kept known newer lets-go-counted refl refl
 
   pub lets-go-says : contents_of new.trees ≡ record (contents_of old.trees) { outcomes = let_go (contents_of old.trees).outcomes }
-  lets-go-says = lets-go old new starts n prepared header found next counts kept (λ _. (is, counted)) newer (subst (λ f. found.first < f) at after) (ap (λ f. let it : Numbers = record { next = found.next; first = f; least = found.least } in it) at)
+  lets-go-says = lets-go old new starts n prepared header found next index counts kept known newer (subst (λ f. found.first < f) at after)
+      (ap (λ f. let it : Numbers = record { next = found.next; first = f; least = found.least; awaiting = found.awaiting } in it) at)
 
 -- where as few were kept all stay
 pub lets-none-go : (rows : List Row) (m : Numbers) → m ≡ numbers_in rows → m.next - m.least ≤ m.first → outcomes_in rows ≡ let_go (outcomes_in rows)
 lets-none-go rows m is few =
-    ap (λ (k : Numbers). outcomes_of k (kept_row rows)) (sym is) ∙ let-go-none-new m (kept_row rows) few ∙ ap (λ (k : Numbers). let_go (outcomes_of k (kept_row rows))) is
+    outcomes-known rows m is ∙ let-go-none-new m (kept_from rows (awaiting_from m) m.awaiting) few ∙ ap let_go (sym (outcomes-known rows m is))
+
+-- ---- a pointer is put
+
+module _ (old new : View) (starts : List ℕ) (n prepared : ℕ) (header : Header) (m : Numbers) (index : OutcomeIndex) (due : BTreeMap ℕ ℕ) (place number : ℕ) (low : place < numbered_from)
+    (puts : SetsTree old new 6 (put_row (pointer_row place number))) (kept : IsKeptFile old starts n prepared header) (has : CountsOutcomes old m index) (keyed : header.format < keyed_format → ⊥)
+    (was : get nat_cmp index.due place ≡ Some number) (got : (q : ℕ) → get nat_cmp due q ≡ cond (is_eq (nat_cmp place q)) None (get nat_cmp index.due q)) where
+  pub points : contents_of new.trees ≡ contents_of old.trees
+  points =
+      changes old new starts n prepared header (put_row (pointer_row place number)) puts kept keyed
+      ∙ ap (λ (all : Outcomes). record (contents_of old.trees) { outcomes = all })
+      (pointed-same (old.trees 6) m index due place number low (has puts.sound).numbers (has puts.sound).counted was got (has puts.sound).places)
+
+  pub points-file : IsKeptFile new starts n prepared header
+  points-file = keeps-file old new starts n prepared header (put_row (pointer_row place number)) puts kept keyed
+
+  pub points-known : CountsOutcomes new m (record { due = due; fresh = index.fresh; begun = index.begun })
+  points-known sound =
+      let known = has puts.sound in
+      subst (λ rs. KnowsOutcomes rs m (record { due = due; fresh = index.fresh; begun = index.begun })) (sym (edited old new starts n prepared header (put_row (pointer_row place number)) puts kept keyed)) (record {
+        numbers = pointed-numbers (old.trees 6) m index due place number low known.numbers known.counted was got known.places;
+        counted = known.counted;
+        places = pointed-places (old.trees 6) m index due place number low known.numbers known.counted was got known.places;
+      })
 
 -- ---- rows are freed
 
@@ -215,26 +263,52 @@ read-file old new starts n prepared header only kept = subst (λ (v : View). IsK
   named = kept.named;
 })
 
-module _ (old new : View) (starts : List ℕ) (n prepared : ℕ) (header : Header) (m : Numbers) (kept : IsKeptFile old starts n prepared header) (has : CountsOutcomes old m) where
-  frees-keyed : Frees m.first old new → header.format < keyed_format → ⊥
-  frees-keyed frees =
-      numbered-keyed old starts n prepared header m kept frees.sets.sound (has frees.sets.sound).0
-      (λ is. let zero = ap (λ (k : Numbers). k.first) is in let low = frees.before in omega (arith, zero, low))
+module _ (old new : View) (starts : List ℕ) (n prepared : ℕ) (header : Header) (m : Numbers) (index : OutcomeIndex) (below : ℕ) (goes : below ≤ m.first) (before : below ≤ awaiting_from m)
+    (kept : IsKeptFile old starts n prepared header) (has : CountsOutcomes old m index) where
+  -- a file in which one is let go knows keys
+  freed-keyed : (k : ℕ) → k < below → old.is_broken ≡ false → header.format < keyed_format → ⊥
+  freed-keyed k low sound =
+      numbered-keyed old starts n prepared header m kept sound (has sound).numbers
+      (λ is. let zero = ap (λ (x : Numbers). x.first) is in omega (arith, zero, low, goes))
 
-  pub knows : KeepsKnown m.first old new → contents_of new.trees ≡ contents_of old.trees
-  knows (inl frees) =
-      changes old new starts n prepared header _ frees.sets kept (frees-keyed frees)
+  pub freed-same : Frees below old new → contents_of new.trees ≡ contents_of old.trees
+  freed-same (inl place) =
+      let known = has place.sets.sound in
+      let low = place.low in
+      changes old new starts n prepared header _ place.sets kept (freed-keyed (place_number place.gone) place.low place.sets.sound)
       ∙ ap (λ (all : Outcomes). record (contents_of old.trees) { outcomes = all })
-      (freed-same (old.trees 6) frees.place frees.gone frees.there (subst (λ (k : Numbers). frees.gone.number < k.first) (has frees.sets.sound).0 frees.before))
-  knows (inr same) = ap (λ (v : View). contents_of v.trees) same
+      (place-freed-same (old.trees 6) m index known.numbers known.places place.place place.gone place.there (omega (arith, low, goes)) (omega (arith, low, before)))
+  freed-same (inr (inl number)) =
+      let known = has number.sets.sound in
+      let low = number.low in
+      changes old new starts n prepared header _ number.sets kept (freed-keyed number.number number.low number.sets.sound)
+      ∙ ap (λ (all : Outcomes). record (contents_of old.trees) { outcomes = all })
+      (number-freed-same (old.trees 6) m index known.numbers known.places number.number (omega (arith, low, goes)) (omega (arith, low, before)))
+  freed-same (inr (inr same)) = ap (λ (v : View). contents_of v.trees) same
 
-  pub knows-file : KeepsKnown m.first old new → IsKeptFile new starts n prepared header
-  knows-file (inl frees) = keeps-file old new starts n prepared header _ frees.sets kept (frees-keyed frees)
-  knows-file (inr same) = subst (λ (v : View). IsKeptFile v starts n prepared header) (sym same) kept
+  pub freed-file : Frees below old new → IsKeptFile new starts n prepared header
+  freed-file (inl place) = keeps-file old new starts n prepared header _ place.sets kept (freed-keyed (place_number place.gone) place.low place.sets.sound)
+  freed-file (inr (inl number)) = keeps-file old new starts n prepared header _ number.sets kept (freed-keyed number.number number.low number.sets.sound)
+  freed-file (inr (inr same)) = subst (λ (v : View). IsKeptFile v starts n prepared header) (sym same) kept
 
-  pub knows-numbers : KeepsKnown m.first old new → CountsOutcomes new m
-  knows-numbers (inl frees) = λ _. let (is, counted) = has frees.sets.sound in (is ∙ sym (ap (λ (v : View). numbers_in (v.trees 6)) frees.sets.is ∙ freed-numbers (old.trees 6) frees.place), counted)
-  knows-numbers (inr same) = subst (λ (v : View). CountsOutcomes v m) (sym same) has
+  pub freed-known : Frees below old new → CountsOutcomes new m index
+  freed-known (inl place) = λ sound.
+      let known = has place.sets.sound in
+      let low = place.low in
+      subst (λ rs. KnowsOutcomes rs m index) (sym (ap (λ (v : View). v.trees 6) place.sets.is)) (record {
+        numbers = place-freed-numbers (old.trees 6) m index known.numbers known.places place.place place.gone place.there (omega (arith, low, goes)) (omega (arith, low, before));
+        counted = known.counted;
+        places = place-freed-places (old.trees 6) m index known.numbers known.places place.place place.gone place.there (omega (arith, low, goes)) (omega (arith, low, before));
+      })
+  freed-known (inr (inl number)) = λ sound.
+      let known = has number.sets.sound in
+      let low = number.low in
+      subst (λ rs. KnowsOutcomes rs m index) (sym (ap (λ (v : View). v.trees 6) number.sets.is)) (record {
+        numbers = number-freed-numbers (old.trees 6) m index known.numbers known.places number.number (omega (arith, low, goes)) (omega (arith, low, before));
+        counted = known.counted;
+        places = number-freed-places (old.trees 6) m index known.numbers known.places number.number (omega (arith, low, goes)) (omega (arith, low, before));
+      })
+  freed-known (inr (inr same)) = subst (λ (v : View). CountsOutcomes v m index) (sym same) has
 
 -- ---- a table that has no row is made anew
 
@@ -268,8 +342,8 @@ module _ (old new : View) (starts : List ℕ) (n prepared : ℕ) (header : Heade
   pub stays : contents_of new.trees ≡ contents_of old.trees
   stays = rw (same 0 (lit< tt), same 1 (lit< tt), same 2 (lit< tt), same 3 (lit< tt), same 4 (lit< tt), same 5 (lit< tt), same 6 (lit< tt)) refl
 
-  pub stays-numbers : (m : Numbers) → CountsOutcomes old m → CountsOutcomes new m
-  stays-numbers m has = same-numbers old new m (same 6 (lit< tt)) anew.sound has
+  pub stays-numbers : (m : Numbers) (index : OutcomeIndex) → CountsOutcomes old m index → CountsOutcomes new m index
+  stays-numbers m index has = same-numbers old new m index (same 6 (lit< tt)) anew.sound has
 
   pub stays-file : IsKeptFile new starts n prepared header
   stays-file = record {

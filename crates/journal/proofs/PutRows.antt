@@ -1,5 +1,5 @@
 -- A row is put at its number, or those with a number are freed: what is found at each number.
-use Rattle.std.proofs.Common.{◌≡◌, ◌≢◌, ℕ, List, [], ◌∷◌, map, filter, slice_get, Some, false, true, refl, sym, ap, ◌∙◌, arith, Bool}
+use Rattle.std.proofs.Common.{◌≡◌, ◌≢◌, ℕ, List, [], ◌∷◌, filter, slice_get, Some, false, true, refl, sym, ap, ◌∙◌, arith, Bool}
 use Rattle.std.specs.Prelude.{ℤ, pos, negsuc}
 use Rattle.std.specs.Ordering.{is_eq, match_ordering}
 use Rattle.std.specs.declared.cmp.Ordering.{Ordering}
@@ -13,15 +13,15 @@ use Rattle.sqlite_trees.specs.Tree.{has_rowid, put_row, rowid, without_rowid}
 
 -- ---- a row is put at its number
 
-module _ {T : Type 0} (told : Row → T) (p : ℤ) (new : Row) (key : rowid new ≡ Int p) where
+module _ (p : ℤ) (new : Row) (key : rowid new ≡ Int p) where
   -- it is the first one there
-  pub put-own : has_rowid p new ≡ true → (rows : List Row) → slice_get (map told (filter (has_rowid p) (put_row new rows))) 0 ≡ Some (told new)
+  pub put-own : has_rowid p new ≡ true → (rows : List Row) → slice_get (filter (has_rowid p) (put_row new rows)) 0 ≡ Some new
   put-own own [] = rw own refl
   put-own own (r ∷ rows) = step (value_cmp (rowid r) (rowid new)) refl (put-own own rows)
     where
       step : (o : Ordering) → value_cmp (rowid r) (rowid new) ≡ o
-          → slice_get (map told (filter (has_rowid p) (put_row new rows))) 0 ≡ Some (told new)
-          → slice_get (map told (filter (has_rowid p) (match_ordering o (r ∷ put_row new rows) (new ∷ rows) (new ∷ r ∷ rows)))) 0 ≡ Some (told new)
+          → slice_get (filter (has_rowid p) (put_row new rows)) 0 ≡ Some new
+          → slice_get (filter (has_rowid p) (match_ordering o (r ∷ put_row new rows) (new ∷ rows) (new ∷ r ∷ rows))) 0 ≡ Some new
       step Less is more =
           let below : has_rowid p r ≡ false = ap (λ v. is_eq (value_cmp (rowid r) v)) (sym key) ∙ ap is_eq is in
           rw below more

@@ -16,7 +16,9 @@ use Rattle.journal.specs.EmptyTable.{EmptiesEpoch}
 use Rattle.journal.specs.Contents.{IsFile, at_states, contents_of}
 use Rattle.journal.specs.declared.numbers.Numbers.{Numbers}
 use Rattle.journal.proofs.Outcomes.{same-numbers}
-use Rattle.journal.specs.Journal.{CountsOutcomes, IsKeptFile, IsNamedOnce}
+use Rattle.journal.specs.OutcomeIndex.{CountsOutcomes}
+use Rattle.journal.specs.declared.outcome_index.OutcomeIndex.{OutcomeIndex}
+use Rattle.journal.specs.Journal.{IsKeptFile, IsNamedOnce}
 use Rattle.journal.proofs.RowLemmas.{put-set, rows-told}
 
 -- the first x states are new
@@ -91,8 +93,8 @@ module _ (old middle new : View) (starts : List ℕ) (n many : ℕ) (header : He
   outcomes : new.trees 6 ≡ old.trees 6
   outcomes = stays 6 (λ is. omega (arith, is)) (λ is. omega (arith, is)) (λ is. omega (arith, is)) (lit< tt)
 
-  pub resets-numbers : (m : Numbers) → CountsOutcomes old m → CountsOutcomes new m
-  resets-numbers m has = same-numbers old new m outcomes gone.sound has
+  pub resets-numbers : (m : Numbers) (index : OutcomeIndex) → CountsOutcomes old m index → CountsOutcomes new m index
+  resets-numbers m index has = same-numbers old new m index outcomes gone.sound has
 
   pub at-states : contents_of new.trees ≡ at_states (contents_of old.trees) states
   at-states = rw (events, headers, types, objects, states-told, prepared, outcomes) refl

@@ -38,10 +38,10 @@ contents_of db = record {
   outcomes = outcomes_in (db 6);
 }
 
--- the format of what is written: 8 has numbers of outcomes, 7 prepared transactions, 6 what became of transactions that have keys, 5 a row for the events that were written together,
+-- the format of what is written: 9 has outcomes in the order of their numbers, 8 numbers of outcomes, 7 prepared transactions, 6 what became of transactions that have keys, 5 a row for the events that were written together,
 -- 4 names of objects, 3 operations with amounts, 2 types that are numbers
 abbrev pub newest_format : ℕ
-newest_format = 8
+newest_format = 9
 
 -- the first format that knows prepared transactions
 abbrev pub preparing_format : ℕ

@@ -13,9 +13,8 @@ use Rattle.journal.specs.declared.header.Header.{Header}
 use Rattle.journal.specs.declared.journal.Journal.{Journal}
 use Rattle.journal.specs.Contents.{Contents, IsFile, contents_of, with_pending}
 use Rattle.journal.specs.EventRow.{event_told, row_starts}
-use Rattle.journal.specs.Numbers.{AreCounted, numbers_in}
+use Rattle.journal.specs.OutcomeIndex.{CountsOutcomes}
 use Rattle.journal.specs.Tables.{IsUnused}
-use Rattle.journal.specs.declared.numbers.Numbers.{Numbers}
 
 -- the seven tables are there
 pub record HasTables (v : View) : Type 0 where
@@ -50,10 +49,6 @@ pub record IsKeptFile (v : View) (starts : List ℕ) (count prepared : ℕ) (hea
   pub numbered : IsTrue v.is_numbered
   pub named : v.is_broken ≡ false → IsNamedOnce (v.trees catalog_tree)
 
--- and these numbers of outcomes
-abbrev pub CountsOutcomes : View → Numbers → Type 0
-CountsOutcomes v n = v.is_broken ≡ false → (n ≡ numbers_in (v.trees 6)) × AreCounted n
-
 module _ {S : Type 0} (g : Ghosts S) where
   -- what was written: what is pending too, which the next commit makes a row of
   abbrev pub written : Journal S → Contents
@@ -76,7 +71,7 @@ module _ {S : Type 0} (g : Ghosts S) where
 
   abbrev pub IsJournal : Journal S → Type 0
   IsJournal it = IsClean (g.view it.store) → IsKeptFile (g.view it.store) it.starts.items it.settled it.prepared it.header × (it.count ≡ it.settled + length it.pending)
-      × CountsOutcomes (g.view it.store) it.numbers
+      × CountsOutcomes (g.view it.store) it.numbers it.index
 
   -- the file that a commit at this moment may leave: all that was written, under this header
   abbrev pub IsAsWritten : Journal S → Trees → Type 0

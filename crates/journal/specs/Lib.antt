@@ -9,6 +9,8 @@ pub mod HeaderRow
 pub mod StateRow
 pub mod OutcomeRow
 pub mod Numbers
+pub mod PlaceRow
+pub mod OutcomeIndex
 pub mod Outcomes
 pub mod Swept
 pub mod PreparedRow

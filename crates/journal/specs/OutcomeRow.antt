@@ -1,11 +1,9 @@
--- What became of transactions that have keys, as rows: each at the place of its key.
-use Rattle.std.specs.Prelude.{◌≡◌, ℕ, zero, suc, List, [], ◌∷◌, filter, map, slice_get, Option, codes, pos, refl, if◌then◌else◌}
+-- What became of transactions that have keys, as rows: each at the rowid of its number, in files of the formats 6 to 8 at the place of its key.
+use Rattle.std.specs.Prelude.{◌≡◌, ℕ, zero, suc, List, [], ◌∷◌, codes, pos, refl, if◌then◌else◌}
 use Rattle.std.specs.Str.{bytes_eq}
-use Rattle.std.proofs.Common.{ap}
 use Rattle.sqlite_value.specs.declared.value.Value.TheVariants.{Null, Int, Text}
 use Rattle.sqlite_value.specs.Order.{Row, bytes, column}
 use Rattle.sqlite_trees.specs.Objects.{number_in}
-use Rattle.sqlite_trees.specs.Tree.{has_rowid}
 use Rattle.journal.specs.declared.outcome_row.KeptOutcome.{KeptOutcome}
 use Rattle.journal.specs.declared.outcome_row.Outcome.{Outcome}
 use Rattle.journal.specs.declared.outcome_row.Outcome.TheVariants.{Committed, Aborted}
@@ -49,10 +47,6 @@ outcome_told row = record {
   kept = record { key = bytes (column row key_column); outcome = outcome_said (bytes (column row how_column)) (bytes (column row replies_column)) };
   number = number_in (column row number_column);
 }
-
--- what the row with this number says, where there is one
-unfoldable pub kept_row : List Row → ℕ → Option KeptOutcome
-kept_row rows n = slice_get (map outcome_told (filter (has_rowid (pos n)) rows)) 0
 
 pub outcome_read_back : (n : ℕ) (o : KeptOutcome) → outcome_told (outcome_row n o) ≡ o
 outcome_read_back n o = same o.kept.outcome o.number

@@ -108,7 +108,7 @@ pub fn two_bytes(n: u32) -> Option<u16>
 
 /// The rowid of a position.
 pub fn rowid_of(position: u64) -> i64
-    requires { position < 2 ^ 62 }
+    requires { position < 2 ^ 63 }
     ensures { result ≡ pos position }
 {
     position as i64
@@ -116,7 +116,7 @@ pub fn rowid_of(position: u64) -> i64
 
 /// The key of the row at this position.
 pub fn begin_key(row: &mut Row, position: u64) -> Result<(), AllocError>
-    requires { position < 2 ^ 62 }
+    requires { position < 2 ^ 63 }
     ensures { OnOk result (row.new ≡ Int (pos position) ∷ []) }
 {
     row.clear();
@@ -126,7 +126,7 @@ pub fn begin_key(row: &mut Row, position: u64) -> Result<(), AllocError>
 /// Begins the row at this position: with NULL in the position's own column, since SQLite keeps it as the
 /// rowid.
 pub fn begin_row(row: &mut Row, position: u64) -> Result<(), AllocError>
-    requires { position < 2 ^ 62 }
+    requires { position < 2 ^ 63 }
     ensures { OnOk result (row.new ≡ Int (pos position) ∷ Null ∷ []) }
 {
     begin_key(row, position)?;

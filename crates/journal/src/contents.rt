@@ -5,9 +5,9 @@ ghost use Rattle.sqlite_trees.specs.Tree.{Trees};
 ghost use Rattle.sqlite_trees.specs.View.{IsClean};
 ghost use Rattle.journal.specs.HeaderRow.{header_row};
 ghost use Rattle.journal.specs.Contents.{keyed_format, preparing_format};
-ghost use Rattle.journal.specs.Numbers.{AreCounted, numbers_in};
 ghost use Rattle.journal.specs.Said.{HasRowsOf};
 ghost use Rattle.journal.specs.Journal.{HasTables};
+ghost use Rattle.journal.specs.OutcomeIndex.{KnowsOutcomes};
 ghost use Rattle.journal.specs.Tables.{IsUnused, OnlyReads};
 
 use crate::event_row::{EventRow, events_of, starts_of};
@@ -15,6 +15,7 @@ use crate::header::{Header, KEYED_FORMAT, PREPARING_FORMAT};
 use crate::journal_error::JournalError;
 use crate::numbers::{Numbers, read_numbers};
 use crate::object_row::TypeText;
+use crate::outcome_index::{OutcomeIndex, read_index};
 use crate::prepared_row::Prepared;
 use crate::state_row::FirstState;
 use crate::table::{has_no_rows, read_all};
@@ -61,15 +62,17 @@ pub struct FileContents {
     pub prepared: Vec<Prepared>,
 }
 
-/// What was read of a file, at which place among all events those of each row begin, and the numbers of outcomes.
+/// What was read of a file, at which place among all events those of each row begin, and the numbers of outcomes and which
+/// of them await the index.
 #[derive(Drop)]
 pub struct FoundContents {
     pub said: FileContents,
     pub starts: Vec<u64>,
     pub numbers: Numbers,
+    pub index: OutcomeIndex,
 }
 
-/// Reads all tables, but only the numbers in that of what became of transactions, which may be long.
+/// Reads all tables, but of that of what became of transactions, which may be long, only the numbers and what awaits the index.
 ///
 /// # Errors
 ///
@@ -83,7 +86,7 @@ pub fn read_contents<S: Store>(
     requires unused { IsClean (S.Store.view store.old) → IsUnused (S.Store.view store.old) }
     requires tables { IsClean (S.Store.view store.old) → HasTables (S.Store.view store.old) }
     ensures told { IfOk result (λ found. IsClean (S.Store.view store.new) → HasRowsOf (S.Store.view store.old).trees found.said found.starts.items) }
-    ensures numbers { IfOk result (λ found. IsClean (S.Store.view store.new) → (found.numbers ≡ numbers_in ((S.Store.view store.old).trees 6)) × AreCounted found.numbers) }
+    ensures outcomes { IfOk result (λ found. IsClean (S.Store.view store.new) → KnowsOutcomes ((S.Store.view store.old).trees 6) found.numbers found.index) }
     ensures same { OnOk result (IsClean (S.Store.view store.new) → OnlyReads (S.Store.view store.old) (S.Store.view store.new)) }
     ensures clean { IsClean (S.Store.view store.new) → IsClean (S.Store.view store.old) }
     ensures crash { (db : Trees) → S.Store.recovers store.new db → S.Store.recovers store.old db }
@@ -98,6 +101,7 @@ pub fn read_contents<S: Store>(
         return Err(JournalError::Foreign);
     }
     let numbers = read_numbers(store, row)?;
+    let index = read_index(alloc, store, numbers, row)?;
     let events = events_of(alloc, &rows)?;
     let starts = starts_of(alloc, &rows)?;
     let said = FileContents {
@@ -112,6 +116,7 @@ pub fn read_contents<S: Store>(
         said,
         starts,
         numbers,
+        index,
     })
 }
 

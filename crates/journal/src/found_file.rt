@@ -60,6 +60,7 @@ impl<S: Alter> Journal<S> {
                     said,
                     starts,
                     numbers,
+                    index,
                 },
             ) => {
                 let settled = said.events.as_slice().len() as u64;
@@ -75,6 +76,7 @@ impl<S: Alter> Journal<S> {
                     header,
                     prepared,
                     numbers,
+                    index,
                     swept: first_swept(header.life),
                 };
                 Ok((journal, said))

@@ -17,7 +17,7 @@ const ID: usize = 3;
 const LIFE: usize = 4;
 
 /// The format of what is written.
-pub const FORMAT: u32 = 8;
+pub const FORMAT: u32 = 9;
 
 /// The first format that knows names of objects.
 pub const NAMING_FORMAT: u32 = 4;

@@ -20,6 +20,7 @@ use crate::more_rows::append_each;
 use crate::new_table::{empty_epoch, list_anew, make_anew};
 use crate::numbers::Numbers;
 use crate::object_row::TypeText;
+use crate::outcome_index::OutcomeIndex;
 use crate::prepared_row::Prepared;
 use crate::row_places::rows_of;
 use crate::schema::{OBJECT_SQL, OUTCOME_SQL, PREPARED_SQL};
@@ -50,6 +51,8 @@ pub struct Journal<S: Store> {
     // How many transactions were prepared in this epoch.
     pub(crate) prepared: u64,
     pub(crate) numbers: Numbers,
+    // Of those that await the index of the file.
+    pub(crate) index: OutcomeIndex,
     // Up to which place rows of outcomes that are let go were looked for last.
     pub(crate) swept: u64,
 }
@@ -213,6 +216,7 @@ impl<S: Store> Journal<S> {
             header: _,
             prepared: _,
             numbers: _,
+            index: _,
             swept: _,
         } = self;
         store

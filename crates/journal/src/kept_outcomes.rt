@@ -11,14 +11,17 @@ use crate::header::FORMAT;
 use crate::journal::Journal;
 use crate::journal_error::JournalError;
 use crate::numbers::{Numbers, are_counted, put_numbers, read_numbers};
-use crate::outcome_row::{KeyedOutcome, put_outcome, staying_at};
-use crate::swept_rows::{free_at, next_place};
+use crate::outcome_index::{kept_at, staying};
+use crate::outcome_row::{KeyedOutcome, put_outcome};
+use crate::place_row::put_pointer;
+use crate::swept_rows::{first_numbered, free_number, free_place, next_place};
 use sqlite_trees::store::Store;
 use std::alloc::Global;
 use transaction_key::TransactionKey;
 
 impl<S: Store> Journal<S> {
-    /// Keeps what became of a transaction at its key's place, and nothing else there. A crash may still take it away.
+    /// Keeps what became of a transaction at its key's place, and nothing else there. A crash may still take it away. Also puts
+    /// pointers of earlier ones into the index, and frees rows of those that are let go.
     ///
     /// # Errors
     ///
@@ -38,12 +41,15 @@ impl<S: Store> Journal<S> {
         }
         let numbers = Numbers {
             next: self.numbers.next.saturating_add(1),
+            awaiting: self.numbers.awaiting.saturating_add(1),
             ..self.numbers
         };
         if self.numbers.next == 0 || !are_counted(numbers) {
             return Err(JournalError::Full);
         }
         self.write_outcome(kept, numbers)?;
+        self.put_pointers()?;
+        self.begin_round()?;
         self.sweep()
     }
 
@@ -57,7 +63,7 @@ impl<S: Store> Journal<S> {
         requires newest { newest_format ≤ self.old.header.format }
         requires some { 0 < self.old.numbers.next }
         requires counted { AreCounted numbers }
-        requires next { numbers ≡ record self.old.numbers { next = self.old.numbers.next + 1 } }
+        requires next { numbers ≡ record self.old.numbers { next = self.old.numbers.next + 1; awaiting = self.old.numbers.awaiting + 1 } }
         ensures kept { OnOk result (IsJournal S.Store self.new) }
         ensures written { OnOk result (Clean S.Store self.new → written S.Store self.new ≡ with_outcome (written S.Store self.old) kept.now) }
         ensures durable { OnOk result (Clean S.Store self.new → durable S.Store self.new ≡ durable S.Store self.old) }
@@ -69,7 +75,82 @@ impl<S: Store> Journal<S> {
         let (store, row) = (&mut self.store, &mut self.row);
         put_outcome(store, kept, number, row)?;
         put_numbers(store, numbers, row)?;
+        self.index.fresh.insert(kept.key.place(), number)?;
         self.numbers = numbers;
+        Ok(())
+    }
+
+    /// Puts some pointers into the index: all where many outcomes await it.
+    ///
+    /// # Errors
+    ///
+    /// The file failed, or memory was refused: the journal isn't to be used any more.
+    fn put_pointers(&mut self) -> Result<(), JournalError>
+        requires journal { IsJournal S.Store self.old }
+        requires newest { newest_format ≤ self.old.header.format }
+        ensures kept { OnOk result (IsJournal S.Store self.new) }
+        ensures written { OnOk result (Clean S.Store self.new → written S.Store self.new ≡ written S.Store self.old) }
+        ensures durable { OnOk result (Clean S.Store self.new → durable S.Store self.new ≡ durable S.Store self.old) }
+        ensures header { self.new.header ≡ self.old.header }
+        ensures clean { Clean S.Store self.new → Clean S.Store self.old }
+        ensures crash { (db : Trees) → may_leave S.Store self.new db → may_leave S.Store self.old db }
+    {
+        for _ in 0..self.index.pointers_to_put(self.numbers.awaiting) {
+            self.put_pointer()?;
+        }
+        Ok(())
+    }
+
+    /// Puts the pointer of the next place into the index, where one is due.
+    ///
+    /// # Errors
+    ///
+    /// As `put_pointers`.
+    fn put_pointer(&mut self) -> Result<(), JournalError>
+        requires journal { IsJournal S.Store self.old }
+        requires newest { newest_format ≤ self.old.header.format }
+        ensures kept { OnOk result (IsJournal S.Store self.new) }
+        ensures written { OnOk result (Clean S.Store self.new → written S.Store self.new ≡ written S.Store self.old) }
+        ensures durable { OnOk result (Clean S.Store self.new → durable S.Store self.new ≡ durable S.Store self.old) }
+        ensures header { self.new.header ≡ self.old.header }
+        ensures clean { Clean S.Store self.new → Clean S.Store self.old }
+        ensures crash { (db : Trees) → may_leave S.Store self.new db → may_leave S.Store self.old db }
+    {
+        match self.index.due.pop_first() {
+            Some((place, number)) => put_pointer(&mut self.store, place, number, &mut self.row),
+            None => Ok(()),
+        }
+    }
+
+    /// Where the pointers of a round are put, and many outcomes came since or too many await: those before await the index no
+    /// more, and the pointers of those since are due.
+    ///
+    /// # Errors
+    ///
+    /// As `put_pointers`.
+    fn begin_round(&mut self) -> Result<(), JournalError>
+        requires journal { IsJournal S.Store self.old }
+        requires newest { newest_format ≤ self.old.header.format }
+        ensures kept { OnOk result (IsJournal S.Store self.new) }
+        ensures written { OnOk result (Clean S.Store self.new → written S.Store self.new ≡ written S.Store self.old) }
+        ensures durable { OnOk result (Clean S.Store self.new → durable S.Store self.new ≡ durable S.Store self.old) }
+        ensures header { self.new.header ≡ self.old.header }
+        ensures clean { Clean S.Store self.new → Clean S.Store self.old }
+        ensures crash { (db : Trees) → may_leave S.Store self.new db → may_leave S.Store self.old db }
+    {
+        if !self.index.is_put(self.numbers.awaiting) {
+            return Ok(());
+        }
+        let numbers = Numbers {
+            awaiting: self.numbers.next.saturating_sub(self.index.begun),
+            ..self.numbers
+        };
+        if !are_counted(numbers) {
+            return Err(JournalError::Full);
+        }
+        put_numbers(&mut self.store, numbers, &mut self.row)?;
+        self.numbers = numbers;
+        self.index.begin_round(numbers.next);
         Ok(())
     }
 
@@ -93,8 +174,10 @@ impl<S: Store> Journal<S> {
         ensures clean { Clean S.Store self.new → Clean S.Store self.old }
         ensures crash { (db : Trees) → may_leave S.Store self.new db → may_leave S.Store self.old db }
     {
-        let first = self.numbers.first;
-        staying_at(alloc, &mut self.store, key.place(), first, &mut self.row)
+        let numbers = self.numbers;
+        let (store, row) = (&mut self.store, &mut self.row);
+        let found = kept_at(alloc, store, numbers, &self.index, key.place(), row)?;
+        Ok(staying(found, numbers.first))
     }
 
     /// How many of the last outcomes stay at least.
@@ -159,7 +242,7 @@ impl<S: Store> Journal<S> {
         Ok(())
     }
 
-    /// Frees the rows of outcomes that are let go, some at a time: looks at the next two.
+    /// Frees the rows of outcomes that are let go, some at a time: looks at the next two places, and at the first two numbers.
     ///
     /// # Errors
     ///
@@ -176,16 +259,18 @@ impl<S: Store> Journal<S> {
         if self.numbers.first == 0 {
             return Ok(());
         }
-        self.sweep_next()?;
-        self.sweep_next()
+        self.sweep_place()?;
+        self.sweep_place()?;
+        self.sweep_number()?;
+        self.sweep_number()
     }
 
-    /// Frees the next row, where its outcome is let go.
+    /// Frees the row at the next place, where its outcome is let go and doesn't await the index.
     ///
     /// # Errors
     ///
     /// As `let_go`.
-    fn sweep_next(&mut self) -> Result<(), JournalError>
+    fn sweep_place(&mut self) -> Result<(), JournalError>
         requires { IsJournal S.Store self.old }
         ensures kept { OnOk result (IsJournal S.Store self.new) }
         ensures written { OnOk result (Clean S.Store self.new → written S.Store self.new ≡ written S.Store self.old) }
@@ -198,13 +283,37 @@ impl<S: Store> Journal<S> {
         match next_place(store, self.swept, row)? {
             Some(place) => {
                 self.swept = place + 1;
-                free_at(store, place, self.numbers.first, row)?;
+                free_place(store, place, self.numbers.freed_below(), row)?;
                 Ok(())
             }
             None => {
                 self.swept = 0;
                 Ok(())
             }
+        }
+    }
+
+    /// Frees the row of the first outcome, where it is let go and doesn't await the index.
+    ///
+    /// # Errors
+    ///
+    /// As `let_go`.
+    fn sweep_number(&mut self) -> Result<(), JournalError>
+        requires { IsJournal S.Store self.old }
+        ensures kept { OnOk result (IsJournal S.Store self.new) }
+        ensures written { OnOk result (Clean S.Store self.new → written S.Store self.new ≡ written S.Store self.old) }
+        ensures durable { OnOk result (Clean S.Store self.new → durable S.Store self.new ≡ durable S.Store self.old) }
+        ensures header { self.new.header ≡ self.old.header }
+        ensures clean { Clean S.Store self.new → Clean S.Store self.old }
+        ensures crash { (db : Trees) → may_leave S.Store self.new db → may_leave S.Store self.old db }
+    {
+        let (store, row) = (&mut self.store, &mut self.row);
+        match first_numbered(store, row)? {
+            Some(number) => {
+                free_number(store, number, self.numbers.freed_below())?;
+                Ok(())
+            }
+            None => Ok(()),
         }
     }
 }

@@ -4,6 +4,7 @@ ghost use Rattle.std.specs.Prelude.{◌≡◌, ◌≤◌, IfOk, IfSome, IsTrue, 
 ghost use Rattle.sqlite_trees.specs.Tree.{Trees, put_row};
 ghost use Rattle.sqlite_trees.specs.View.{IsClean, KeepsSchema, SetsTree};
 ghost use Rattle.journal.specs.Numbers.{AreCounted, numbers_in, numbers_row, numbers_told};
+ghost use Rattle.journal.specs.OutcomeIndex.{awaiting_from};
 
 use crate::cells::{is_text, long_number, rowid_of};
 use crate::contents::OUTCOMES;
@@ -23,6 +24,8 @@ const FIRST: usize = 6;
 
 const LEAST: usize = 7;
 
+const AWAITING: usize = 8;
+
 /// The position of the row, at which no key has its place.
 const NOWHERE: i64 = -1;
 
@@ -35,6 +38,25 @@ pub struct Numbers {
     pub first: u64,
     /// How many of the last stay at least.
     pub least: u64,
+    /// How many of the last aren't in the index of places yet.
+    pub awaiting: u64,
+}
+
+impl Numbers {
+    /// From which number on outcomes await the index.
+    pub fn awaiting_from(self) -> u64
+        ensures { result ≡ awaiting_from self }
+    {
+        self.next.saturating_sub(self.awaiting)
+    }
+
+    /// Below which number no outcome stays or awaits.
+    pub fn freed_below(self) -> u64
+        ensures first { result ≤ self.first }
+        ensures awaiting { result ≤ awaiting_from self }
+    {
+        self.first.min(self.awaiting_from())
+    }
 }
 
 /// What a file says where it has no such row.
@@ -42,6 +64,7 @@ pub const FIRST_NUMBERS: Numbers = Numbers {
     next: 1,
     first: 0,
     least: 1_000_000,
+    awaiting: 0,
 };
 
 /// Writes these numbers. A crash may still take them away.
@@ -83,7 +106,8 @@ fn fill_numbers(numbers: Numbers, row: &mut Row) -> Result<(), AllocError>
     row.push(ValueRef::Text(b""))?;
     row.push(ValueRef::Int(rowid_of(numbers.next)))?;
     row.push(ValueRef::Int(rowid_of(numbers.first)))?;
-    row.push(ValueRef::Int(rowid_of(numbers.least)))
+    row.push(ValueRef::Int(rowid_of(numbers.least)))?;
+    row.push(ValueRef::Int(rowid_of(numbers.awaiting)))
 }
 
 /// What a file says of its outcomes' numbers.
@@ -122,6 +146,7 @@ fn numbers_of(row: &Row) -> Option<Numbers>
         next: long_number(row, NEXT)?,
         first: long_number(row, FIRST)?,
         least: long_number(row, LEAST)?,
+        awaiting: long_number(row, AWAITING)?,
     };
     if are_counted(numbers) {
         Some(numbers)
@@ -130,12 +155,13 @@ fn numbers_of(row: &Row) -> Option<Numbers>
     }
 }
 
-/// Whether a store writes such numbers: none stays that wasn't kept.
+/// Whether a store writes such numbers: none stays or awaits that wasn't kept.
 pub fn are_counted(numbers: Numbers) -> bool
     ensures { IsTrue result → AreCounted numbers }
 {
     numbers.next > 0
         && numbers.first <= numbers.next
+        && numbers.awaiting <= numbers.next
         && numbers.next < MOST_ROWS
         && numbers.least < MOST_ROWS
 }

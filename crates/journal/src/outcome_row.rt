@@ -1,17 +1,17 @@
 //! What became of a transaction that has a key, as a row.
 
-ghost use Rattle.std.specs.Prelude.{◌≡◌, ◌<◌, ◌^◌, false, IfOk, IfSome, OnOk, option_map};
+ghost use Rattle.std.specs.Prelude.{◌≡◌, ◌+◌, ◌<◌, ◌^◌, false, IfOk, IfSome, OnOk};
 ghost use Rattle.sqlite_value.specs.Order.{column};
 ghost use Rattle.sqlite_value.specs.declared.value.Value.TheVariants.{Text};
 ghost use Rattle.sqlite_trees.specs.Tree.{Trees, put_row};
 ghost use Rattle.sqlite_trees.specs.View.{IsClean, KeepsSchema, SetsTree};
-ghost use Rattle.transaction_key.specs.TransactionKey.{key_place};
-ghost use Rattle.journal.specs.OutcomeRow.{kept_row, outcome_replies, outcome_row, outcome_told, outcome_word};
-ghost use Rattle.journal.specs.Outcomes.{staying_from};
+ghost use Rattle.journal.specs.OutcomeIndex.{outcome_numbered, numbered_from};
+ghost use Rattle.journal.specs.OutcomeRow.{outcome_replies, outcome_row, outcome_told, outcome_word};
 
 use crate::cells::{begin_row, is_text, long_number, rowid_of, text_in};
 use crate::contents::OUTCOMES;
 use crate::journal_error::JournalError;
+use crate::table::MOST_ROWS;
 use sqlite_trees::store::{Shape, Store};
 use sqlite_value::row::Row;
 use sqlite_value::value::ValueRef;
@@ -20,13 +20,16 @@ use std::marker::Model;
 use transaction_key::TransactionKey;
 
 // the columns after that of the position
-const KEY: usize = 2;
+pub const KEY: usize = 2;
 
 const HOW: usize = 3;
 
 const REPLIES: usize = 4;
 
 pub const NUMBER: usize = 5;
+
+/// Places of keys are below it. The row of an outcome has the rowid of this and its number.
+pub const NUMBERED_FROM: u64 = MOST_ROWS;
 
 /// What became of a transaction that has a key.
 #[derive(Drop)]
@@ -96,7 +99,7 @@ pub struct KeyedOutcome {
     pub outcome: Outcome,
 }
 
-/// What is kept at a place, and which it was of all that were ever kept in the file: the first is 1, and 0 says that a
+/// What is kept of a transaction, and which it was of all that were ever kept in the file: the first is 1, and 0 says that a
 /// program kept it which numbered none.
 #[derive(Drop)]
 pub struct KeptOutcome {
@@ -104,7 +107,7 @@ pub struct KeptOutcome {
     pub number: u64,
 }
 
-/// Writes an outcome with this number at its key's place. A crash may still take it away.
+/// Writes an outcome with this number behind those before it. A crash may still take it away.
 ///
 /// # Errors
 ///
@@ -117,7 +120,7 @@ pub fn put_outcome<S: Store>(
 ) -> Result<(), JournalError>
     requires number { (0 < number) × (number < 2 ^ 62) }
     requires shape { IsClean (S.Store.view store.old) → (S.Store.view store.old).shape 6 ≡ Shape.Table }
-    ensures ok { OnOk result (IsClean (S.Store.view store.new) → SetsTree (S.Store.view store.old) (S.Store.view store.new) 6 (put_row (outcome_row (key_place kept.now.key) (record { kept = kept.now; number = number })))) }
+    ensures ok { OnOk result (IsClean (S.Store.view store.new) → SetsTree (S.Store.view store.old) (S.Store.view store.new) 6 (put_row (outcome_row (numbered_from + number) (record { kept = kept.now; number = number })))) }
     ensures clean { IsClean (S.Store.view store.new) → IsClean (S.Store.view store.old) }
     ensures schema { KeepsSchema (S.Store.view store.old) (S.Store.view store.new) }
     ensures crash { (db : Trees) → S.Store.recovers store.new db → S.Store.recovers store.old db }
@@ -134,9 +137,9 @@ pub fn put_outcome<S: Store>(
 /// Memory was refused.
 fn fill_outcome(kept: &KeyedOutcome, number: u64, row: &mut Row) -> Result<(), AllocError>
     requires { (0 < number) × (number < 2 ^ 62) }
-    ensures { OnOk result (row.new ≡ outcome_row (key_place kept.now.key) (record { kept = kept.now; number = number })) }
+    ensures { OnOk result (row.new ≡ outcome_row (numbered_from + number) (record { kept = kept.now; number = number })) }
 {
-    begin_row(row, kept.key.place())?;
+    begin_row(row, NUMBERED_FROM + number)?;
     row.push(ValueRef::Text(kept.key.as_bytes()))?;
     row.push(ValueRef::Text(kept.outcome.word()))?;
     row.push(ValueRef::Text(kept.outcome.replies()))?;
@@ -148,7 +151,7 @@ fn fill_outcome(kept: &KeyedOutcome, number: u64, row: &mut Row) -> Result<(), A
 /// # Errors
 ///
 /// Memory was refused.
-fn read_outcome(alloc: Global, row: &Row) -> Result<Option<KeptOutcome>, AllocError>
+pub fn read_outcome(alloc: Global, row: &Row) -> Result<Option<KeptOutcome>, AllocError>
     ensures { IfOk result (λ found. IfSome found (λ o. outcome_told row.now ≡ o)) }
 {
     let (Some(key), Some(number)) = (key_in(row), long_number(row, NUMBER)) else {
@@ -187,63 +190,39 @@ fn outcome_in(alloc: Global, row: &Row) -> Result<Option<Outcome>, AllocError>
     Ok(Some(Outcome::Committed(ReplyText { text })))
 }
 
-/// What is kept at this place, where something is, also where it is let go.
+/// The outcome with this number, where it is there.
 ///
 /// # Errors
 ///
-/// `Foreign` where the row is none that a store writes; the store failed, or memory was refused.
-pub fn kept_at<S: Store>(
+/// `Foreign` where there is no such number, or the row is none that a store writes with it; the store failed, or memory was
+/// refused.
+pub fn numbered_at<S: Store>(
     alloc: Global,
     store: &mut S,
-    place: u64,
+    number: u64,
     row: &mut Row,
 ) -> Result<Option<KeptOutcome>, JournalError>
-    requires low { place < 2 ^ 62 }
     requires shape { IsClean (S.Store.view store.old) → (S.Store.view store.old).shape 6 ≡ Shape.Table }
-    ensures found { IfOk result (λ found. IsClean (S.Store.view store.new) → found ≡ kept_row ((S.Store.view store.old).trees 6) place) }
+    ensures found { IfOk result (λ found. IsClean (S.Store.view store.new) → found ≡ outcome_numbered ((S.Store.view store.old).trees 6) number) }
     ensures sound { OnOk result (IsClean (S.Store.view store.new) → (S.Store.view store.old).is_broken ≡ false) }
     ensures same { OnOk result (IsClean (S.Store.view store.new) → S.Store.view store.new ≡ S.Store.view store.old) }
     ensures clean { IsClean (S.Store.view store.new) → IsClean (S.Store.view store.old) }
     ensures schema { KeepsSchema (S.Store.view store.old) (S.Store.view store.new) }
     ensures crash { (db : Trees) → S.Store.recovers store.new db → S.Store.recovers store.old db }
 {
-    if !store.get(OUTCOMES, rowid_of(place), row)? {
+    if number >= MOST_ROWS {
+        return Err(JournalError::Foreign);
+    }
+    if !store.get(OUTCOMES, rowid_of(NUMBERED_FROM + number), row)? {
         return Ok(None);
     }
     match read_outcome(alloc, row)? {
-        Some(kept) => Ok(Some(kept)),
-        None => Err(JournalError::Foreign),
-    }
-}
-
-/// What is kept at this place and stays, where the first number that does is this one.
-///
-/// # Errors
-///
-/// As `kept_at`.
-pub fn staying_at<S: Store>(
-    alloc: Global,
-    store: &mut S,
-    place: u64,
-    first: u64,
-    row: &mut Row,
-) -> Result<Option<KeyedOutcome>, JournalError>
-    requires low { place < 2 ^ 62 }
-    requires shape { IsClean (S.Store.view store.old) → (S.Store.view store.old).shape 6 ≡ Shape.Table }
-    ensures found { IfOk result (λ found. IsClean (S.Store.view store.new) → found ≡ option_map (λ o. o.kept) (staying_from first (kept_row ((S.Store.view store.old).trees 6) place))) }
-    ensures sound { OnOk result (IsClean (S.Store.view store.new) → (S.Store.view store.old).is_broken ≡ false) }
-    ensures same { OnOk result (IsClean (S.Store.view store.new) → S.Store.view store.new ≡ S.Store.view store.old) }
-    ensures clean { IsClean (S.Store.view store.new) → IsClean (S.Store.view store.old) }
-    ensures schema { KeepsSchema (S.Store.view store.old) (S.Store.view store.new) }
-    ensures crash { (db : Trees) → S.Store.recovers store.new db → S.Store.recovers store.old db }
-{
-    match kept_at(alloc, store, place, row)? {
         Some(found) => {
-            if found.number < first {
-                return Ok(None);
+            if found.number != number {
+                return Err(JournalError::Foreign);
             }
-            Ok(Some(found.kept))
+            Ok(Some(found))
         }
-        None => Ok(None),
+        None => Err(JournalError::Foreign),
     }
 }

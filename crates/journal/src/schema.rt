@@ -13,9 +13,10 @@ pub const PREPARED_SQL: &str =
     "CREATE TABLE prepared (position INTEGER PRIMARY KEY, key TEXT NOT NULL, s INTEGER NOT NULL, n INTEGER NOT NULL, number INTEGER NOT NULL, until INTEGER NOT NULL)";
 
 /// The statement that makes the table of what became of transactions that have keys. Formats 1 to 5 have another one,
-/// which is empty; that of the formats 6 and 7 has four columns, and its rows stay, without a number, where it is listed anew.
+/// which is empty; that of the formats 6 and 7 has four columns, that of the format 8 has seven, and its rows stay, without
+/// what they don't have, where it is listed anew.
 pub const OUTCOME_SQL: &str =
-    "CREATE TABLE outcome (place INTEGER PRIMARY KEY, key TEXT NOT NULL, how TEXT NOT NULL, replies TEXT NOT NULL, number INTEGER, first INTEGER, least INTEGER)";
+    "CREATE TABLE outcome (place INTEGER PRIMARY KEY, key TEXT, how TEXT, replies TEXT, number INTEGER, first INTEGER, least INTEGER, awaiting INTEGER)";
 
 /// The statement that makes the table of objects. Formats 1 to 3 have no column for a name.
 pub const OBJECT_SQL: &str =

@@ -9,12 +9,16 @@ ghost use Rattle.journal.specs.declared.event_row.EventRow.TheVariants.{Lines, S
 ghost use Rattle.journal.specs.declared.outcome_row.Outcome.TheVariants.{Aborted, Committed};
 ghost use Rattle.journal.specs.Contents.{IsFile, contents_of};
 ghost use Rattle.journal.specs.EventRow.{event_row, events_in_rows, row_starts};
-ghost use Rattle.journal.specs.Examples.{prepared_order, seven_and_nine, small_file, two_outcomes};
-ghost use Rattle.journal.specs.Numbers.{numbers_row};
+ghost use Rattle.journal.specs.Examples.{first_outcome, order_committed, place_of_abc, prepared_order, second_outcome, seven_and_nine, small_file, two_outcomes, rows_awaiting};
+ghost use Rattle.journal.specs.Numbers.{numbers_row, numbers_told};
 ghost use Rattle.journal.specs.Outcomes.{let_go, no_outcomes, outcomes_of, outcomes_with};
-ghost use Rattle.journal.specs.OutcomeRow.{kept_row, outcome_row};
+ghost use Rattle.journal.specs.OutcomeIndex.{kept_row};
+ghost use Rattle.journal.specs.OutcomeRow.{outcome_row};
+ghost use Rattle.journal.specs.PlaceRow.{pointer_row};
 ghost use Rattle.journal.specs.PreparedRow.{prepared_row, prepared_told};
 ghost use Rattle.journal.specs.RowPlaces.{AreBefore, HaveEvents};
+
+use transaction_key::worked::a_place;
 
 /// A transaction at object 3 that was written at once, then one of which a file of an older format has each event in a row.
 pub fn rows_of_events()
@@ -34,7 +38,8 @@ pub fn rows_that_have_events()
     ensures none { AreBefore (0 ∷ 3 ∷ 4 ∷ []) 2 0 }
 {}
 
-/// An order was committed with two replies as the fifth, another one aborted by a program that numbered none; a third place has none.
+/// An order was committed with two replies as the fifth, another one aborted by a program that numbered none, and both by programs that write an outcome at
+/// its place; a third place has none.
 pub fn rows_of_outcomes()
     ensures committed { outcome_row 7 (record { kept = record { key = codes "order:7"; outcome = Committed (codes "taken ok") }; number = 5 }) ≡ Int (pos 7) ∷ Null ∷ Text (codes "order:7") ∷ Text (codes "committed") ∷ Text (codes "taken ok") ∷ Int (pos 5) ∷ [] }
     ensures aborted { outcome_row 9 (record { kept = record { key = codes "order:9"; outcome = Aborted }; number = 0 }) ≡ Int (pos 9) ∷ Null ∷ Text (codes "order:9") ∷ Text (codes "aborted") ∷ Text [] ∷ [] }
@@ -42,13 +47,26 @@ pub fn rows_of_outcomes()
     ensures none { kept_row two_outcomes 8 ≡ None }
 {}
 
+/// Two outcomes have the key `abc`. The pointer at its place leads to the first, and the second awaits the index: it is what is kept. Where none awaits, the
+/// pointer's is. A pointer leads nowhere whose outcome has another place. The row at a place that was written by an older program is kept there.
+pub fn outcomes_that_await()
+    ensures pointer { pointer_row 7 1 ≡ Int (pos 7) ∷ Null ∷ Null ∷ Null ∷ Null ∷ Int (pos 1) ∷ [] }
+    ensures last { kept_row (rows_awaiting 1) place_of_abc ≡ Some second_outcome }
+    ensures pointed { kept_row (rows_awaiting 0) place_of_abc ≡ Some first_outcome }
+    ensures elsewhere { kept_row (rows_awaiting 0) 8 ≡ None }
+    ensures whole { kept_row (rows_awaiting 1) 7 ≡ Some order_committed }
+{
+    a_place();
+}
+
 /// Where as many are kept as two, and the next is the sixth, what was kept as the fourth or later stays: the fifth does, and one without a number goes.
 pub fn outcomes_that_stay()
-    ensures numbers { numbers_row (record { next = 6; first = 4; least = 2 }) ≡ Int (negsuc 0) ∷ Null ∷ Text [] ∷ Text (codes "numbers") ∷ Text [] ∷ Int (pos 6) ∷ Int (pos 4) ∷ Int (pos 2) ∷ [] }
-    ensures before { (outcomes_of (record { next = 6; first = 0; least = 2 }) seven_and_nine).at 9 ≡ Some (record { key = codes "order:9"; outcome = Aborted }) }
-    ensures goes { (let_go (outcomes_of (record { next = 6; first = 0; least = 2 }) seven_and_nine)).at 9 ≡ None }
-    ensures stays { (let_go (outcomes_of (record { next = 6; first = 0; least = 2 }) seven_and_nine)).numbers 7 ≡ 5 }
-    ensures after { (outcomes_of (record { next = 6; first = 4; least = 2 }) seven_and_nine).at 9 ≡ None }
+    ensures numbers { numbers_row (record { next = 6; first = 4; least = 2; awaiting = 3 }) ≡ Int (negsuc 0) ∷ Null ∷ Text [] ∷ Text (codes "numbers") ∷ Text [] ∷ Int (pos 6) ∷ Int (pos 4) ∷ Int (pos 2) ∷ Int (pos 3) ∷ [] }
+    ensures older { numbers_told (Int (negsuc 0) ∷ Null ∷ Text [] ∷ Text (codes "numbers") ∷ Text [] ∷ Int (pos 6) ∷ Int (pos 4) ∷ Int (pos 2) ∷ []) ≡ record { next = 6; first = 4; least = 2; awaiting = 0 } }
+    ensures before { (outcomes_of (record { next = 6; first = 0; least = 2; awaiting = 0 }) seven_and_nine).at 9 ≡ Some (record { key = codes "order:9"; outcome = Aborted }) }
+    ensures goes { (let_go (outcomes_of (record { next = 6; first = 0; least = 2; awaiting = 0 }) seven_and_nine)).at 9 ≡ None }
+    ensures stays { (let_go (outcomes_of (record { next = 6; first = 0; least = 2; awaiting = 0 }) seven_and_nine)).numbers 7 ≡ 5 }
+    ensures after { (outcomes_of (record { next = 6; first = 4; least = 2; awaiting = 0 }) seven_and_nine).at 9 ≡ None }
     ensures more { (outcomes_with no_outcomes (record { key = codes "order:9"; outcome = Aborted })).next ≡ 2 }
 {}
 

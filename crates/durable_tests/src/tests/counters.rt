@@ -48,7 +48,7 @@ pub fn contents(
     let alloc = rt.alloc();
     FileContents {
         header: Header {
-            format: 8,
+            format: 9,
             id: [7; 16],
             life: 0,
         },

@@ -1,4 +1,4 @@
-use Rattle.journal.proofs.Outcomes.{none-nowhere, one-nowhere}
+use Rattle.journal.proofs.PlacedRows.{none-nowhere, one-nowhere}
 use Rattle.journal.proofs.numbers.read_numbers.Goals as goal
 
 pub returns-then-not-branch-clause-found : goal.returns-then-not-branch-clause-found

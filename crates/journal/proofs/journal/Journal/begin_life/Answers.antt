@@ -1,14 +1,14 @@
 use Rattle.std.proofs.Common.{◌∷◌, [], ◌∙◌, ap, refl, subst, sym}
 use Rattle.sqlite_trees.specs.View.{View}
 use Rattle.journal.specs.Contents.{Contents, in_life, with_pending}
-use Rattle.journal.specs.Journal.{CountsOutcomes}
+use Rattle.journal.specs.OutcomeIndex.{CountsOutcomes}
 use Rattle.journal.proofs.NewHeaders.{raises, in-life}
 use Rattle.journal.proofs.journal.Journal.begin_life.Goals as goal
 
 pub returns-clause-kept : goal.returns-clause-kept
 returns-clause-kept g c = λ clean.
     let was = c.in_ok-raise_tables.ensures.kept (c.append.ensures.clean clean) in
-    (raises _ _ _ _ _ _ _ (c.in_ok-append.ensures.ok clean) was.0 refl, was.1, subst (λ (v : View). CountsOutcomes v c.raise_tables.new.self.numbers) (sym (c.in_ok-append.ensures.ok clean).is) was.2)
+    (raises _ _ _ _ _ _ _ (c.in_ok-append.ensures.ok clean) was.0 refl, was.1, subst (λ (v : View). CountsOutcomes v c.raise_tables.new.self.numbers c.raise_tables.new.self.index) (sym (c.in_ok-append.ensures.ok clean).is) was.2)
 
 pub returns-clause-last : goal.returns-clause-last
 returns-clause-last g c = λ clean.

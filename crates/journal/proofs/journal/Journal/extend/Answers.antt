@@ -29,7 +29,7 @@ returns-clause-kept g c = λ clean.
       rw c.clear-2.ensures (omega arith),
       extends-numbers _ (g.S.Store.view c.empty_epoch.new.store) (g.S.Store.view c.rewrite_states.new.store) (g.S.Store.view c.append_each.new.store) (g.S.Store.view c.append_each-2.new.store) _ _ _ _ _ _ _ _ _ _ _
           was.0 (c.in_ok-empty_epoch.ensures.ok none) (c.in_ok-rewrite_states.ensures.ok first) (c.in_ok-append_each.ensures.ok all) (c.in_ok-append_each-2.ensures.ok typed)
-          (c.in_ok-append_each-3.ensures.ok clean) (length-take-le count states low) (sym (c.requires.known before)) (c.requires.objects before ∙ omega (arith, c.requires.as_many before)) c.args.self.now.numbers was.2,
+          (c.in_ok-append_each-3.ensures.ok clean) (length-take-le count states low) (sym (c.requires.known before)) (c.requires.objects before ∙ omega (arith, c.requires.as_many before)) c.args.self.now.numbers c.args.self.now.index was.2,
     )
 
 pub returns-clause-written : goal.returns-clause-written

@@ -10,7 +10,7 @@ returns-clause-kept g c = λ clean.
     let counts = c.in_ok-put_numbers.ensures.ok clean in (
       keeps-file _ _ it.starts.items it.settled it.prepared it.header _ counts was.0 (λ low. omega (arith, c.if-self-lt-FORMAT.false, low)),
       was.1,
-      has-written _ _ _ counts (c.are_counted.ensures c.if-not-are_counted.false),
+      has-written _ _ it.starts.items it.settled it.prepared it.header it.numbers _ it.index counts was.0 was.2 (λ low. omega (arith, c.if-self-lt-FORMAT.false, low)) (c.are_counted.ensures c.if-not-are_counted.false) refl refl,
     )
 
 pub returns-clause-written : goal.returns-clause-written
@@ -18,4 +18,4 @@ returns-clause-written g c = λ clean.
     let it = c.args.self.now in
     let was = c.requires (c.put_numbers.ensures.clean clean) in
     ap (λ x. with_pending x it.pending)
-    (keeps-least _ _ it.starts.items it.settled it.prepared it.header it.numbers _ (c.in_ok-put_numbers.ensures.ok clean) was.0 was.2 (λ low. omega (arith, c.if-self-lt-FORMAT.false, low)) c.args.least refl)
+    (keeps-least _ _ it.starts.items it.settled it.prepared it.header it.numbers _ it.index (c.in_ok-put_numbers.ensures.ok clean) was.0 was.2 (λ low. omega (arith, c.if-self-lt-FORMAT.false, low)) c.args.least refl)

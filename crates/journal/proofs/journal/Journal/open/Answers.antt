@@ -1,7 +1,7 @@
 use Rattle.std.proofs.Common.{◌≡◌, subst, sym, false, IsTrue, arith, ap, ◌∙◌}
 use Rattle.sqlite_trees.specs.View.{IsClean, View}
 use Rattle.journal.specs.Contents.{Contents, IsFile, contents_of}
-use Rattle.journal.specs.Journal.{CountsOutcomes}
+use Rattle.journal.specs.OutcomeIndex.{CountsOutcomes}
 use Rattle.journal.specs.Said.{contents_beside}
 use Rattle.journal.proofs.Opens.{starts, is-file, says, unused, was_open, same_commit}
 use Rattle.journal.proofs.journal.Journal.open.Goals as goal
@@ -20,7 +20,7 @@ returns-in-Ok-clause-kept g c = λ clean.
           (c.in-Ok-true.ensures.tables c.in-Ok-true.field-0-test) numbered (c.in-Ok-true.ensures.named c.in-Ok-true.field-0-test was)
           (c.in-Ok.ensures.same clean) (c.in-Ok.ensures.told clean)),
       rw c.new.ensures (omega arith),
-      subst (λ (v : View). CountsOutcomes v found.numbers) (sym (c.in-Ok.ensures.same clean)) (λ _. c.in-Ok.ensures.numbers clean),
+      subst (λ (v : View). CountsOutcomes v found.numbers found.index) (sym (c.in-Ok.ensures.same clean)) (λ _. c.in-Ok.ensures.outcomes clean),
     )
 
 pub returns-in-Ok-clause-said : goal.returns-in-Ok-clause-said

@@ -10,7 +10,7 @@ returns-clause-kept g c = λ clean.
     let was = c.requires.journal (c.empty_epoch.ensures.clean between) in (
       rw c.clear.ensures.items (resets _ (g.S.Store.view c.empty_epoch.new.store) _ _ _ _ _ _ was.0 (c.in_ok-empty_epoch.ensures.ok between) (c.in_ok-rewrite_states.ensures.ok clean)),
       rw c.clear-2.ensures (omega arith),
-      resets-numbers _ (g.S.Store.view c.empty_epoch.new.store) _ _ _ _ _ _ was.0 (c.in_ok-empty_epoch.ensures.ok between) (c.in_ok-rewrite_states.ensures.ok clean) c.args.self.now.numbers was.2,
+      resets-numbers _ (g.S.Store.view c.empty_epoch.new.store) _ _ _ _ _ _ was.0 (c.in_ok-empty_epoch.ensures.ok between) (c.in_ok-rewrite_states.ensures.ok clean) c.args.self.now.numbers c.args.self.now.index was.2,
     )
 
 pub returns-clause-written : goal.returns-clause-written

@@ -1,7 +1,7 @@
 use Rattle.std.proofs.Common.{◌≡◌, ap, arith, length, subst, sym, ◌∙◌}
 use Rattle.sqlite_trees.specs.View.{View}
 use Rattle.journal.specs.Contents.{contents_of, with_pending}
-use Rattle.journal.specs.Journal.{CountsOutcomes}
+use Rattle.journal.specs.OutcomeIndex.{CountsOutcomes}
 use Rattle.journal.proofs.Writes.{grouped, groups, none-pending}
 use Rattle.journal.proofs.journal.Journal.write_pending.Goals as goal
 
@@ -13,7 +13,7 @@ returns-clause-kept g c = λ clean.
       rw (c.in_ok-push.ensures.items, was.1) (groups (g.S.Store.view it.store) (g.S.Store.view c.put_group.new.store) c.len-position.result it.settled it.prepared it.starts.items it.header it.pending
           (c.in_ok-put_group.ensures.ok clean) was.0 position c.in_ok-put_group.ensures.short),
       rw c.clear.ensures (omega arith),
-      subst (λ (v : View). CountsOutcomes v it.numbers) (sym (c.in_ok-put_group.ensures.ok clean).is) was.2,
+      subst (λ (v : View). CountsOutcomes v it.numbers it.index) (sym (c.in_ok-put_group.ensures.ok clean).is) was.2,
     )
 
 pub returns-clause-written : goal.returns-clause-written
