@@ -41,7 +41,7 @@ type File = (u32, &'static str, bool, u32, Option<OpenError>);
 
 /// A text with a fault; an object that names none, or begins at a state that isn't its type's. A file of a format
 /// before is opened, and one of another format isn't.
-static FILES: [File; 12] = [
+static FILES: [File; 14] = [
     (8, FAULTY, true, 0, Some(OpenError::Text(0))),
     (8, COUNTER, false, 0, Some(OpenError::Untyped(1))),
     (8, COUNTER, true, 3, Some(OpenError::Untyped(0))),
@@ -59,8 +59,10 @@ static FILES: [File; 12] = [
     (5, COUNTER, true, 0, None),
     (6, COUNTER, true, 0, None),
     (7, COUNTER, true, 0, None),
+    (8, COUNTER, true, 0, None),
+    (9, COUNTER, true, 0, None),
     (
-        9,
+        10,
         COUNTER,
         true,
         0,
