@@ -9,6 +9,7 @@ import itertools
 import os
 import shutil
 import subprocess
+from dataclasses import dataclass
 
 import callgrind
 import programs
@@ -180,28 +181,44 @@ def answered(service, lines):
             raise callgrind.Failed("serve: a transaction wasn't done")
 
 
-def served(folder, name, words, database, window, groups):
+def served(folder, name, words, database, flight, groups):
     """The instructions of a service that is asked for so many groups, one after another is answered."""
     shutil.copy(os.path.join(folder, "new.db"), os.path.join(folder, database))
     with subprocess.Popen(callgrind.command(name, [*words, database]), cwd=folder, env=callgrind.ENVIRONMENT, stdin=subprocess.PIPE,
                           stdout=subprocess.PIPE, stderr=subprocess.DEVNULL) as service:
         service.stdout.readline()
-        for _ in range(groups):
-            answered(service, ["d do 0 insert:a\n"] * window)
+        for group in range(groups):
+            answered(service, flight.lines(group))
         service.stdin.close()
     if service.returncode:
         raise callgrind.Failed(f"serve: status {service.returncode}")
     return callgrind.total(os.path.join(folder, name))
 
 
+@dataclass(frozen=True)
+class Flight:
+    """So many commits in flight, each under a key of its own or none."""
+    window: int
+    has_keys: bool
+
+    def __str__(self):
+        return f"keys {self.window}" if self.has_keys else str(self.window)
+
+    def lines(self, group):
+        """What a group asks."""
+        keys = (f"=key:{group * self.window + one} " if self.has_keys else "" for one in range(self.window))
+        return [f"d do {key}0 insert:a\n" for key in keys]
+
+
 def of_serve(room):
-    """The rows of `serve`: a commit of a group of so many."""
+    """The rows of `serve`: a commit of a group of so many, also under keys. An index of keys is put later than these are kept."""
     room.put("objects", ["object undo 0", "end"])
     room.output("colock", "create", "new.db", "objects", "set.type")
-    for window, groups in FLIGHTS.items():
-        counts = [room.pool.submit(served, room.folder, room.name(), ["./colock", "serve"], f"{window:02}.{many:03}.db", window, many)
+    for (window, groups), has_keys in itertools.product(FLIGHTS.items(), (False, True)):
+        flight = Flight(window, has_keys)
+        counts = [room.pool.submit(served, room.folder, room.name(), ["./colock", "serve"], f"{has_keys:d}.{window:02}.{many:03}.db", flight, many)
                   for many in (2 * groups, groups)]
-        yield f"serve {window}", "commit", COLOCK, lambda counts=counts, many=window * groups: (counts[0].result() - counts[1].result()) / many
+        yield f"serve {flight}", "commit", COLOCK, lambda counts=counts, many=window * groups: (counts[0].result() - counts[1].result()) / many
 
 
 def measured(room):
