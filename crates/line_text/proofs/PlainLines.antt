@@ -1,23 +1,26 @@
 -- Plain lines are cut into their words.
-use Rattle.std.proofs.Common.{◌≡◌, ◌≢◌, ℕ, ◌+◌, ◌-◌, ◌<◌, ◌≤◌, true, false, ◌&&◌, eqb, leb, ltb, List, [], ◌∷◌, ◌++◌, length, get_or, take, drop, Option, Some, None, Ok, refl, sym, ap, ◌∙◌, arith, append_assoc, add-one, drop-cons}
-use Rattle.std.specs.List.{AllByRecursion, list_all}
+use Rattle.std.proofs.Common.{◌≡◌, ◌≢◌, ℕ, ◌+◌, ◌-◌, ◌<◌, ◌≤◌, Bool, true, false, not, cond, ◌&&◌, eqb, leb, ltb, List, [], ◌∷◌, ◌++◌, length, get_or, set, take, drop, Option, Some, None, Ok, refl, sym, ap, ◌∙◌, arith, append_assoc, add-one, drop-cons}
+use Rattle.std.specs.List.{AllByRecursion, list_all, slice_get}
 use Rattle.std.specs.Option.{option_to_list}
 use Rattle.std.proofs.lemmas.Option.{same_Some}
-use Rattle.std.proofs.lemmas.Bool.{and_from, and_parts, ne_eqb, le-leb, le-ltb}
+use Rattle.std.proofs.Math.Bool.{or-true}
+use Rattle.std.proofs.lemmas.Bool.{and_from, and_parts, ne_eqb, le-leb, le-ltb, ltb-false}
 use Rattle.std.proofs.lemmas.List.{length-append, length-take-le, length-drop, take-append-drop}
 use Rattle.type_table.proofs.Elements.{each-weaker}
 use Rattle.decimals.specs.Decimals.{is_digit, number_value}
-use Rattle.line_text.specs.LineTests.{is_text_byte, words_fault, line_fault}
-use Rattle.line_text.specs.Plain.{IsPlainLine, IsNumberBefore, KeepsPlainly}
+use Rattle.line_text.specs.LineTests.{is_text_byte, is_late, lacks, is_full, ascends, words_fault, line_fault}
+use Rattle.line_text.specs.Plain.{IsPlainLine, IsNumberBefore, KeepsPlainly, TakesMore, plain_place}
 use Rattle.line_text.specs.Rules.{Rules, count_at, was_read, end_rank, last_item, item_in}
 use Rattle.line_text.specs.Spelling.{spaced, IsWord}
-use Rattle.line_text.specs.Steps.{ended, place_of, place_in, IsCut, Reads}
+use Rattle.line_text.specs.Steps.{ended, place_of, place_in, IsCut, IsKnown, Reads}
 use Rattle.line_text.specs.Accepted.{HasPassed}
 use Rattle.line_text.specs.declared.read_so_far.Place.{Place}
 use Rattle.line_text.proofs.Order.{count_from_at}
 use Rattle.decimals.proofs.Digits.{digit_range, number_of-digits}
 use Rattle.line_text.proofs.Spelled.{InWord, all_pass, InLine, content_again, spaced_bytes, first_line}
-use Rattle.line_text.proofs.Items.{no_fault}
+use Rattle.line_text.proofs.Counts.{count_at_push, IsCounted-push}
+use Rattle.line_text.proofs.Items.{last_item_push, no_fault}
+use Rattle.line_text.proofs.Lacking.{lacks_push}
 
 -- a plain line has words
 pub plain_some : (words : List (List ℕ)) (text behind : List ℕ) → IsPlainLine words text behind → 0 < length words
@@ -102,6 +105,77 @@ last_counts {Item = Item} g items last is = go (last_item items) refl is
     go : (o : Option Item) → last_item items ≡ o → Some last ≡ place_in g o → 0 < count_at g items last.rank
     go None e f = absurd cc
     go (Some y) e f = count_from_at g items last.rank (length items - 1) y e (sym (ap (λ p. p.rank) (same_Some last (place_of g y) f)))
+
+-- ---- more lines of a section
+
+abbrev one_if : Bool → ℕ
+one_if b = cond b 1 0
+
+-- what is known of items with one more that ascends by nothing, in the section of the last one
+pub IsKnown-plain : {Item : Type 0} (g : Rules Item) (items after : List Item) (counts : List ℕ) (last : Option Place) (clear rank n : ℕ) (x : Item) → IsKnown g items counts last clear → last ≡ Some (plain_place rank) → plain_place rank ≡ place_of g x
+    → rank < length g.sections → n ≡ get_or counts rank 0 + 1 → after ≡ items ++ x ∷ [] → IsKnown g after (set counts rank n) last clear
+IsKnown-plain g items after counts last clear rank n x known its place below more appended = record {
+  counted = IsCounted-push g items after counts x rank n known.counted (ap (λ p. p.rank) place) below more appended;
+  last_is = rw (appended, last_item_push items x) (its ∙ ap Some place);
+  lacks_none = rw appended (lacks_push g items x clear known.lacks_none);
+}
+
+-- a section goes on after items, of which the last is one of its own and ascends by nothing
+pub record GoesOn {Item : Type 0} (g : Rules Item) (items : List Item) (rank : ℕ) : Type 0 where
+  pub unended : was_read g items (end_rank g) ≡ false
+  pub some : 0 < count_at g items rank
+  pub in_order : (x : Item) → plain_place rank ≡ place_of g x → is_late g (last_item items) x ≡ false
+  pub lacks_none : lacks g items rank ≡ false
+  pub last_is : Some (plain_place rank) ≡ place_in g (last_item items)
+
+-- it takes more where it isn't full
+pub TakesMore-room : {Item : Type 0} (g : Rules Item) (items : List Item) (rank : ℕ) → GoesOn g items rank → is_full (slice_get g.sections rank) (count_at g items rank) ≡ false → TakesMore g items rank
+TakesMore-room {Item = Item} g items rank h room = record {
+  unended = h.unended;
+  some = h.some;
+  in_order = h.in_order;
+  lacks_none = h.lacks_none;
+  has_room = room;
+  ascending = λ x at. go x (last_item items) h.last_is;
+}
+  where
+    go : (x : Item) (o : Option Item) → Some (plain_place rank) ≡ place_in g o → ascends g o x ≡ true
+    go x None e = absurd cc
+    go x (Some y) e =
+        let keyless : None ≡ g.key_of y = ap (λ p. p.key) (same_Some (plain_place rank) (place_of g y) e) in
+        rw (← keyless) (or-true (not (eqb (g.rank_of x) (g.rank_of y))))
+
+-- it goes on where it takes more
+pub GoesOn-first : {Item : Type 0} (g : Rules Item) (items : List Item) (rank : ℕ) → TakesMore g items rank → Some (plain_place rank) ≡ place_in g (last_item items) → GoesOn g items rank
+GoesOn-first g items rank h last = record { unended = h.unended; some = h.some; in_order = h.in_order; lacks_none = h.lacks_none; last_is = last }
+
+-- and with one more of its items
+pub GoesOn-next : {Item : Type 0} (g : Rules Item) (rank : ℕ) (text behind : List ℕ) (items after : List Item) → GoesOn g items rank → KeepsPlainly g rank text behind items after → GoesOn g after rank
+GoesOn-next {Item = Item} g rank text behind items after h k =
+    let x = k.item in
+    let ranked : rank ≡ g.rank_of x = ap (λ p. p.rank) k.place in
+    let last : last_item after ≡ Some x = ap (λ (zs : List Item). last_item zs) k.kept ∙ last_item_push items x in
+    record {
+      unended = rw (k.kept, count_at_push g items x (end_rank g)) (unended ranked);
+      some = rw (k.kept, count_at_push g items x rank) (omega (arith, h.some));
+      in_order = λ y at. rw last (in_turn y (ap (λ p. p.rank) at) ranked (last_item items) h.last_is (h.in_order x k.place));
+      lacks_none = rw k.kept (lacks_push g items x rank h.lacks_none);
+      last_is = rw last (ap Some k.place);
+    }
+  where
+    unended : rank ≡ g.rank_of k.item → ltb 0 (count_at g items (end_rank g) + one_if (eqb (g.rank_of k.item) (end_rank g))) ≡ false
+    unended ranked =
+        let no_end : count_at g items (end_rank g) ≤ 0 = ltb-false 0 (count_at g items (end_rank g)) h.unended in
+        let other : g.rank_of k.item ≢ end_rank g = λ same. omega (arith, h.some, no_end, ap (λ r. count_at g items r) (ranked ∙ same)) in
+        let none : one_if (eqb (g.rank_of k.item) (end_rank g)) ≡ 0 = rw (ne_eqb (g.rank_of k.item) (end_rank g) other) refl in
+        le-ltb 0 (count_at g items (end_rank g) + one_if (eqb (g.rank_of k.item) (end_rank g))) (omega (arith, no_end, none))
+
+    in_turn : (y : Item) → rank ≡ g.rank_of y → rank ≡ g.rank_of k.item → (o : Option Item) → Some (plain_place rank) ≡ place_in g o → is_late g o k.item ≡ false → is_late g (Some k.item) y ≡ false
+    in_turn y e f None last late = absurd cc
+    in_turn y e f (Some z) last late =
+        let here : g.rank_of y ≡ g.rank_of k.item = sym e ∙ f in
+        let there : g.rank_of z ≡ g.rank_of k.item = sym (ap (λ p. p.rank) (same_Some (plain_place rank) (place_of g z) last)) ∙ f in
+        rw here (rw there at late)
 
 -- ---- words before a text
 

@@ -1,5 +1,5 @@
 -- What the reader knows between two lines.
-use Rattle.std.proofs.Common.{◌≡◌, ℕ, ◌+◌, ◌<◌, ◌≤◌, true, false, List, [], ◌∷◌, ◌++◌, length, Option, Some, None, Ok, Err, refl, sym, ap, ◌∙◌, inl, inr, arith, append_assoc}
+use Rattle.std.proofs.Common.{◌≡◌, ℕ, ◌+◌, ◌<◌, true, false, List, [], ◌∷◌, ◌++◌, length, Option, Some, None, Ok, Err, refl, sym, ap, ◌∙◌, inl, inr, arith, append_assoc, add_assoc, add-zero, subst}
 use Rattle.std.specs.Option.{option_to_list}
 use Rattle.std.specs.List.{cons_option}
 use Rattle.std.proofs.lemmas.List.{append-nil, length-append}
@@ -7,19 +7,11 @@ use Rattle.std.proofs.lemmas.List.Elements.{filter_map-append}
 use Rattle.line_text.specs.Text.{TextLine, lines_of, content_of}
 use Rattle.line_text.specs.Rules.{Rules, item_in, items_of, was_read, end_rank}
 use Rattle.line_text.specs.LineTests.{line_fault}
+use Rattle.line_text.specs.Steps.{HasRead, Reads, ReadsLines}
 use Rattle.line_text.specs.Outcome.{fault_on, has_ended, outcome_of, refusal_at, ArePassed, IsReached}
 use Rattle.line_text.specs.declared.fault.FaultKind.{FaultKind}
 use Rattle.line_text.specs.declared.fault.FaultKind.TheVariants.{Missing}
 use Rattle.line_text.proofs.Places.{refusal_at_here, ArePassed-more, outcome_from}
-
--- some lines were read and passed, and what is left of the text has the others
-pub record HasRead {Item : Type 0} (g : Rules Item) (text rest : List ℕ) (line : ℕ) (items : List Item) : Type 0 where
-  pub before : List TextLine
-  pub split : lines_of text ≡ before ++ lines_of rest
-  pub items_are : items ≡ items_of g before
-  pub line_is : line ≡ length before + 1
-  pub passed : ArePassed g (lines_of text) (length before)
-  pub room : length before + length rest ≤ length text
 
 -- the items of one more line
 pub items_of_more : {Item : Type 0} (g : Rules Item) (before : List TextLine) (l : TextLine) → items_of g (before ++ l ∷ []) ≡ items_of g before ++ option_to_list (item_in g (content_of l.bytes))
@@ -79,6 +71,30 @@ module _ {Item : Type 0} (g : Rules Item) (text rest : List ℕ) (line : ℕ) (i
   -- after the last line `end` was read
   pub value_next : true ≡ was_read g items (end_rank g) → outcome_of g text ≡ Ok items
   value_next e = outcome_from g text (Ok items) (record { passed = all_passed; ended = read_is ∙ sym e; value = read.items_are ∙ ap (items_of g) (sym no_more) })
+
+-- no line
+pub ReadsLines-none : {Item : Type 0} (g : Rules Item) (rest : List ℕ) (before : List Item) → ReadsLines g rest rest 0 before before
+ReadsLines-none g rest before = record {
+  goes_on = λ text line read. rw add-zero read;
+  shorter = omega arith;
+  none = λ e. refl;
+}
+
+-- one more line
+pub ReadsLines-more : {Item : Type 0} (g : Rules Item) (rest middle behind : List ℕ) (count : ℕ) (before items after : List Item) → ReadsLines g rest middle count before items → Reads g middle behind items after → ReadsLines g rest behind (count + 1) before after
+ReadsLines-more g rest middle behind count before items after some next = record {
+  goes_on = λ text line read.
+      let had = some.goes_on text line read in
+      subst (λ n. HasRead g text behind n after) (add_assoc line count 1)
+      (HasRead-more g text middle (line + count) items next.line (lines_of behind) next.first had behind after refl next.shorter next.passed next.items);
+  shorter = omega (arith, some.shorter, next.shorter);
+  none = λ e. absurd (omega (arith, e));
+}
+
+-- one line after items that are these
+pub ReadsLines-one : {Item : Type 0} (g : Rules Item) (rest behind : List ℕ) (before items after : List Item) → items ≡ before → Reads g rest behind items after → ReadsLines g rest behind 1 before after
+ReadsLines-one g rest behind before items after same next =
+    ReadsLines-more g rest rest behind 0 before before after (ReadsLines-none g rest before) (subst (λ its. Reads g rest behind its after) same next)
 
 -- before the first line
 pub HasRead-none : {Item : Type 0} (g : Rules Item) (text : List ℕ) (items : List Item) → items ≡ [] → HasRead g text text 1 items

@@ -1,9 +1,10 @@
 -- What the reader's steps answer and leave.
-use Rattle.std.specs.Prelude.{◌≡◌, ◌⊎◌, ℕ, ◌<◌, true, false, List, ◌∷◌, ◌++◌, length, Option, Some, None, Result, Ok, Err}
+use Rattle.std.specs.Prelude.{◌≡◌, ◌⊎◌, ℕ, ◌+◌, ◌<◌, ◌≤◌, true, false, List, ◌∷◌, ◌++◌, length, Option, Some, None, Result, Ok, Err}
 use Rattle.std.specs.Option.{option_to_list}
 use Rattle.line_text.specs.Text.{TextLine, lines_of, content_of}
-use Rattle.line_text.specs.Rules.{Rules, IsCounted, item_in, last_item}
+use Rattle.line_text.specs.Rules.{Rules, IsCounted, item_in, items_of, last_item}
 use Rattle.line_text.specs.LineTests.{form_fault, lacks, words_fault, line_fault}
+use Rattle.line_text.specs.Outcome.{ArePassed}
 use Rattle.line_text.specs.declared.fault.FaultKind.{FaultKind}
 use Rattle.line_text.specs.declared.fault.FaultKind.TheVariants.{NoMemory}
 use Rattle.line_text.specs.declared.read_so_far.Place.{Place}
@@ -54,6 +55,21 @@ pub record Reads {Item : Type 0} (g : Rules Item) (text behind : List ℕ) (befo
   pub shorter : length behind < length text
   pub passed : line_fault g before line ≡ None
   pub items : after ≡ before ++ option_to_list (item_in g (content_of line.bytes))
+
+-- some lines of a text were read and passed, and what is left of it has the others
+pub record HasRead {Item : Type 0} (g : Rules Item) (text rest : List ℕ) (line : ℕ) (items : List Item) : Type 0 where
+  pub before : List TextLine
+  pub split : lines_of text ≡ before ++ lines_of rest
+  pub items_are : items ≡ items_of g before
+  pub line_is : line ≡ length before + 1
+  pub passed : ArePassed g (lines_of text) (length before)
+  pub room : length before + length rest ≤ length text
+
+-- so many lines at the front of what is left of a text passed after items, and their items are then after the others
+pub record ReadsLines {Item : Type 0} (g : Rules Item) (rest behind : List ℕ) (count : ℕ) (before after : List Item) : Type 0 where
+  pub goes_on : (text : List ℕ) (line : ℕ) → HasRead g text rest line before → HasRead g text behind (line + count) after
+  pub shorter : length behind + count ≤ length rest
+  pub none : count ≡ 0 → after ≡ before
 
 -- a text's first line is refused after items, or memory was
 pub record IsStopped {Item : Type 0} (g : Rules Item) (text : List ℕ) (before : List Item) (kind : FaultKind) : Type 0 where

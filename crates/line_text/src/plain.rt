@@ -45,7 +45,7 @@ fn behind_digits(text: &[u8], count: usize, number: u32, stop: u8) -> Option<(u3
 }
 
 /// The bytes of a text before the first such byte, and what comes after that.
-#[inline]
+#[inline(always)]
 pub fn bytes_before(text: &[u8], stop: u8) -> Option<(&[u8], &[u8])>
     ensures { IfSome result (λ taken. text.now ≡ taken.0.now ++ stop ∷ taken.1.now) }
 {

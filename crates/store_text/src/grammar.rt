@@ -99,6 +99,7 @@ impl<E: Entries> Grammar for StoreGrammar<E> {
         }
     }
 
+    #[inline(always)]
     fn keep_plain<'a>(
         &self,
         before: &mut KeptParts<E::Kept>,

@@ -1,7 +1,7 @@
-use Rattle.std.proofs.Common.{inl, inr, sym, refl}
+use Rattle.std.proofs.Common.{inl, inr, sym}
 use Rattle.std.proofs.lemmas.Bool.{eqb-true}
 use Rattle.line_text.proofs.Lines.{lines_of-empty}
-use Rattle.line_text.proofs.Reading.{HasRead-more, IsReached-next, refused_next, unfinished_next, value_next}
+use Rattle.line_text.proofs.Reading.{IsReached-next, refused_next, unfinished_next, value_next}
 use Rattle.line_text.proofs.Accepting.{IsAccepted-from_outcome}
 use Rattle.line_text.proofs.read.read_items.Goals as goal
 
@@ -19,13 +19,9 @@ returns-in-Err-clause-exact g c =
 
 pub loop-rest-preserved : goal.loop-rest-preserved
 loop-rest-preserved g c =
-    let rules = g.G.Grammar.rules c.args.grammar.now in
     let at = c.loop-rest in
-    let read = c.in-Ok-read_line.ensures.read in
-    record {
-      read = HasRead-more rules c.args.text.now at.rest.now at.line (g.G.Grammar.kept at.so_far.kept) read.line _ read.first at.invariant.read c.in-Ok-read_line.behind.now (g.G.Grammar.kept c.read_line.new.so_far.kept) refl read.shorter read.passed read.items;
-      known = c.in-Ok-read_line.ensures.known;
-    }
+    let some = c.in-Ok-read_lines.ensures in
+    record { read = some.read.goes_on c.args.text.now at.line at.invariant.read; known = some.known }
 
 pub returns-then-not-has_ended-clause-exact : goal.returns-then-not-has_ended-clause-exact
 returns-then-not-has_ended-clause-exact g c =

@@ -1,7 +1,6 @@
 -- The lines before `rest` were read and passed, and their items are kept and known.
 use Rattle.std.proofs.Common.{length}
-use Rattle.line_text.specs.Steps.{IsKnown}
-use Rattle.line_text.proofs.Reading.{HasRead}
+use Rattle.line_text.specs.Steps.{HasRead, IsKnown}
 use Rattle.line_text.proofs.read.read_items.Given as goal
 
 abbrev pub invariant-loop-rest : goal.invariant-loop-rest
