@@ -35,6 +35,7 @@ impl Auditor {
     }
 
     /// Takes the event at this place, after those before it.
+    #[inline(always)]
     pub fn take(
         &mut self,
         types: &[&DeclaredType],

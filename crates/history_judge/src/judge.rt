@@ -51,6 +51,7 @@ impl Judge {
 
     /// Judges one more event. What a commit commits is let go: `commit` hands it out. Where the event is bad or
     /// memory was refused, nothing changes.
+    #[inline(always)]
     pub fn judge(&mut self, types: &[&DeclaredType], event: EventKind) -> Result<(), EventFault>
         ensures judged { Takes (map (λ t. table_of t.now) types.now) self.old event result self.new }
         ensures kept { OnErr result (self.new ≡ self.old) }
@@ -71,6 +72,7 @@ impl Judge {
 
     /// Judges a commit of t, and hands out the operations of t that survive, in order. Where it is bad, nothing
     /// changes.
+    #[inline(always)]
     pub fn commit(&mut self, t: u32) -> Result<Operations, EventFault>
         ensures judged { (tables : List Table) → Judges tables self.old (kind.Commit t) (handed result) self.new }
         ensures kept { OnErr result (self.new ≡ self.old) }
@@ -83,6 +85,7 @@ impl Judge {
     }
 
     /// Judges the event at this place, after those before it, and hands out the transaction that it commits.
+    #[inline(always)]
     pub fn take(
         &mut self,
         types: &[&DeclaredType],
@@ -119,6 +122,7 @@ impl Judge {
     }
 
     // A transaction's number is the number of those before it.
+    #[inline(always)]
     fn begin(&mut self, t: u32) -> Verdict
         ensures judged { (tables : List Table) → Takes tables self.old (kind.Begin t) result self.new }
         ensures kept { OnErr result (self.new ≡ self.old) }
@@ -134,6 +138,7 @@ impl Judge {
     }
 
     // An operation of an open transaction.
+    #[inline(always)]
     fn op(&mut self, types: &[&DeclaredType], t: u32, x: u32, k: Operation) -> Verdict
         ensures judged { Takes (map (λ t. table_of t.now) types.now) self.old (kind.Op k t x) result self.new }
         ensures kept { OnErr result (self.new ≡ self.old) }
@@ -167,6 +172,7 @@ impl Judge {
     }
 
     // The end of an open transaction, whose operations are struck.
+    #[inline(always)]
     fn abort(&mut self, t: u32) -> Verdict
         ensures judged { (tables : List Table) → Takes tables self.old (kind.Abort t) result self.new }
         ensures kept { OnErr result (self.new ≡ self.old) }

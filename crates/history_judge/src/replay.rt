@@ -21,6 +21,7 @@ pub struct Stop {
 
 /// Runs a transaction's operations on the states of the objects, in order. Where one isn't legal it goes on at
 /// lower objects alone, and answers the first such one at the least object.
+#[inline(always)]
 pub fn replay(
     states: &mut Vec<u32>,
     types: &[&DeclaredType],
@@ -40,6 +41,7 @@ pub fn replay(
 }
 
 /// Runs one operation, which has this place among those of its transaction.
+#[inline(always)]
 fn replay_one(
     states: &mut Vec<u32>,
     types: &[&DeclaredType],
@@ -79,6 +81,7 @@ fn is_stopped_at(stop: Option<Stop>, x: u32) -> bool
 }
 
 /// The next state of the operation's object, where the operation is legal.
+#[inline(always)]
 fn next_at(states: &Vec<u32>, types: &[&DeclaredType], operation: &Executed) -> Option<u32>
     requires states { AreStates (map (λ t. table_of t.now) types.now) states.now.items }
     requires operation { IsOperation (slice_get (map (λ t. table_of t.now) types.now) operation.now.x) operation.now.k }

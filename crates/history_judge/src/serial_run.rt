@@ -46,6 +46,7 @@ impl SerialRun {
     }
 
     /// Runs the operations of t after those of the transactions before it.
+    #[inline(always)]
     pub fn take(
         &mut self,
         types: &[&DeclaredType],
@@ -64,6 +65,7 @@ impl SerialRun {
     }
 
     /// The same, where each operation so far is legal.
+    #[inline(always)]
     fn replay(
         &mut self,
         types: &[&DeclaredType],

@@ -66,6 +66,7 @@ impl Slots {
     }
 
     /// Whether t began and hasn't ended.
+    #[inline(always)]
     pub(crate) fn is_open(&self, t: u32) -> bool
         ensures { result ≡ has_row self.now t }
     {
@@ -83,6 +84,7 @@ impl Slots {
     }
 
     /// Begins t, which is the next.
+    #[inline(always)]
     pub(crate) fn begin(&mut self, t: u32) -> Result<(), AllocError>
         requires { t ≡ length self.old }
         ensures ok { OnOk result (self.new ≡ self.old ++ Some [] ∷ []) }
@@ -104,6 +106,7 @@ impl Slots {
     }
 
     /// One more operation of t.
+    #[inline(always)]
     pub(crate) fn add(&mut self, t: u32, operation: Executed) -> Result<(), AllocError>
         requires { has_row self.old t ≡ true }
         ensures ok { OnOk result (self.new ≡ slice_set self.old t (Some (its_of (row self.old t) ++ operation ∷ []))) }
@@ -123,6 +126,7 @@ impl Slots {
     }
 
     /// Ends t, and hands out its operations. It takes no memory.
+    #[inline(always)]
     pub(crate) fn end(&mut self, t: u32) -> Operations
         requires { has_row self.old t ≡ true }
         ensures operations { result ≡ its_of (row self.old t) }
@@ -142,6 +146,7 @@ impl Slots {
     }
 
     /// Ends t, whose operations nobody asks for.
+    #[inline(always)]
     pub(crate) fn close(&mut self, t: u32)
         requires { has_row self.old t ≡ true }
         ensures { self.new ≡ slice_set self.old t None }
@@ -151,6 +156,7 @@ impl Slots {
     }
 
     /// Takes a list back that was handed out.
+    #[inline(always)]
     pub(crate) fn take_back(&mut self, operations: Operations)
         ensures { self.new ≡ self.old }
     {
@@ -160,6 +166,7 @@ impl Slots {
 }
 
 /// A list of no operations, which has the room of one of these where there is one.
+#[inline(always)]
 fn emptied(spare: &mut Vec<Operations>, alloc: Global) -> Operations
     ensures { result ≡ [] }
 {

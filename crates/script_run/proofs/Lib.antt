@@ -11,3 +11,4 @@ pub mod Told
 pub mod LongNumbers
 pub mod HistoryLines
 pub mod Ranges
+pub mod FoundCalls

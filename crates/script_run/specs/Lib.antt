@@ -1,4 +1,5 @@
 pub mod Lines
+pub mod Found
 pub mod Turns
 pub mod Runs
 pub mod Laws

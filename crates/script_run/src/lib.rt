@@ -2,6 +2,7 @@
 //! is handed to the output before the next command is asked.
 #![tactic(auto)]
 
+mod found_calls;
 mod kept;
 mod last_aborts;
 mod laws;

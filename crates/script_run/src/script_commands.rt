@@ -1,21 +1,28 @@
 //! The commands of a running script.
 
-ghost use Rattle.std.specs.Prelude.{◌≡◌, ◌≤◌, ◌++◌, ◌∷◌, [], List, length, None};
+ghost use Rattle.std.specs.Prelude.{◌≡◌, ◌≤◌, ◌<◌, ◌++◌, ◌∷◌, [], List, length, None, Some, IfSome, slice_get, slice_index_or};
 ghost use Rattle.object_trait.specs.declared.event.Event.{Event as EventValue};
 ghost use Rattle.line_text.specs.Spelling.{spaced};
 ghost use Rattle.outputs.specs.Out.{Puts};
+ghost use Rattle.script_text.specs.Kept.{command_said, HasName};
 ghost use Rattle.serial_order.specs.Machine.{IsRun};
+ghost use Rattle.serial_order.specs.Replay.{call_at};
+ghost use Rattle.serial_order.specs.declared.command.Command.TheVariants as command;
 ghost use Rattle.store_laws.specs.Stored.{objects};
+ghost use Rattle.script_run.specs.Found.{AreFound};
 ghost use Rattle.script_run.specs.Lines.{event_turn_words};
 ghost use Rattle.script_run.specs.Runs.{Asks, RunsCommands};
 
+use crate::found_calls::{FoundCall, PLACES, remember, remembered};
 use crate::lines::write_refused;
 use history_text::write_event;
 use object_trait::Recovery;
 use outputs::{Out, OutFault};
-use script_text::CommandList;
-use serial_order::{Command, Refusal, command_appends};
+use script_text::{CommandList, KeptCommand};
+use serial_order::{Refusal, command_appends};
+use std::str;
 use store::Store;
+use type_table::{Name, Operation};
 
 /// Asks the commands of a store, in order, as worker 0, and writes the line of each before it asks the
 /// next: that of its event, or that of its refusal.
@@ -23,6 +30,7 @@ use store::Store;
 /// # Errors
 ///
 /// The fault that stopped the output. No further command was asked.
+#[inline(always)]
 pub(crate) fn run_commands<R: Recovery, W: Out>(
     store: &mut Store<R>,
     commands: &CommandList,
@@ -31,41 +39,110 @@ pub(crate) fn run_commands<R: Recovery, W: Out>(
     requires { W.fault out.old ≡ None }
     ensures { RunsCommands store.old commands.now (W.taken out.old) (W.taken out.new) (W.fault out.new) store.new result }
 {
-    for place in 0..commands.len() {
-        if let Some(command) = commands.get(place) {
-            run_command(store, &command, out)?;
-        }
+    let kept = commands.kept();
+    let names = kept.names;
+    let mut found = [None; PLACES];
+    for command in kept.commands {
+        run_command(store, command, names, &mut found, out)?;
     }
     Ok(())
 }
 
 /// Asks one command, and writes its line.
+#[inline(always)]
 fn run_command<R: Recovery, W: Out>(
     store: &mut Store<R>,
-    command: &Command,
+    command: &KeptCommand,
+    names: &[Name],
+    found: &mut [Option<FoundCall>; PLACES],
     out: &mut W,
 ) -> Result<(), OutFault>
-    requires { W.fault out.old ≡ None }
-    ensures { RunsCommands store.old (command.now ∷ []) (W.taken out.old) (W.taken out.new) (W.fault out.new) store.new result }
+    requires out_takes { W.fault out.old ≡ None }
+    requires named { HasName (length names.now) command.now }
+    requires found { AreFound (objects store.old) names.now found.old }
+    ensures runs { RunsCommands store.old (command_said names.now command.now ∷ []) (W.taken out.old) (W.taken out.new) (W.fault out.new) store.new result }
+    ensures found { AreFound (objects store.new) names.now found.new }
 {
     command_appends();
     known(store);
-    match ask(store, command) {
+    match ask(store, command, names, found) {
         Some(refusal) => write_refused(out, refusal),
         None => write_last(out, store),
     }
 }
 
 /// Asks one command as worker 0: why it is refused.
-fn ask<R: Recovery>(store: &mut Store<R>, command: &Command) -> Option<Refusal>
-    ensures { Asks store.old command.now result store.new }
+#[inline(always)]
+fn ask<R: Recovery>(
+    store: &mut Store<R>,
+    command: &KeptCommand,
+    names: &[Name],
+    found: &mut [Option<FoundCall>; PLACES],
+) -> Option<Refusal>
+    requires named { HasName (length names.now) command.now }
+    requires found { AreFound (objects store.old) names.now found.old }
+    ensures asks { Asks store.old (command_said names.now command.now) result store.new }
+    ensures found { AreFound (objects store.old) names.now found.new }
 {
-    match command {
-        Command::Begin => store.begin(0).err(),
-        Command::Call { t, x, call } => store.call_bytes(0, *t, *x, call.as_bytes()).err(),
-        Command::Commit { t } => store.commit(0, *t).err(),
-        Command::Abort { t } => store.abort(0, *t).err(),
-        Command::Rollback { t, n } => store.rollback(0, *t, *n).err(),
+    match *command {
+        KeptCommand::Begin => store.begin(0).err(),
+        KeptCommand::Call { t, x, name } => ask_call(store, t, x, name, names, found),
+        KeptCommand::Commit { t } => store.commit(0, t).err(),
+        KeptCommand::Abort { t } => store.abort(0, t).err(),
+        KeptCommand::Rollback { t, n } => store.rollback(0, t, n).err(),
+    }
+}
+
+/// Asks t's call by a name at object x, by its number where that is remembered.
+#[inline(always)]
+fn ask_call<R: Recovery>(
+    store: &mut Store<R>,
+    t: u32,
+    x: u32,
+    name: u32,
+    names: &[Name],
+    found: &mut [Option<FoundCall>; PLACES],
+) -> Option<Refusal>
+    requires named { name < length names.now }
+    requires found { AreFound (objects store.old) names.now found.old }
+    ensures asks { Asks store.old (command.Call t x (slice_index_or names.now name [])) result store.new }
+    ensures found { AreFound (objects store.old) names.now found.new }
+{
+    match remembered(found, x, name) {
+        Some(call) => store.call_op(0, t, x, call).err(),
+        None => ask_by_name(store, t, x, name, names, found),
+    }
+}
+
+/// Asks the same by the name, and remembers its number where there is one.
+#[inline(never)]
+fn ask_by_name<R: Recovery>(
+    store: &mut Store<R>,
+    t: u32,
+    x: u32,
+    name: u32,
+    names: &[Name],
+    found: &mut [Option<FoundCall>; PLACES],
+) -> Option<Refusal>
+    requires named { name < length names.now }
+    requires found { AreFound (objects store.old) names.now found.old }
+    ensures asks { Asks store.old (command.Call t x (slice_index_or names.now name [])) result store.new }
+    ensures found { AreFound (objects store.old) names.now found.new }
+{
+    let bytes = names[name as usize].as_bytes();
+    if let Some(call) = call_by(store, x, bytes) {
+        remember(found, x, name, call);
+    }
+    store.call_bytes(0, t, x, bytes).err()
+}
+
+/// The number of the call at object x whose name has these bytes.
+fn call_by<R: Recovery>(store: &Store<R>, x: u32, bytes: &[u8]) -> Option<Operation>
+    ensures { IfSome result (λ call. call_at (slice_get (objects store.now) x) bytes.now ≡ Some call) }
+{
+    match str::from_utf8(bytes) {
+        Ok(name) => store.call_of(x, name),
+        Err(_) => None,
     }
 }
 
@@ -79,6 +156,7 @@ pub(crate) fn known<R: Recovery>(store: &Store<R>)
 }
 
 /// Writes the line of the last event of a store, which isn't forgotten.
+#[inline(always)]
 pub(crate) fn write_last<R: Recovery, W: Out>(out: &mut W, store: &Store<R>) -> Result<(), OutFault>
     requires { W.fault out.old ≡ None }
     ensures { (before : List EventValue) (e : EventValue) → store.now.history ≡ before ++ e ∷ [] → store.now.forgotten ≤ length before

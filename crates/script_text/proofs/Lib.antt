@@ -1,3 +1,3 @@
 pub mod Fit
-pub mod KeptCommands
+pub mod CommandsKept
 pub mod PlainCommands

@@ -10,6 +10,9 @@ use Rattle.line_text.proofs.Items.{keyword}
 use Rattle.store_text.specs.Body.{line_of}
 use Rattle.store_text.specs.declared.line.Line.TheVariants.{Entry}
 use Rattle.serial_order.specs.declared.command.Command.TheVariants.{Begin, Call, Commit, Abort, Rollback}
+use Rattle.serial_order.specs.declared.command.Command.{Command}
+use Rattle.script_text.specs.Kept.{PutsCall}
+use Rattle.script_text.specs.Plain.{KeepsCommandOf}
 use Rattle.script_text.specs.Commands.{commands, command_of, begin_command_of, call_command_of, commit_command_of, abort_command_of, rollback_command_of}
 
 -- what holds where a line was kept
@@ -37,6 +40,18 @@ call_plainly size t x word rest first second behind a b front is words = record 
   no_comment = λ e. omega (arith, e);
   short = omega (arith, a.short, b.short, ap length front, length-append word (10 ∷ behind), (words is).1);
   said = rw (is, a.said, b.said) refl;
+}
+
+-- a call whose name is before the LF
+pub KeepsCommandOf-call : (t x : ℕ) (rest first second behind : List ℕ) (before after : List Command) → IsNumberBefore 32 rest t first → IsNumberBefore 32 first x second
+    → ((word : List ℕ) → NameIsWord word) → PutsCall t x second behind before after → KeepsCommandOf (codes "call " ++ rest) behind before after
+KeepsCommandOf-call t x rest first second behind before after a b words puts = record {
+  keeps = λ objects. record {
+    entry = Call t x puts.word;
+    says = λ size. call_plainly size t x puts.word rest first second behind a b puts.front puts.is_name (words puts.word);
+    in_range = refl;
+    kept = puts.kept;
+  };
 }
 
 pub commit_plainly : (size : Option ℕ) (t : ℕ) (rest behind : List ℕ) → IsNumberBefore 10 rest t behind → SaysPlainly (line_of commands size) (codes "commit " ++ rest) (Entry (Commit t)) behind

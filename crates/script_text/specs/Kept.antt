@@ -1,5 +1,6 @@
 -- What is kept of commands, and of the names of their calls.
-use Rattle.std.specs.Prelude.{◌≡◌, ℕ, ◌<◌, List, [], ◌++◌, length, slice_index_or}
+use Rattle.std.specs.Prelude.{◌≡◌, ℕ, ◌<◌, true, List, [], ◌∷◌, ◌++◌, length, slice_get, slice_index_or, Some}
+use Rattle.type_table.specs.Name.{is_name as is_name_text}
 use Rattle.serial_order.specs.declared.command.Command.{Command}
 use Rattle.serial_order.specs.declared.command.Command.TheVariants.{Begin, Call, Commit, Abort, Rollback}
 use Rattle.script_text.specs.declared.kept_command.KeptCommand.{KeptCommand}
@@ -24,3 +25,17 @@ pub record KeepsCommand (old new : List (List ℕ)) (command : Command) (k : Kep
   pub names : new ≡ old ++ more
   pub has_name : HasName (length new) k
   pub says : command_said new k ≡ command
+
+-- a text begins with the name at a position and a LF, and goes on so
+pub record BeginsWithName (names : List (List ℕ)) (text : List ℕ) (position : ℕ) (behind : List ℕ) : Type 0 where
+  pub word : List ℕ
+  pub there : slice_get names position ≡ Some word
+  pub is_name : is_name_text word ≡ true
+  pub front : text ≡ word ++ 10 ∷ behind
+
+-- a call by the name with which a text begins comes after the other commands
+pub record PutsCall (t x : ℕ) (text behind : List ℕ) (before after : List Command) : Type 0 where
+  pub word : List ℕ
+  pub is_name : is_name_text word ≡ true
+  pub front : text ≡ word ++ 10 ∷ behind
+  pub kept : after ≡ before ++ Call t x word ∷ []

@@ -1,8 +1,10 @@
-ghost use Rattle.std.specs.Prelude.{◌≡◌, ◌==◌, ◌++◌, ◌∷◌, ◌<◌, ◌^◌, [], length, true, slice_get, MatchOption, MatchResult};
+ghost use Rattle.std.specs.Prelude.{◌≡◌, ◌==◌, ◌++◌, ◌∷◌, ◌<◌, ◌^◌, [], length, map, true, MatchOption, MatchResult};
+ghost use Rattle.std.specs.List.{AllByRecursion};
 ghost use Rattle.type_table.specs.Name.{is_name};
+ghost use Rattle.script_text.specs.Kept.{command_said, HasName, PutsCall};
 ghost use Rattle.serial_order.specs.declared.command.Command.TheVariants.{Call};
 
-use crate::kept_command::KeptCommand;
+use crate::kept_command::{KeptCommand, KeptCommands};
 use crate::names::Names;
 use serial_order::Command;
 use std::alloc::{AllocError, Global};
@@ -23,7 +25,7 @@ impl Model for CommandList {
     ghost use Rattle.std.specs.Prelude.{List, map, length};
     ghost use Rattle.std.specs.List.{AllByRecursion};
     ghost use Rattle.serial_order.specs.declared.command.Command.{Command as CommandValue};
-    ghost use Rattle.script_text.specs.Kept.{command_said, HasName};
+    ghost use Rattle.script_text.specs.Kept.{command_said, HasName, PutsCall};
 
     ghost Value = { List CommandValue };
 
@@ -58,20 +60,14 @@ impl CommandList {
         self.len() == 0
     }
 
-    /// The command at a position, counted from 0.
-    #[inline]
-    pub fn get(&self, position: usize) -> Option<Command>
-        ensures { result ≡ slice_get self.now position }
+    /// The commands as they are kept.
+    pub fn kept(&self) -> KeptCommands<'_>
+        ensures said { map (command_said result.names.now) result.commands.now ≡ self.now }
+        ensures named { AllByRecursion (HasName (length result.names.now)) result.commands.now }
     {
-        match *self.kept.get(position)? {
-            KeptCommand::Begin => Some(Command::Begin),
-            KeptCommand::Call { t, x, name } => {
-                let call = self.names.get(name)?;
-                Some(Command::Call { t, x, call })
-            }
-            KeptCommand::Commit { t } => Some(Command::Commit { t }),
-            KeptCommand::Abort { t } => Some(Command::Abort { t }),
-            KeptCommand::Rollback { t, n } => Some(Command::Rollback { t, n }),
+        KeptCommands {
+            commands: self.kept.as_slice(),
+            names: self.names.as_slice(),
         }
     }
 
@@ -90,9 +86,21 @@ impl CommandList {
         Ok(())
     }
 
-    /// Puts a command after the others, where there is room for it without more memory.
-    #[inline]
-    pub(crate) fn put(&mut self, command: Command) -> Option<()>
+    /// Puts a command that names no call after the others, where there is room for it without more memory.
+    #[inline(always)]
+    pub(crate) fn put_nameless(&mut self, kept: KeptCommand) -> Option<()>
+        requires { HasName 0 kept }
+        ensures { MatchOption result (self.new ≡ self.old) (λ _. self.new ≡ self.old ++ command_said [] kept ∷ []) }
+    {
+        if self.kept.len() == self.kept.capacity() {
+            return None;
+        }
+        self.kept.push_reserved(kept);
+        Some(())
+    }
+
+    /// The same of any command.
+    fn put(&mut self, command: Command) -> Option<()>
         ensures { MatchOption result (self.new ≡ self.old) (λ _. self.new ≡ self.old ++ command ∷ []) }
     {
         if self.kept.len() == self.kept.capacity() {
@@ -105,8 +113,28 @@ impl CommandList {
         Some(())
     }
 
+    /// The same of a call by the name with which a text begins, where that is found at once, and what comes after the
+    /// LF behind it.
+    #[inline(always)]
+    pub(crate) fn put_known_call<'a>(&mut self, t: u32, x: u32, text: &'a [u8]) -> Option<&'a [u8]>
+        ensures { MatchOption result (self.new ≡ self.old) (λ behind. PutsCall t x text.now behind.now self.old self.new) }
+    {
+        let (name, behind) = self.names.before_lf(text)?;
+        if self.kept.len() == self.kept.capacity() {
+            return None;
+        }
+        self.kept.push_reserved(KeptCommand::Call { t, x, name });
+        Some(behind)
+    }
+
+    /// Finds these bytes at once where a text begins with them as this one does.
+    pub(crate) fn note(&mut self, text: &[u8], bytes: &[u8])
+        ensures { self.new ≡ self.old }
+    {
+        self.names.note(text, bytes);
+    }
+
     /// The same of a call by these bytes, where they are a name.
-    #[inline]
     pub(crate) fn put_call(&mut self, t: u32, x: u32, bytes: &[u8]) -> Option<()>
         ensures { MatchOption result
             (self.new ≡ self.old)

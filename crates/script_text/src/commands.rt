@@ -58,6 +58,7 @@ impl Entries for Commands {
         commands.push(entry)
     }
 
+    #[inline(always)]
     fn keep_plain<'a>(
         &self,
         commands: &mut CommandList,

@@ -10,6 +10,7 @@ mod read;
 mod script;
 
 pub use command_list::CommandList;
+pub use kept_command::{KeptCommand, KeptCommands};
 pub use line_text::{FaultKind, TextFault};
 pub use read::read_script;
 pub use script::Script;

@@ -2,7 +2,7 @@
 
 ghost use Rattle.std.specs.Prelude.{◌≡◌, ◌++◌, ◌∷◌, [], length, true, slice_get, IfSome, MatchResult, Some};
 ghost use Rattle.type_table.specs.Name.{is_name};
-ghost use Rattle.script_text.specs.Kept.{KeepsCommand};
+ghost use Rattle.script_text.specs.Kept.{BeginsWithName, KeepsCommand};
 
 use crate::kept_command::KeptCommand;
 use serial_order::Command;
@@ -10,8 +10,11 @@ use std::alloc::{AllocError, Global};
 use std::marker::Model;
 use type_table::Name;
 
-/// How many sums the bytes of a name may have.
+/// How many sums the bytes of a name, or the front of a text, may have.
 const SUMS: usize = 256;
+
+/// An odd number whose bits look drawn.
+const MIXER: u64 = 0x9e37_79b9_7f4a_7c15;
 
 /// Names, each at its position. One that comes again soon is found, and kept once.
 ///
@@ -21,6 +24,8 @@ pub(crate) struct Names {
     names: Vec<Name>,
     // The position of the last name of each sum. The name there is compared, so nothing relies on it.
     positions: [u32; SUMS],
+    // The same of the last name that a text with this sum of its front began with.
+    fronts: [u32; SUMS],
 }
 
 impl Model for Names {
@@ -39,19 +44,18 @@ impl Names {
         Names {
             names: Vec::new(alloc),
             positions: [0; SUMS],
+            fronts: [0; SUMS],
         }
     }
 
-    /// The name at a position.
-    #[inline]
-    pub fn get(&self, position: u32) -> Option<Name>
-        ensures { result ≡ slice_get self.now position }
+    /// The names in order.
+    pub fn as_slice(&self) -> &[Name]
+        ensures { result.now ≡ self.now }
     {
-        self.names.get(position as usize).copied()
+        self.names.as_slice()
     }
 
     /// The position of these bytes, where they are found to be a name.
-    #[inline]
     pub fn place_of(&self, bytes: &[u8]) -> Option<u32>
         ensures there { IfSome result (λ position. slice_get self.now position ≡ Some bytes.now) }
         ensures name { IfSome result (λ position. is_name bytes.now ≡ true) }
@@ -59,6 +63,31 @@ impl Names {
         let position = self.positions[usize::from(sum_of(bytes))];
         let name = self.names.get(position as usize)?.as_bytes();
         if name == bytes { Some(position) } else { None }
+    }
+
+    /// The position of the name with which a text begins, where it is found by the text's front, and what comes after
+    /// the LF behind it.
+    #[inline(always)]
+    pub fn before_lf<'a>(&self, text: &'a [u8]) -> Option<(u32, &'a [u8])>
+        ensures { IfSome result (λ found. BeginsWithName self.now text.now found.0 found.1.now) }
+    {
+        let position = self.fronts[usize::from(front_of(text))];
+        let name = self.names.get(position as usize)?.as_bytes();
+        let end = name.len();
+        if end < text.len() && text[end] == b'\n' && &text[..end] == name {
+            Some((position, &text[end + 1..]))
+        } else {
+            None
+        }
+    }
+
+    /// Finds these bytes, with which a text begins, by its front from now on, where they are found to be a name.
+    pub fn note(&mut self, text: &[u8], bytes: &[u8])
+        ensures { self.new ≡ self.old }
+    {
+        if let Some(position) = self.place_of(bytes) {
+            self.fronts[usize::from(front_of(text))] = position;
+        }
     }
 
     /// What is kept of a command. A name that isn't found is put after the others.
@@ -116,4 +145,23 @@ fn sum_of(bytes: &[u8]) -> u8 {
         sum = sum.rotate_left(3) ^ *byte;
     }
     sum
+}
+
+/// A sum of the first ten bytes of a text: of a short name, and of what comes after it.
+#[inline(always)]
+fn front_of(text: &[u8]) -> u8 {
+    match text {
+        [a, b, c, d, e, f, g, h, i, j, ..] => {
+            let first = u64::from_le_bytes([*a, *b, *c, *d, *e, *f, *g, *h]);
+            let last = u64::from(u16::from_le_bytes([*i, *j]));
+            mixed(first ^ last.wrapping_mul(MIXER))
+        }
+        _ => 0,
+    }
+}
+
+/// A byte on which each bit of a number has an influence.
+#[inline(always)]
+fn mixed(number: u64) -> u8 {
+    number.wrapping_mul(MIXER).to_le_bytes()[7]
 }

@@ -3,15 +3,16 @@
 //! Each is kept where it is read, since a command that is handed on is copied on the way.
 
 ghost use Rattle.std.specs.Prelude.{◌≡◌, ◌∷◌, ◌++◌, MatchOption, codes};
+ghost use Rattle.script_text.specs.Kept.{PutsCall};
 ghost use Rattle.script_text.specs.Plain.{KeepsCommandOf};
 
 use crate::command_list::CommandList;
+use crate::kept_command::KeptCommand;
 use line_text::{bytes_before, names_are_words, number_before};
-use serial_order::Command;
 
 /// Keeps the command of a text's first line, where that is a plain one and there is room for it, and gives
 /// what comes after it.
-#[inline]
+#[inline(always)]
 pub fn keep_plain<'a>(kept: &mut CommandList, text: &'a [u8]) -> Option<&'a [u8]>
     ensures { MatchOption result
         (kept.new ≡ kept.old)
@@ -50,17 +51,17 @@ fn keep_rarer<'a>(kept: &mut CommandList, text: &'a [u8]) -> Option<&'a [u8]>
     }
 }
 
-#[inline]
+#[inline(always)]
 fn keep_begin<'a>(kept: &mut CommandList, behind: &'a [u8]) -> Option<&'a [u8]>
     ensures { MatchOption result
         (kept.new ≡ kept.old)
         (λ left. KeepsCommandOf (codes "begin" ++ 10 ∷ behind.now) left.now kept.old kept.new) }
 {
-    kept.put(Command::Begin)?;
+    kept.put_nameless(KeptCommand::Begin)?;
     Some(behind)
 }
 
-#[inline]
+#[inline(always)]
 fn keep_call<'a>(kept: &mut CommandList, rest: &'a [u8]) -> Option<&'a [u8]>
     ensures { MatchOption result
         (kept.new ≡ kept.old)
@@ -68,20 +69,33 @@ fn keep_call<'a>(kept: &mut CommandList, rest: &'a [u8]) -> Option<&'a [u8]>
 {
     let (t, rest) = number_before(rest, b' ')?;
     let (x, rest) = number_before(rest, b' ')?;
-    let (word, behind) = bytes_before(rest, b'\n')?;
     names_are_words();
-    kept.put_call(t, x, word)?;
+    if let Some(behind) = kept.put_known_call(t, x, rest) {
+        return Some(behind);
+    }
+    let behind = keep_new_call(kept, t, x, rest)?;
     Some(behind)
 }
 
-#[inline]
+/// The same of t's call at object x by the name before the LF, where that name isn't found at once.
+#[inline(never)]
+fn keep_new_call<'a>(kept: &mut CommandList, t: u32, x: u32, rest: &'a [u8]) -> Option<&'a [u8]>
+    ensures { MatchOption result (kept.new ≡ kept.old) (λ behind. PutsCall t x rest.now behind.now kept.old kept.new) }
+{
+    let (word, behind) = bytes_before(rest, b'\n')?;
+    kept.put_call(t, x, word)?;
+    kept.note(rest, word);
+    Some(behind)
+}
+
+#[inline(always)]
 fn keep_commit<'a>(kept: &mut CommandList, rest: &'a [u8]) -> Option<&'a [u8]>
     ensures { MatchOption result
         (kept.new ≡ kept.old)
         (λ behind. KeepsCommandOf (codes "commit " ++ rest.now) behind.now kept.old kept.new) }
 {
     let (t, behind) = number_before(rest, b'\n')?;
-    kept.put(Command::Commit { t })?;
+    kept.put_nameless(KeptCommand::Commit { t })?;
     Some(behind)
 }
 
@@ -92,7 +106,7 @@ fn keep_abort<'a>(kept: &mut CommandList, rest: &'a [u8]) -> Option<&'a [u8]>
         (λ behind. KeepsCommandOf (codes "abort " ++ rest.now) behind.now kept.old kept.new) }
 {
     let (t, behind) = number_before(rest, b'\n')?;
-    kept.put(Command::Abort { t })?;
+    kept.put_nameless(KeptCommand::Abort { t })?;
     Some(behind)
 }
 
@@ -104,6 +118,6 @@ fn keep_rollback<'a>(kept: &mut CommandList, rest: &'a [u8]) -> Option<&'a [u8]>
 {
     let (t, rest) = number_before(rest, b' ')?;
     let (n, behind) = number_before(rest, b'\n')?;
-    kept.put(Command::Rollback { t, n })?;
+    kept.put_nameless(KeptCommand::Rollback { t, n })?;
     Some(behind)
 }

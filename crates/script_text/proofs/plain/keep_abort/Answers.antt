@@ -9,6 +9,6 @@ returns c = record {
     entry = Abort c.in_ok-t.t;
     says = λ size. abort_plainly size c.in_ok-t.t c.args.rest.now c.in_ok-t.behind.now c.in_ok-t.ensures;
     in_range = refl;
-    kept = c.in_ok-put.ensures;
+    kept = c.in_ok-put_nameless.ensures;
   };
 }

@@ -9,6 +9,6 @@ returns c = record {
     entry = Begin;
     says = λ size. begin_plainly size c.args.behind.now;
     in_range = refl;
-    kept = c.in_ok-put.ensures;
+    kept = c.in_ok-put_nameless.ensures;
   };
 }

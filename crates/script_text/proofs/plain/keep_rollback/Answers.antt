@@ -9,6 +9,6 @@ returns c = record {
     entry = Rollback c.in_ok-t.t c.in_ok-n.n;
     says = λ size. rollback_plainly size c.in_ok-t.t c.in_ok-n.n c.args.rest.now c.in_ok-t.rest.now c.in_ok-n.behind.now c.in_ok-t.ensures c.in_ok-n.ensures;
     in_range = refl;
-    kept = c.in_ok-put.ensures;
+    kept = c.in_ok-put_nameless.ensures;
   };
 }

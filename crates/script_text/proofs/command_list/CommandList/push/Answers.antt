@@ -1,5 +1,5 @@
 use Rattle.std.proofs.Common.{◌∙◌, [], ◌∷◌, ◌++◌, ap}
-use Rattle.script_text.proofs.KeptCommands.{as_before, is_behind, named_behind}
+use Rattle.script_text.proofs.CommandsKept.{as_before, is_behind, named_behind}
 use Rattle.script_text.proofs.command_list.CommandList.push.Goals as goal
 
 pub returns-in_default : goal.returns-in_default

@@ -1,5 +1,5 @@
 use Rattle.std.proofs.Common.{◌∙◌, [], ◌∷◌, ◌++◌, ap}
-use Rattle.script_text.proofs.KeptCommands.{is_behind, named_behind}
+use Rattle.script_text.proofs.CommandsKept.{is_behind, named_behind}
 use Rattle.script_text.proofs.command_list.CommandList.put.Goals as goal
 
 pub invariant_of-self-2 : goal.invariant_of-self-2

@@ -1,6 +1,6 @@
 use Rattle.std.proofs.Common.{◌∙◌, [], ◌∷◌, ◌++◌, ap}
 use Rattle.serial_order.specs.declared.command.Command.TheVariants.{Call}
-use Rattle.script_text.proofs.KeptCommands.{keeps_call, is_behind}
+use Rattle.script_text.proofs.CommandsKept.{keeps_call, is_behind}
 use Rattle.script_text.proofs.command_list.CommandList.put_call.Goals as goal
 
 pub returns-in-Some : goal.returns-in-Some

@@ -1,6 +1,6 @@
 use Rattle.std.proofs.Common.{◌≡◌, ap, ◌∙◌, Some}
 use Rattle.std.specs.Prelude.{slice_get}
-use Rattle.script_text.proofs.KeptCommands.{keeps_call}
+use Rattle.script_text.proofs.CommandsKept.{keeps_call}
 use Rattle.script_text.proofs.names.Names.kept_of.Goals as goal
 
 pub returns-in-Some : goal.returns-in-Some

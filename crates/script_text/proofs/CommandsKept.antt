@@ -67,3 +67,12 @@ keeps_call names t x position name there = record {
   has_name = slice_get_within names position name there;
   says = ap (Call t x) (get_or_from_slice_get names position name [] there);
 }
+
+-- a command that names no call
+pub keeps_nameless : (names : List (List ℕ)) (k : KeptCommand) → HasName 0 k → KeepsCommand names names (command_said [] k) k
+keeps_nameless names k named = record {
+  more = [];
+  names = sym (append-nil names);
+  has_name = named_beside [] names k named;
+  says = said_beside [] names k named;
+}
