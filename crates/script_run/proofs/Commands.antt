@@ -1,13 +1,16 @@
 -- Commands that are asked one after another.
 use Rattle.store_limits.specs.declared.limits.Limits.{Limits}
-use Rattle.std.proofs.Common.{◌≡◌, ℕ, zero, suc, ◌+◌, ◌<◌, ◌≤◌, Bool, false, List, [], ◌∷◌, ◌++◌, length, take, drop, get_or, Option, None, Result, Ok, Err, refl, sym, ap, ◌∙◌, subst, arith}
-use Rattle.std.specs.Prelude.{slice_get}
+use Rattle.std.proofs.Common.{◌≡◌, ℕ, zero, suc, ◌+◌, ◌<◌, ◌≤◌, Bool, false, List, [], ◌∷◌, ◌++◌, length, map, take, drop, get_or, Option, None, Some, Result, Ok, Err, refl, sym, ap, ◌∙◌, subst, arith}
 use Rattle.std.proofs.lemmas.Bool.{false≢true}
-use Rattle.std.proofs.lemmas.List.{take_more, take_all, take-append-drop}
+use Rattle.std.specs.Prelude.{slice_get}
+use Rattle.std.proofs.lemmas.Option.{slice_get_within, get_or_from_slice_get}
+use Rattle.std.proofs.lemmas.List.{length-map, take_more, take_all, take-append-drop}
 use Rattle.object_trait.specs.Object.{Object}
 use Rattle.object_trait.specs.declared.event.Event.{Event}
 use Rattle.outputs.specs.declared.out.OutFault.{OutFault}
 use Rattle.serial_order.specs.declared.command.Command.{Command}
+use Rattle.script_text.specs.Kept.{command_said}
+use Rattle.script_text.specs.declared.kept_command.KeptCommand.{KeptCommand}
 use Rattle.store_laws.specs.Stored.{Stored, objects}
 use Rattle.script_run.specs.Turns.{history_after, command_turn, command_turns}
 use Rattle.script_run.specs.Runs.{MayRefuseMemory, Writes, RunsCommands}
@@ -105,8 +108,33 @@ commands-stop_at s mid new cs i d {a = a} {c = c} {g = g} {e = e} inside is so_f
     subst (λ l. RunsCommands s l a c g new (Err e)) (take-append-drop (i + 1) cs)
     (commands-stop s new (take (i + 1) cs) (drop (i + 1) cs) (commands-more s mid new cs i d inside is so_far stopped))
 
--- there is a command at each place
-pub no_gap : (cs : List Command) (i : ℕ) → i < length cs → slice_get cs i ≡ None → ⊥
-no_gap (c ∷ cs) zero inside gap = absurd cc
-no_gap (c ∷ cs) (suc i) inside gap = no_gap cs i (omega (arith, inside)) gap
-no_gap [] i inside gap = omega (arith, inside)
+-- ---- commands as they are kept
+
+at_map : {A B : Type 0} (f : A → B) (xs : List A) (i : ℕ) (d : B) (x : A) → i < length xs → f (get_or xs i x) ≡ get_or (map f xs) i d
+at_map f [] i d x inside = absurd (omega (arith, inside))
+at_map f (y ∷ ys) zero d x inside = refl
+at_map f (y ∷ ys) (suc i) d x inside = at_map f ys i d x (omega (arith, inside))
+
+module _ (names : List (List ℕ)) (kept : List KeptCommand) (cs : List Command) (said : map (command_said names) kept ≡ cs) (i : ℕ) (k : KeptCommand) (there : slice_get kept i ≡ Some k) where
+  inside : i < length kept
+  inside = slice_get_within kept i k there
+
+  as_long : length cs ≡ length kept
+  as_long = ap (λ (zs : List Command). length zs) (sym said) ∙ length-map kept (command_said names)
+
+  is_there : command_said names k ≡ get_or cs i (command_said names k)
+  is_there =
+      ap (command_said names) (sym (get_or_from_slice_get kept i k k there)) ∙ at_map (command_said names) kept i (command_said names k) k inside
+      ∙ ap (λ (zs : List Command). get_or zs i (command_said names k)) said
+
+  -- those before a place, and the one there
+  pub kept-more : (s mid new : Stored) {a b c : Option (List ℕ)} {f g : Option OutFault} {result : Result (Unit {0}) OutFault}
+      → RunsCommands s (take i cs) a b f mid (Ok tt) → RunsCommands mid (command_said names k ∷ []) b c g new result
+      → RunsCommands s (take (i + 1) cs) a c g new result
+  kept-more s mid new so_far one = commands-more s mid new cs i (command_said names k) (omega (arith, as_long, inside)) is_there so_far one
+
+  -- the output stopped at that of the place
+  pub kept-stop_at : (s mid new : Stored) {a b c : Option (List ℕ)} {f g : Option OutFault} {e : OutFault}
+      → RunsCommands s (take i cs) a b f mid (Ok tt) → RunsCommands mid (command_said names k ∷ []) b c g new (Err e)
+      → RunsCommands s cs a c g new (Err e)
+  kept-stop_at s mid new so_far stopped = commands-stop_at s mid new cs i (command_said names k) (omega (arith, as_long, inside)) is_there so_far stopped

@@ -1,6 +1,6 @@
 //! Which calls the names of a script are at its objects, so that each is looked up once.
 
-ghost use Rattle.std.specs.Prelude.{◌≡◌, [], List, ℕ, IfSome, slice_get, slice_index_or, Some};
+ghost use Rattle.std.specs.Prelude.{◌≡◌, ◌<◌, [], List, ℕ, IfSome, slice_get, slice_index_or, Some};
 ghost use Rattle.object_trait.specs.Object.{Object};
 ghost use Rattle.serial_order.specs.Replay.{call_at};
 ghost use Rattle.script_run.specs.Found.{AreFound};
@@ -16,6 +16,14 @@ pub(crate) struct FoundCall {
     pub x: u32,
     pub name: u32,
     pub call: Operation,
+}
+
+/// Nothing is remembered.
+#[inline(always)]
+pub(crate) fn nothing_found() -> [Option<FoundCall>; PLACES]
+    ensures { (objects : List Object) (names : List (List ℕ)) → AreFound objects names result }
+{
+    [None; PLACES]
 }
 
 /// The call by this name at object x, where it is remembered.
@@ -41,12 +49,7 @@ pub(crate) fn remembered(
 }
 
 /// Remembers the call by this name at object x, in place of another.
-pub(crate) fn remember(
-    found: &mut [Option<FoundCall>; PLACES],
-    x: u32,
-    name: u32,
-    call: Operation,
-)
+pub(crate) fn remember(found: &mut [Option<FoundCall>; PLACES], x: u32, name: u32, call: Operation)
     ensures { (objects : List Object) (names : List (List ℕ)) → AreFound objects names found.old
         → call_at (slice_get objects x) (slice_index_or names name []) ≡ Some call
         → AreFound objects names found.new }

@@ -13,7 +13,7 @@ ghost use Rattle.script_run.specs.Found.{AreFound};
 ghost use Rattle.script_run.specs.Lines.{event_turn_words};
 ghost use Rattle.script_run.specs.Runs.{Asks, RunsCommands};
 
-use crate::found_calls::{FoundCall, PLACES, remember, remembered};
+use crate::found_calls::{FoundCall, PLACES, nothing_found, remember, remembered};
 use crate::lines::write_refused;
 use history_text::write_event;
 use object_trait::Recovery;
@@ -41,11 +41,21 @@ pub(crate) fn run_commands<R: Recovery, W: Out>(
 {
     let kept = commands.kept();
     let names = kept.names;
-    let mut found = [None; PLACES];
-    for command in kept.commands {
-        run_command(store, command, names, &mut found, out)?;
+    let mut found = nothing_found();
+    for place in 0..kept.commands.len() {
+        let command = command_at(kept.commands, place);
+        run_command(store, &command, names, &mut found, out)?;
     }
     Ok(())
+}
+
+/// The command at a place.
+#[inline(always)]
+fn command_at(commands: &[KeptCommand], place: usize) -> KeptCommand
+    requires { place < length commands.now }
+    ensures { slice_get commands.now place ≡ Some result }
+{
+    commands[place]
 }
 
 /// Asks one command, and writes its line.
