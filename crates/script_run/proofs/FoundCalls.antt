@@ -6,7 +6,7 @@ use Rattle.serial_order.specs.Replay.{call_at}
 use Rattle.serial_order.specs.declared.command.Command.{Command}
 use Rattle.serial_order.specs.declared.refusal.Refusal.{Refusal}
 use Rattle.store_laws.specs.Stored.{Stored, objects}
-use Rattle.script_run.specs.Found.{AreFound}
+use Rattle.script_run.specs.Found.{AreRemembered}
 use Rattle.script_run.specs.Runs.{Asks}
 use Rattle.script_run.specs.declared.found_calls.FoundCall.{FoundCall}
 
@@ -16,8 +16,8 @@ nothing_there (suc n) zero it e = absurd cc
 nothing_there (suc n) (suc i) it e = nothing_there n i it e
 
 -- at first nothing is remembered
-pub AreFound-nothing : (objects : List Object) (names : List (List ℕ)) (n : ℕ) → AreFound objects names (replicate n None)
-AreFound-nothing objects names n = record { each = λ i it at. absurd (nothing_there n i it at) }
+pub AreRemembered-nothing : (objects : List Object) (names : List (List ℕ)) (n : ℕ) → AreRemembered objects names (replicate n None)
+AreRemembered-nothing objects names n = record { each = λ i it at. absurd (nothing_there n i it at) }
 
 set_there : (found : List (Option FoundCall)) (p i : ℕ) (new it : FoundCall) → slice_get (set found p (Some new)) i ≡ Some (Some it) → (new ≡ it) ⊎ (slice_get found i ≡ Some (Some it))
 set_there [] p i new it e = inr e
@@ -27,9 +27,9 @@ set_there (f ∷ fs) (suc p) zero new it e = inr e
 set_there (f ∷ fs) (suc p) (suc i) new it e = set_there fs p i new it e
 
 -- one more is remembered in place of another
-pub AreFound-set : (objects : List Object) (names : List (List ℕ)) (found : List (Option FoundCall)) (p : ℕ) (new : FoundCall) → AreFound objects names found
-    → call_at (slice_get objects new.x) (slice_index_or names new.name []) ≡ Some new.call → AreFound objects names (set found p (Some new))
-AreFound-set objects names found p new were is = record {
+pub AreRemembered-set : (objects : List Object) (names : List (List ℕ)) (found : List (Option FoundCall)) (p : ℕ) (new : FoundCall) → AreRemembered objects names found
+    → call_at (slice_get objects new.x) (slice_index_or names new.name []) ≡ Some new.call → AreRemembered objects names (set found p (Some new))
+AreRemembered-set objects names found p new were is = record {
   each = λ i it at.
       elim (set_there found p i new it at) [
         | inl same ↦ subst (λ (f : FoundCall). call_at (slice_get objects f.x) (slice_index_or names f.name []) ≡ Some f.call) same is
@@ -43,5 +43,5 @@ asked-objects old new command reason (inl (e, now)) = sym (ap objects now)
 asked-objects old new command reason (inr (takes, fine, e, now)) = sym (ap objects now)
 
 -- so what is remembered stays so
-pub AreFound-after : (old new : Stored) (command : Command) (reason : Option Refusal) (names : List (List ℕ)) (found : List (Option FoundCall)) → Asks old command reason new → AreFound (objects old) names found → AreFound (objects new) names found
-AreFound-after old new command reason names found asked were = subst (λ os. AreFound os names found) (asked-objects old new command reason asked) were
+pub AreRemembered-after : (old new : Stored) (command : Command) (reason : Option Refusal) (names : List (List ℕ)) (found : List (Option FoundCall)) → Asks old command reason new → AreRemembered (objects old) names found → AreRemembered (objects new) names found
+AreRemembered-after old new command reason names found asked were = subst (λ os. AreRemembered os names found) (asked-objects old new command reason asked) were

@@ -3,7 +3,7 @@
 ghost use Rattle.std.specs.Prelude.{◌≡◌, ◌<◌, [], List, ℕ, IfSome, slice_get, slice_index_or, Some};
 ghost use Rattle.object_trait.specs.Object.{Object};
 ghost use Rattle.serial_order.specs.Replay.{call_at};
-ghost use Rattle.script_run.specs.Found.{AreFound};
+ghost use Rattle.script_run.specs.Found.{AreRemembered};
 
 use type_table::Operation;
 
@@ -21,7 +21,7 @@ pub(crate) struct FoundCall {
 /// Nothing is remembered.
 #[inline(always)]
 pub(crate) fn nothing_found() -> [Option<FoundCall>; PLACES]
-    ensures { (objects : List Object) (names : List (List ℕ)) → AreFound objects names result }
+    ensures { (objects : List Object) (names : List (List ℕ)) → AreRemembered objects names result }
 {
     [None; PLACES]
 }
@@ -33,7 +33,7 @@ pub(crate) fn remembered(
     x: u32,
     name: u32,
 ) -> Option<Operation>
-    ensures { (objects : List Object) (names : List (List ℕ)) → AreFound objects names found.now
+    ensures { (objects : List Object) (names : List (List ℕ)) → AreRemembered objects names found.now
         → IfSome result (λ call. call_at (slice_get objects x) (slice_index_or names name []) ≡ Some call) }
 {
     match found[place_of(x, name)] {
@@ -50,9 +50,9 @@ pub(crate) fn remembered(
 
 /// Remembers the call by this name at object x, in place of another.
 pub(crate) fn remember(found: &mut [Option<FoundCall>; PLACES], x: u32, name: u32, call: Operation)
-    ensures { (objects : List Object) (names : List (List ℕ)) → AreFound objects names found.old
+    ensures { (objects : List Object) (names : List (List ℕ)) → AreRemembered objects names found.old
         → call_at (slice_get objects x) (slice_index_or names name []) ≡ Some call
-        → AreFound objects names found.new }
+        → AreRemembered objects names found.new }
 {
     found[place_of(x, name)] = Some(FoundCall { x, name, call });
 }

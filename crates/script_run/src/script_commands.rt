@@ -9,7 +9,7 @@ ghost use Rattle.serial_order.specs.Machine.{IsRun};
 ghost use Rattle.serial_order.specs.Replay.{call_at};
 ghost use Rattle.serial_order.specs.declared.command.Command.TheVariants as command;
 ghost use Rattle.store_laws.specs.Stored.{objects};
-ghost use Rattle.script_run.specs.Found.{AreFound};
+ghost use Rattle.script_run.specs.Found.{AreRemembered};
 ghost use Rattle.script_run.specs.Lines.{event_turn_words};
 ghost use Rattle.script_run.specs.Runs.{Asks, RunsCommands};
 
@@ -69,9 +69,9 @@ fn run_command<R: Recovery, W: Out>(
 ) -> Result<(), OutFault>
     requires out_takes { W.fault out.old ≡ None }
     requires named { HasName (length names.now) command.now }
-    requires found { AreFound (objects store.old) names.now found.old }
+    requires found { AreRemembered (objects store.old) names.now found.old }
     ensures runs { RunsCommands store.old (command_said names.now command.now ∷ []) (W.taken out.old) (W.taken out.new) (W.fault out.new) store.new result }
-    ensures found { AreFound (objects store.new) names.now found.new }
+    ensures found { AreRemembered (objects store.new) names.now found.new }
 {
     command_appends();
     known(store);
@@ -90,9 +90,9 @@ fn ask<R: Recovery>(
     found: &mut [Option<FoundCall>; PLACES],
 ) -> Option<Refusal>
     requires named { HasName (length names.now) command.now }
-    requires found { AreFound (objects store.old) names.now found.old }
+    requires found { AreRemembered (objects store.old) names.now found.old }
     ensures asks { Asks store.old (command_said names.now command.now) result store.new }
-    ensures found { AreFound (objects store.old) names.now found.new }
+    ensures found { AreRemembered (objects store.old) names.now found.new }
 {
     match *command {
         KeptCommand::Begin => store.begin(0).err(),
@@ -114,9 +114,9 @@ fn ask_call<R: Recovery>(
     found: &mut [Option<FoundCall>; PLACES],
 ) -> Option<Refusal>
     requires named { name < length names.now }
-    requires found { AreFound (objects store.old) names.now found.old }
+    requires found { AreRemembered (objects store.old) names.now found.old }
     ensures asks { Asks store.old (command.Call t x (slice_index_or names.now name [])) result store.new }
-    ensures found { AreFound (objects store.old) names.now found.new }
+    ensures found { AreRemembered (objects store.old) names.now found.new }
 {
     match remembered(found, x, name) {
         Some(call) => store.call_op(0, t, x, call).err(),
@@ -135,9 +135,9 @@ fn ask_by_name<R: Recovery>(
     found: &mut [Option<FoundCall>; PLACES],
 ) -> Option<Refusal>
     requires named { name < length names.now }
-    requires found { AreFound (objects store.old) names.now found.old }
+    requires found { AreRemembered (objects store.old) names.now found.old }
     ensures asks { Asks store.old (command.Call t x (slice_index_or names.now name [])) result store.new }
-    ensures found { AreFound (objects store.old) names.now found.new }
+    ensures found { AreRemembered (objects store.old) names.now found.new }
 {
     let bytes = names[name as usize].as_bytes();
     if let Some(call) = call_by(store, x, bytes) {
