@@ -76,14 +76,14 @@ module _ (old none first states types new : View) (starts : List ℕ) (n prepare
   states-told : map state_told (new.trees 4) ≡ front ++ back
   states-told = ap (map state_told) state-rows ∙ rows-told state_row state_told state_read_back 0 (front ++ back)
 
-  outcomes : new.trees 6 ≡ old.trees 6
-  outcomes = stays 6 (λ is. omega (arith, is)) (λ is. omega (arith, is)) (λ is. omega (arith, is)) (λ is. omega (arith, is)) (λ is. omega (arith, is)) (lit< tt)
+  pub outcome-rows-same : new.trees 6 ≡ old.trees 6
+  outcome-rows-same = stays 6 (λ is. omega (arith, is)) (λ is. omega (arith, is)) (λ is. omega (arith, is)) (λ is. omega (arith, is)) (λ is. omega (arith, is)) (lit< tt)
 
   pub extends-numbers : (m : Numbers) (index : OutcomeIndex) → CountsOutcomes old m index → CountsOutcomes new m index
-  extends-numbers m index has = same-numbers old new m index outcomes gone.sound has
+  extends-numbers m index has = same-numbers old new m index outcome-rows-same gone.sound has
 
   pub extends : contents_of new.trees ≡ extended_at (contents_of old.trees) texts lines (front ++ back)
-  extends = rw (events, headers, types-told, objects-told, states-told, prepared, outcomes) refl
+  extends = rw (events, headers, types-told, objects-told, states-told, prepared, outcome-rows-same) refl
 
   committed-same : new.committed ≡ old.committed
   committed-same = named.committed ∙ typed.committed ∙ all.committed ∙ again.committed ∙ gone.committed
@@ -99,7 +99,7 @@ module _ (old none first states types new : View) (starts : List ℕ) (n prepare
       states = state-rows ∙ ap (value_rows state_row 0) (sym states-told);
       prepared = rw prepared refl;
       unprepared = λ _. prepared;
-      outcomes = rw (headers, outcomes) before.outcomes;
+      outcomes = rw (headers, outcome-rows-same) before.outcomes;
     };
     count_is = λ _. rw events refl;
     starts_are = λ _. rw events refl;

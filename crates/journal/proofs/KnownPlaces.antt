@@ -63,6 +63,17 @@ last-new rows first n o q after there low =
     ∙ ap (λ b. if b then Some n else last_number rows q first (n - first)) (new-place rows n o q there low)
     ∙ ap (λ b. if b then Some n else last_number rows q first (n - first)) (same-tests (key_place o.kept.key) q)
 
+-- ---- the places are as they were in memory
+
+pub same-index : (rows : List Row) (m : Numbers) (index later : OutcomeIndex) → later.due ≡ index.due → later.fresh ≡ index.fresh → later.begun ≡ index.begun → KnowsPlaces rows m index → KnowsPlaces rows m later
+same-index rows m index later due fresh begun knows = record {
+  after = rw begun knows.after;
+  before = rw begun knows.before;
+  fresh = rw (fresh, begun) knows.fresh;
+  due = rw (due, begun) knows.due;
+  put = rw (due, begun) knows.put;
+}
+
 -- ---- the rows change
 
 -- those that await are as they were, and so are their pointers
@@ -90,7 +101,7 @@ pub added-places : (old new : List Row) (m n : Numbers) (index : OutcomeIndex) (
     → n ≡ record { next = m.next + 1; first = m.first; least = m.least; awaiting = m.awaiting + 1 } → m.awaiting ≤ m.next
     → ((k : ℕ) → (k ≡ m.next → ⊥) → outcome_numbered new k ≡ outcome_numbered old k) → outcome_numbered new m.next ≡ Some o → ((p : ℕ) → placed new p ≡ placed old p) → key_place o.kept.key < numbered_from
     → ((q : ℕ) → get nat_cmp fresh q ≡ cond (is_eq (nat_cmp (key_place o.kept.key) q)) (Some m.next) (get nat_cmp index.fresh q))
-    → KnowsPlaces old m index → KnowsPlaces new n (record { due = index.due; fresh = fresh; begun = index.begun })
+    → KnowsPlaces old m index → KnowsPlaces new n (record { due = index.due; fresh = fresh; begun = index.begun; uncounted = true })
 added-places old new m n index o fresh is awaits same there at-place low has knows =
     let next : n.next ≡ m.next + 1 = ap (λ (k : Numbers). k.next) is in
     let more : n.awaiting ≡ m.awaiting + 1 = ap (λ (k : Numbers). k.awaiting) is in
@@ -114,7 +125,7 @@ added-places old new m n index o fresh is awaits same there at-place low has kno
 pub put-places : (old new : List Row) (m : Numbers) (index : OutcomeIndex) (due : BTreeMap ℕ ℕ) (p n : ℕ)
     → ((k : ℕ) → outcome_numbered new k ≡ outcome_numbered old k) → placed new p ≡ Some (Pointer n) → ((q : ℕ) → (q ≡ p → ⊥) → placed new q ≡ placed old q)
     → get nat_cmp index.due p ≡ Some n → ((q : ℕ) → get nat_cmp due q ≡ cond (is_eq (nat_cmp p q)) None (get nat_cmp index.due q))
-    → KnowsPlaces old m index → KnowsPlaces new m (record { due = due; fresh = index.fresh; begun = index.begun })
+    → KnowsPlaces old m index → KnowsPlaces new m (record { due = due; fresh = index.fresh; begun = index.begun; uncounted = index.uncounted })
 put-places old new m index due p n same there others was has knows = record {
   after = knows.after;
   before = knows.before;

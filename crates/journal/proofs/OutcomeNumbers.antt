@@ -18,12 +18,12 @@ use Rattle.journal.specs.declared.place_row.PlaceRow.TheVariants.{Pointer}
 use Rattle.journal.specs.Numbers.{AreCounted, numbers_in, numbers_row}
 use Rattle.journal.specs.OutcomeRow.{outcome_row}
 use Rattle.journal.specs.PlaceRow.{pointer_row}
-use Rattle.journal.specs.OutcomeIndex.{KnowsPlaces, awaiting_from, kept_from, kept_row, last_number, outcome_numbered, numbered_from, placed}
-use Rattle.journal.specs.Outcomes.{Outcomes, let_go, number_kept, outcomes_in, outcomes_of, outcomes_with, staying_from}
+use Rattle.journal.specs.OutcomeIndex.{KnowsOutcomes, KnowsPlaces, awaiting_from, kept_from, kept_row, last_number, outcome_numbered, numbered_from, placed}
+use Rattle.journal.specs.Outcomes.{Outcomes, let_go, number_kept, outcomes_by, outcomes_in, outcomes_of, outcomes_with, staying_from}
 use Rattle.journal.specs.Swept.{place_number}
 use Rattle.journal.proofs.PlacedRows.{ChangesAt, freed-changes, freed-none, numbered-as, numbers-there, outcome-there, place-low, placed-as, placed-none, pointer-there, put-changes, renumbered-numbered, renumbered-placed}
 use Rattle.journal.proofs.KeptRows.{kept-known, kept-last, number-freed, place-freed, same-count, same-kept}
-use Rattle.journal.proofs.KnownPlaces.{added-places, cmp-apart, cmp-same, last-new, none-awaits, none-in, put-places, round-kept, round-places, same-places}
+use Rattle.journal.proofs.KnownPlaces.{added-places, cmp-apart, cmp-same, last-new, none-awaits, none-in, put-places, round-kept, round-places, same-index, same-places}
 
 -- with an outcome at a place
 abbrev kept_with : (ℕ → Option KeptOutcome) → ℕ → KeptOutcome → ℕ → Option KeptOutcome
@@ -34,16 +34,29 @@ all_of m at numbers = record { at = at; numbers = numbers; next = m.next; least 
 
 -- ---- what a file says of its outcomes, by its numbers
 
-pub outcomes-known : (rows : List Row) (m : Numbers) → m ≡ numbers_in rows → outcomes_in rows ≡ outcomes_of m (kept_from rows (awaiting_from m) m.awaiting)
+pub outcomes-known : (rows : List Row) (m : Numbers) → m ≡ numbers_in rows → outcomes_in rows ≡ outcomes_by m rows
 unfolding outcomes_in
 outcomes-known rows m is =
     ap (λ (k : Numbers). outcomes_of k (kept_row rows)) (sym is)
     ∙ ap (outcomes_of m) (fun_ext (λ p. kept-known rows m p is))
 
--- at one place
-pub outcome-at : (rows : List Row) (m : Numbers) (p : ℕ) → m ≡ numbers_in rows → (outcomes_in rows).at p ≡ option_map (λ (o : KeptOutcome). o.kept) (staying_from m.first (kept_row rows p))
-unfolding outcomes_in
-outcome-at rows m p is = ap (λ (k : Numbers). option_map (λ (o : KeptOutcome). o.kept) (staying_from k.first (kept_row rows p))) (sym is)
+-- what is known of outcomes stays so where the row of their numbers does
+pub knows-still : (rows now : List Row) (m : Numbers) (index later : OutcomeIndex) → numbers_in now ≡ numbers_in rows → later.uncounted ≡ index.uncounted → KnowsOutcomes rows m index → KnowsPlaces now m later → KnowsOutcomes now m later
+knows-still rows now m index later same counted known places = record {
+  numbers = λ all. known.numbers (sym counted ∙ all) ∙ sym same;
+  first = known.first ∙ ap (λ (k : Numbers). k.first) (sym same);
+  counted = known.counted;
+  places = places;
+}
+
+-- and is so where the row is written
+pub knows-written : (rows : List Row) (m : Numbers) (index : OutcomeIndex) → AreCounted m → KnowsPlaces (put_row (numbers_row m) rows) m index → KnowsOutcomes (put_row (numbers_row m) rows) m index
+knows-written rows m index counted places = record {
+  numbers = λ _. sym (numbers-there rows m);
+  first = ap (λ (k : Numbers). k.first) (sym (numbers-there rows m));
+  counted = counted;
+  places = places;
+}
 
 -- where the same of it stays
 pub same-outcomes : (m : Numbers) (one two : ℕ → Option KeptOutcome) → ((p : ℕ) → staying_from m.first (one p) ≡ staying_from m.first (two p)) → outcomes_of m one ≡ outcomes_of m two
@@ -53,12 +66,14 @@ same-outcomes m one two same = ap (λ (s : ℕ → Option KeptOutcome). all_of m
 renumbered-kept : (rows : List Row) (m : Numbers) (base count p : ℕ) → kept_from (put_row (numbers_row m) rows) base count p ≡ kept_from rows base count p
 renumbered-kept rows m base count p = same-kept rows (put_row (numbers_row m) rows) base p count (λ n low. renumbered-numbered rows m n) (λ none. renumbered-placed rows m p)
 
-pub renumbered : (rows : List Row) (m : Numbers) → outcomes_in (put_row (numbers_row m) rows) ≡ outcomes_of m (kept_from rows (awaiting_from m) m.awaiting)
-renumbered rows m = outcomes-known (put_row (numbers_row m) rows) m (sym (numbers-there rows m)) ∙ ap (outcomes_of m) (fun_ext (λ p. renumbered-kept rows m (awaiting_from m) m.awaiting p))
+pub renumbered : (rows : List Row) (m : Numbers) → outcomes_by m (put_row (numbers_row m) rows) ≡ outcomes_by m rows
+renumbered rows m = ap (outcomes_of m) (fun_ext (λ p. renumbered-kept rows m (awaiting_from m) m.awaiting p))
 
-pub renumbered-places : (rows : List Row) (m n : Numbers) (index : OutcomeIndex) → awaiting_from n ≡ awaiting_from m → n.next ≡ m.next → KnowsPlaces rows m index → KnowsPlaces (put_row (numbers_row n) rows) n index
-renumbered-places rows m n index base next knows =
-    same-places rows (put_row (numbers_row n) rows) m n index base next (λ k from. renumbered-numbered rows n k) (λ p k from is. renumbered-placed rows n p ∙ is) knows
+pub renumbered-places : (rows : List Row) (m n : Numbers) (index later : OutcomeIndex) → awaiting_from n ≡ awaiting_from m → n.next ≡ m.next
+    → later.due ≡ index.due → later.fresh ≡ index.fresh → later.begun ≡ index.begun → KnowsPlaces rows m index → KnowsPlaces (put_row (numbers_row n) rows) n later
+renumbered-places rows m n index later base next due fresh begun knows =
+    same-index (put_row (numbers_row n) rows) n index later due fresh begun
+    (same-places rows (put_row (numbers_row n) rows) m n index base next (λ k from. renumbered-numbered rows n k) (λ p k from is. renumbered-placed rows n p ∙ is) knows)
 
 -- ---- one is kept
 
@@ -85,7 +100,7 @@ module _ (m : Numbers) (kept : ℕ → Option KeptOutcome) (o : KeyedOutcome) (w
       ∙ ap (λ numbers. let all : Outcomes = record { at = (outcomes_with (outcomes_of m kept) o).at; numbers = numbers; next = m.next + 1; least = m.least } in all)
       (fun_ext (λ n. number-there n (n == key_place o.key))))
 
-module _ (rows : List Row) (m next : Numbers) (o : KeyedOutcome) (known : m ≡ numbers_in rows) (counted : AreCounted m)
+module _ (rows : List Row) (m next : Numbers) (o : KeyedOutcome) (counted : AreCounted m)
     (is : next ≡ record { next = m.next + 1; first = m.first; least = m.least; awaiting = m.awaiting + 1 }) (low : key_place o.key < numbered_from) where
   abbrev it : KeptOutcome
   it = record { kept = o; number = m.next }
@@ -131,19 +146,20 @@ module _ (rows : List Row) (m next : Numbers) (o : KeyedOutcome) (known : m ≡ 
         ∙ same-kept rows more (awaiting_from m) p m.awaiting (λ n before. other n (let within = counted.awaits in λ same. omega (arith, before, same, within))) (λ none. at-places p))
   ]
 
-  pub kept-more : outcomes_in (put_row (numbers_row next) more) ≡ outcomes_with (outcomes_in rows) o
+  pub kept-more : outcomes_by next more ≡ outcomes_with (outcomes_by m rows) o
   kept-more =
-      renumbered more next
-      ∙ ap (outcomes_of next) (fun_ext (λ p. ap (λ b. kept_from more b next.awaiting p) base ∙ ap (λ k. kept_from more (awaiting_from m) k p) count ∙ there p))
+      ap (outcomes_of next) (fun_ext (λ p. ap (λ b. kept_from more b next.awaiting p) base ∙ ap (λ k. kept_from more (awaiting_from m) k p) count ∙ there p))
       ∙ keeps-one m (kept_from rows (awaiting_from m) m.awaiting) o counted.within next is
-      ∙ ap (λ (all : Outcomes). outcomes_with all o) (sym (outcomes-known rows m known))
 
   -- and the journal knows of it
   pub knows-more : (index : OutcomeIndex) (fresh : BTreeMap ℕ ℕ) → ((q : ℕ) → get nat_cmp fresh q ≡ cond (is_eq (nat_cmp (key_place o.key) q)) (Some m.next) (get nat_cmp index.fresh q))
-      → KnowsPlaces rows m index → KnowsPlaces (put_row (numbers_row next) more) next (record { due = index.due; fresh = fresh; begun = index.begun })
-  knows-more index fresh has knows =
-      renumbered-places more next next (record { due = index.due; fresh = fresh; begun = index.begun }) refl refl
-      (added-places rows more m next index it fresh is counted.awaits other (outcome-there rows m.next o) at-places low has knows)
+      → AreCounted next → KnowsOutcomes rows m index → KnowsOutcomes more next (record { due = index.due; fresh = fresh; begun = index.begun; uncounted = true })
+  knows-more index fresh has within known = record {
+    numbers = λ all. absurd (cc);
+    first = ap (λ (k : Numbers). k.first) is ∙ known.first ∙ ap (λ (k : Numbers). k.first) (sym changes.numbers);
+    counted = within;
+    places = added-places rows more m next index it fresh is counted.awaits other (outcome-there rows m.next o) at-places low has known.places;
+  }
 
 -- ---- some are let go
 
@@ -230,7 +246,7 @@ let-go-none-new m kept within = sym (
 
 -- ---- a pointer is put
 
-module _ (rows : List Row) (m : Numbers) (index : OutcomeIndex) (due : BTreeMap ℕ ℕ) (p n : ℕ) (low : p < numbered_from) (known : m ≡ numbers_in rows) (counted : AreCounted m)
+module _ (rows : List Row) (m : Numbers) (index : OutcomeIndex) (due : BTreeMap ℕ ℕ) (p n : ℕ) (low : p < numbered_from) (counted : AreCounted m)
     (was : get nat_cmp index.due p ≡ Some n) (has : (q : ℕ) → get nat_cmp due q ≡ cond (is_eq (nat_cmp p q)) None (get nat_cmp index.due q)) (knows : KnowsPlaces rows m index) where
   abbrev pointed : List Row
   pointed = put_row (pointer_row p n) rows
@@ -241,23 +257,23 @@ module _ (rows : List Row) (m : Numbers) (index : OutcomeIndex) (due : BTreeMap 
   same-number : (k : ℕ) → outcome_numbered pointed k ≡ outcome_numbered rows k
   same-number k = numbered-as rows pointed k (points.others (numbered_from + k) (λ same. omega (arith, low, same)))
 
-  pub pointed-numbers : m ≡ numbers_in pointed
-  pointed-numbers = known ∙ sym points.numbers
+  pub pointed-numbers : numbers_in pointed ≡ numbers_in rows
+  pointed-numbers = points.numbers
 
   -- one that has the place awaits, so its row isn't looked at
   pointed-kept : (q : ℕ) → kept_from pointed (awaiting_from m) m.awaiting q ≡ kept_from rows (awaiting_from m) m.awaiting q
   pointed-kept q = same-kept rows pointed (awaiting_from m) q m.awaiting (λ k before. same-number k) (λ none. placed-as rows pointed q (λ within. points.others q (λ same.
       none-awaits rows m index counted.awaits knows p n was (subst (λ r. last_number rows r (awaiting_from m) m.awaiting ≡ None) same none))))
 
-  pub pointed-same : outcomes_in pointed ≡ outcomes_in rows
-  pointed-same = outcomes-known pointed m pointed-numbers ∙ ap (outcomes_of m) (fun_ext pointed-kept) ∙ sym (outcomes-known rows m known)
+  pub pointed-same : outcomes_by m pointed ≡ outcomes_by m rows
+  pointed-same = ap (outcomes_of m) (fun_ext pointed-kept)
 
-  pub pointed-places : KnowsPlaces pointed m (record { due = due; fresh = index.fresh; begun = index.begun })
+  pub pointed-places : KnowsPlaces pointed m (record { due = due; fresh = index.fresh; begun = index.begun; uncounted = index.uncounted })
   pointed-places = put-places rows pointed m index due p n same-number (pointer-there rows p n low) (λ q differs. placed-as rows pointed q (λ within. points.others q differs)) was has knows
 
 -- ---- a round begins
 
-module _ (rows : List Row) (m n : Numbers) (index later : OutcomeIndex) (known : m ≡ numbers_in rows) (counted : AreCounted m) (knows : KnowsPlaces rows m index) (none : index.due.entries ≡ [])
+module _ (rows : List Row) (m n : Numbers) (index later : OutcomeIndex) (counted : AreCounted m) (knows : KnowsPlaces rows m index) (none : index.due.entries ≡ [])
     (is : n ≡ record { next = m.next; first = m.first; least = m.least; awaiting = m.next - index.begun }) where
   ahead : n.next ≡ m.next
   ahead = ap (λ (k : Numbers). k.next) is
@@ -265,7 +281,7 @@ module _ (rows : List Row) (m n : Numbers) (index later : OutcomeIndex) (known :
   await : n.awaiting ≡ m.next - index.begun
   await = ap (λ (k : Numbers). k.awaiting) is
 
-  pub round-same : outcomes_in (put_row (numbers_row n) rows) ≡ outcomes_in rows
+  pub round-same : outcomes_by n (put_row (numbers_row n) rows) ≡ outcomes_by m rows
   round-same =
       let before = knows.before in
       let from : awaiting_from n ≡ index.begun = omega (arith, ahead, await, before) in
@@ -273,14 +289,13 @@ module _ (rows : List Row) (m n : Numbers) (index later : OutcomeIndex) (known :
       ∙ ap (outcomes_of n) (fun_ext (λ p. ap (λ b. kept_from rows b n.awaiting p) from ∙ ap (λ k. kept_from rows index.begun k p) await
       ∙ sym (round-kept rows m index counted.awaits knows p (λ q. none-in index.due q none))))
       ∙ ap (λ (k : Numbers). outcomes_of k (kept_from rows (awaiting_from m) m.awaiting)) is
-      ∙ sym (outcomes-known rows m known)
 
   pub later-places : later.due ≡ index.fresh → later.fresh.entries ≡ [] → later.begun ≡ m.next → KnowsPlaces (put_row (numbers_row n) rows) n later
-  later-places due fresh begun = renumbered-places rows n n later refl refl (round-places rows m n index later ahead await due fresh begun knows)
+  later-places due fresh begun = renumbered-places rows n n later later refl refl refl refl refl (round-places rows m n index later ahead await due fresh begun knows)
 
 -- ---- a row is freed
 
-module _ (rows : List Row) (m : Numbers) (index : OutcomeIndex) (known : m ≡ numbers_in rows) (knows : KnowsPlaces rows m index) where
+module _ (rows : List Row) (m : Numbers) (index : OutcomeIndex) (knows : KnowsPlaces rows m index) where
   -- at a place
   module _ (p : ℕ) (it : PlaceRow) (there : placed rows p ≡ Some it) (goes : place_number it < m.first) (before : place_number it < awaiting_from m) where
     abbrev unplaced : List Row
@@ -302,11 +317,11 @@ module _ (rows : List Row) (m : Numbers) (index : OutcomeIndex) (known : m ≡ n
       | inr differs ↦ ap (staying_from m.first) (same-kept rows unplaced (awaiting_from m) q m.awaiting (λ k low. numbers-stay k) (λ none. others-stay q differs))
     ]
 
-    pub place-freed-numbers : m ≡ numbers_in unplaced
-    place-freed-numbers = known ∙ sym frees.numbers
+    pub place-freed-numbers : numbers_in unplaced ≡ numbers_in rows
+    place-freed-numbers = frees.numbers
 
-    pub place-freed-same : outcomes_in unplaced ≡ outcomes_in rows
-    place-freed-same = outcomes-known unplaced m place-freed-numbers ∙ same-outcomes m _ _ kept-still ∙ sym (outcomes-known rows m known)
+    pub place-freed-same : outcomes_by m unplaced ≡ outcomes_by m rows
+    place-freed-same = same-outcomes m _ _ kept-still
 
     pub place-freed-places : KnowsPlaces unplaced m index
     place-freed-places = same-places rows unplaced m m index refl refl (λ k from. numbers-stay k) (λ q k from is. elim (cases_eq q p) [
@@ -330,14 +345,11 @@ module _ (rows : List Row) (m : Numbers) (index : OutcomeIndex) (known : m ≡ n
     places-stay : (p : ℕ) → placed unnumbered p ≡ placed rows p
     places-stay p = placed-as rows unnumbered p (λ within. loses.others p (λ same. omega (arith, within, same)))
 
-    pub number-freed-numbers : m ≡ numbers_in unnumbered
-    number-freed-numbers = known ∙ sym loses.numbers
+    pub number-freed-numbers : numbers_in unnumbered ≡ numbers_in rows
+    number-freed-numbers = loses.numbers
 
-    pub number-freed-same : outcomes_in unnumbered ≡ outcomes_in rows
-    number-freed-same =
-        outcomes-known unnumbered m number-freed-numbers
-        ∙ same-outcomes m _ _ (λ p. number-freed m.first rows unnumbered (awaiting_from m) p n goes others-numbered m.awaiting before (places-stay p))
-        ∙ sym (outcomes-known rows m known)
+    pub number-freed-same : outcomes_by m unnumbered ≡ outcomes_by m rows
+    number-freed-same = same-outcomes m _ _ (λ p. number-freed m.first rows unnumbered (awaiting_from m) p n goes others-numbered m.awaiting before (places-stay p))
 
     pub number-freed-places : KnowsPlaces unnumbered m index
     number-freed-places = same-places rows unnumbered m m index refl refl (λ k from. others-numbered k (λ same. omega (arith, before, from, same))) (λ p k from is. places-stay p ∙ is) knows

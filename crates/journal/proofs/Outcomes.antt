@@ -18,15 +18,14 @@ use Rattle.journal.specs.Numbers.{AreCounted, first_numbers, numbers_in, numbers
 use Rattle.journal.specs.OutcomeRow.{outcome_row}
 use Rattle.journal.specs.PlaceRow.{pointer_row}
 use Rattle.journal.specs.OutcomeIndex.{CountsOutcomes, KnowsOutcomes, awaiting_from, kept_from, kept_row, last_number, led_to, numbered_from, placed, row_at}
-use Rattle.journal.specs.Outcomes.{Outcomes, let_go, no_outcomes, outcomes_in, outcomes_of, staying}
+use Rattle.journal.specs.Outcomes.{let_go, no_outcomes, outcomes_by, outcomes_in, outcomes_of, staying}
 use Rattle.journal.specs.EventRow.{event_told, row_starts}
-use Rattle.journal.specs.Contents.{Contents, IsFile, IsOlderThan, contents_of, keyed_format, preparing_format, with_outcome}
+use Rattle.journal.specs.Contents.{Contents, IsFile, IsOlderThan, contents_by, contents_of, keyed_format, preparing_format, with_outcome, with_outcomes}
 use Rattle.journal.specs.EmptyTable.{Empties}
 use Rattle.journal.specs.Swept.{Frees, place_number}
 use Rattle.journal.specs.Tables.{IsUnused, OnlyReads}
 use Rattle.journal.specs.Journal.{HasTables, IsKeptFile, IsNamedOnce}
-use Rattle.journal.proofs.PlacedRows.{numbers-there}
-use Rattle.journal.proofs.OutcomeNumbers.{kept-more, knows-more, later-places, let-go-first, let-go-none-new, number-freed-numbers, number-freed-places, number-freed-same, outcomes-known, place-freed-numbers, place-freed-places, place-freed-same, pointed-numbers, pointed-places, pointed-same, renumbered, renumbered-places, round-same}
+use Rattle.journal.proofs.OutcomeNumbers.{kept-more, knows-more, later-places, knows-still, knows-written, let-go-first, let-go-none-new, number-freed-numbers, number-freed-places, number-freed-same, outcomes-known, place-freed-numbers, place-freed-places, place-freed-same, pointed-numbers, pointed-places, pointed-same, renumbered, renumbered-places, round-same}
 
 -- where nothing is, nothing is kept
 empty-numbers : numbers_in [] ≡ first_numbers
@@ -45,6 +44,14 @@ pub empty-outcomes : outcomes_in [] ≡ no_outcomes
 unfolding outcomes_in
 empty-outcomes = ap (λ (m : Numbers). outcomes_of m (kept_row [])) empty-numbers ∙ ap (outcomes_of first_numbers) empty-rows
 
+-- where the row of the numbers counts all, what is written is what the rows say
+pub all-counted : (db : Trees) (m : Numbers) → m ≡ numbers_in (db 6) → contents_by m db ≡ contents_of db
+all-counted db m is = ap (with_outcomes (contents_of db)) (sym (outcomes-known (db 6) m is))
+
+-- where rows of outcomes stay, what is written is what the others say
+pub by-numbers : (now was : Trees) (m : Numbers) (c : Contents) → contents_of now ≡ c → now 6 ≡ was 6 → contents_by m now ≡ with_outcomes c (outcomes_by m (was 6))
+by-numbers now was m c is rows = ap (λ x. with_outcomes x (outcomes_by m (now 6))) is ∙ ap (λ rs. with_outcomes c (outcomes_by m rs)) rows
+
 pub none-kept : (old new : View) → OnlyReads old new → IsUnused old → old.trees 6 ≡ [] → (contents_of new.committed).outcomes ≡ no_outcomes
 none-kept old new only unused none = ap (λ (v : View). outcomes_in (v.committed 6)) only ∙ ap (λ (db : Trees). outcomes_in (db 6)) (sym unused.clean) ∙ ap outcomes_in none ∙ empty-outcomes
 
@@ -62,6 +69,9 @@ module _ (old new : View) (starts : List ℕ) (n prepared : ℕ) (header : Heade
   -- and nothing else changes
   pub changes : contents_of new.trees ≡ record (contents_of old.trees) { outcomes = outcomes_in (edit (old.trees 6)) }
   changes = ap (λ (v : View). contents_of v.trees) sets.is
+
+  pub changes-by : (m : Numbers) → contents_by m new.trees ≡ with_outcomes (contents_of old.trees) (outcomes_by m (edit (old.trees 6)))
+  changes-by m = ap (λ (v : View). contents_by m v.trees) sets.is
 
   aged : IsOlderThan keyed_format (contents_of old.trees).headers → ⊥
   aged older = keyed (subst (IsOlderThan keyed_format) (kept.header_is sets.sound) older)
@@ -91,10 +101,10 @@ module _ (old new : View) (starts : List ℕ) (n prepared : ℕ) (header : Heade
   }
 
 -- a file whose outcomes have other numbers than at first is of a format that knows keys
-pub numbered-keyed : (v : View) (starts : List ℕ) (n prepared : ℕ) (header : Header) (m : Numbers) → IsKeptFile v starts n prepared header → v.is_broken ≡ false → m ≡ numbers_in (v.trees 6)
-    → (m ≡ first_numbers → ⊥) → header.format < keyed_format → ⊥
-numbered-keyed v starts n prepared header m kept sound is other older =
-    other (is ∙ ap numbers_in ((kept.file sound).outcomes (subst (IsOlderThan keyed_format) (sym (kept.header_is sound)) older)) ∙ empty-numbers)
+pub numbered-keyed : (v : View) (starts : List ℕ) (n prepared : ℕ) (header : Header) → IsKeptFile v starts n prepared header → v.is_broken ≡ false
+    → (numbers_in (v.trees 6) ≡ first_numbers → ⊥) → header.format < keyed_format → ⊥
+numbered-keyed v starts n prepared header kept sound other older =
+    other (ap numbers_in ((kept.file sound).outcomes (subst (IsOlderThan keyed_format) (sym (kept.header_is sound)) older)) ∙ empty-numbers)
 
 -- where their rows are as they were, so is what is known of them
 pub same-numbers : (old new : View) (m : Numbers) (index : OutcomeIndex) → new.trees 6 ≡ old.trees 6 → old.is_broken ≡ false → CountsOutcomes old m index → CountsOutcomes new m index
@@ -102,98 +112,87 @@ same-numbers old new m index rows sound has now = subst (λ rs. KnowsOutcomes rs
 
 -- ---- an outcome is kept, with the next number
 
-module _ (old mid new : View) (starts : List ℕ) (n prepared : ℕ) (header : Header) (m next : Numbers) (index : OutcomeIndex) (o : KeyedOutcome)
-    (puts : SetsTree old mid 6 (put_row (outcome_row (numbered_from + m.next) (record { kept = o; number = m.next })))) (counts : SetsTree mid new 6 (put_row (numbers_row next)))
+module _ (old new : View) (starts : List ℕ) (n prepared : ℕ) (header : Header) (m next : Numbers) (index : OutcomeIndex) (o : KeyedOutcome)
+    (puts : SetsTree old new 6 (put_row (outcome_row (numbered_from + m.next) (record { kept = o; number = m.next }))))
     (kept : IsKeptFile old starts n prepared header) (has : CountsOutcomes old m index) (keyed : header.format < keyed_format → ⊥)
     (is : next ≡ record { next = m.next + 1; first = m.first; least = m.least; awaiting = m.awaiting + 1 }) (low : key_place o.key < numbered_from) where
   abbrev edit_of : List Row → List Row
   edit_of = put_row (outcome_row (numbered_from + m.next) (record { kept = o; number = m.next }))
 
-  between : IsKeptFile mid starts n prepared header
-  between = keeps-file old mid starts n prepared header edit_of puts kept keyed
-
-  rows-are : mid.trees 6 ≡ edit_of (old.trees 6)
-  rows-are = edited old mid starts n prepared header edit_of puts kept keyed
-
-  pub keeps-outcome : contents_of new.trees ≡ with_outcome (contents_of old.trees) o
-  keeps-outcome =
-      changes mid new starts n prepared header (put_row (numbers_row next)) counts between keyed
-      ∙ ap (λ (c : Contents). record c { outcomes = outcomes_in (put_row (numbers_row next) (mid.trees 6)) }) (changes old mid starts n prepared header edit_of puts kept keyed)
-      ∙ ap (λ rows. record (contents_of old.trees) { outcomes = outcomes_in (put_row (numbers_row next) rows) }) rows-are
-      ∙ ap (λ (all : Outcomes). record (contents_of old.trees) { outcomes = all }) (kept-more (old.trees 6) m next o (has puts.sound).numbers (has puts.sound).counted is low)
+  pub keeps-outcome : contents_by next new.trees ≡ with_outcome (contents_by m old.trees) o
+  keeps-outcome = changes-by old new starts n prepared header edit_of puts kept keyed next ∙ ap (with_outcomes (contents_of old.trees)) (kept-more (old.trees 6) m next o (has puts.sound).counted is low)
 
   pub keeps-outcome-file : IsKeptFile new starts n prepared header
-  keeps-outcome-file = keeps-file mid new starts n prepared header (put_row (numbers_row next)) counts between keyed
+  keeps-outcome-file = keeps-file old new starts n prepared header edit_of puts kept keyed
 
   -- which is known of too
   pub keeps-outcome-known : AreCounted next → (fresh : BTreeMap ℕ ℕ) → ((q : ℕ) → get nat_cmp fresh q ≡ cond (is_eq (nat_cmp (key_place o.key) q)) (Some m.next) (get nat_cmp index.fresh q))
-      → CountsOutcomes new next (record { due = index.due; fresh = fresh; begun = index.begun })
+      → CountsOutcomes new next (record { due = index.due; fresh = fresh; begun = index.begun; uncounted = true })
   keeps-outcome-known counted fresh got sound =
-      let rows : new.trees 6 ≡ put_row (numbers_row next) (edit_of (old.trees 6)) = edited mid new starts n prepared header (put_row (numbers_row next)) counts between keyed ∙ ap (put_row (numbers_row next)) rows-are in
-      let known = has puts.sound in
-      subst (λ rs. KnowsOutcomes rs next (record { due = index.due; fresh = fresh; begun = index.begun })) (sym rows) (record {
-        numbers = sym (numbers-there (edit_of (old.trees 6)) next);
-        counted = counted;
-        places = knows-more (old.trees 6) m next o known.numbers known.counted is low index fresh got known.places;
-      })
+      subst (λ rs. KnowsOutcomes rs next (record { due = index.due; fresh = fresh; begun = index.begun; uncounted = true })) (sym (edited old new starts n prepared header edit_of puts kept keyed))
+      (knows-more (old.trees 6) m next o (has puts.sound).counted is low index fresh got counted (has puts.sound))
 
--- ---- other outcomes stay
+-- ---- their numbers are written
 
 module _ (old new : View) (starts : List ℕ) (n prepared : ℕ) (header : Header) (m next : Numbers) (index : OutcomeIndex) (counts : SetsTree old new 6 (put_row (numbers_row next)))
     (kept : IsKeptFile old starts n prepared header) (has : CountsOutcomes old m index) (keyed : header.format < keyed_format → ⊥) where
   rows-now : new.trees 6 ≡ put_row (numbers_row next) (old.trees 6)
   rows-now = edited old new starts n prepared header (put_row (numbers_row next)) counts kept keyed
 
-  recounts : contents_of new.trees ≡ record (contents_of old.trees) { outcomes = outcomes_of next (kept_from (old.trees 6) (awaiting_from next) next.awaiting) }
-  recounts = changes old new starts n prepared header (put_row (numbers_row next)) counts kept keyed ∙ ap (λ (all : Outcomes). record (contents_of old.trees) { outcomes = all }) (renumbered (old.trees 6) next)
+  recounts : contents_by next new.trees ≡ contents_by next old.trees
+  recounts = changes-by old new starts n prepared header (put_row (numbers_row next)) counts kept keyed next ∙ ap (with_outcomes (contents_of old.trees)) (renumbered (old.trees 6) next)
 
   -- where as many await they are known of as before
-  pub has-written : AreCounted next → next.next ≡ m.next → next.awaiting ≡ m.awaiting → CountsOutcomes new next index
-  has-written counted ahead await sound =
+  pub has-written : AreCounted next → next.next ≡ m.next → next.awaiting ≡ m.awaiting → (uncounted : Bool) → CountsOutcomes new next (record { due = index.due; fresh = index.fresh; begun = index.begun; uncounted = uncounted })
+  has-written counted ahead await uncounted sound =
       let same : awaiting_from next ≡ awaiting_from m = ap (λ k. k - next.awaiting) ahead ∙ ap (λ k. m.next - k) await in
-      subst (λ rs. KnowsOutcomes rs next index) (sym rows-now) (record {
-        numbers = sym (numbers-there (old.trees 6) next);
-        counted = counted;
-        places = renumbered-places (old.trees 6) m next index same ahead (has counts.sound).places;
-      })
+      let later : OutcomeIndex = record { due = index.due; fresh = index.fresh; begun = index.begun; uncounted = uncounted } in
+      subst (λ rs. KnowsOutcomes rs next later) (sym rows-now) (knows-written (old.trees 6) next later counted (renumbered-places (old.trees 6) m next index later same ahead refl refl refl (has counts.sound).places))
 
   -- so many of the last from now on
-  pub keeps-least : (least : ℕ) → next ≡ record { next = m.next; first = m.first; least = least; awaiting = m.awaiting } → contents_of new.trees ≡ record (contents_of old.trees) { outcomes = staying (contents_of old.trees).outcomes least }
-  keeps-least least is =
-      recounts ∙ ap (λ (k : Numbers). record (contents_of old.trees) { outcomes = outcomes_of k (kept_from (old.trees 6) (awaiting_from k) k.awaiting) }) is
-      ∙ ap (λ (all : Outcomes). record (contents_of old.trees) { outcomes = staying all least }) (sym (outcomes-known (old.trees 6) m (has counts.sound).numbers))
+  pub keeps-least : (least : ℕ) → next ≡ record { next = m.next; first = m.first; least = least; awaiting = m.awaiting } → contents_by next new.trees ≡ record (contents_by m old.trees) { outcomes = staying (contents_by m old.trees).outcomes least }
+  keeps-least least is = recounts ∙ ap (λ (k : Numbers). contents_by k old.trees) is
 
   -- or those since which fewer were kept
   pub lets-go : m.first < m.next - m.least → next ≡ record { next = m.next; first = m.next - m.least; least = m.least; awaiting = m.awaiting }
-      → contents_of new.trees ≡ record (contents_of old.trees) { outcomes = let_go (contents_of old.trees).outcomes }
+      → contents_by next new.trees ≡ record (contents_by m old.trees) { outcomes = let_go (contents_by m old.trees).outcomes }
   lets-go after is =
-      recounts ∙ ap (λ (k : Numbers). record (contents_of old.trees) { outcomes = outcomes_of next (kept_from (old.trees 6) (awaiting_from k) k.awaiting) }) is
-      ∙ ap (λ (all : Outcomes). record (contents_of old.trees) { outcomes = all }) (let-go-first m next (kept_from (old.trees 6) (awaiting_from m) m.awaiting) after is)
-      ∙ ap (λ (all : Outcomes). record (contents_of old.trees) { outcomes = let_go all }) (sym (outcomes-known (old.trees 6) m (has counts.sound).numbers))
+      recounts ∙ ap (λ (k : Numbers). with_outcomes (contents_of old.trees) (outcomes_of next (kept_from (old.trees 6) (awaiting_from k) k.awaiting))) is
+      ∙ ap (with_outcomes (contents_of old.trees)) (let-go-first m next (kept_from (old.trees 6) (awaiting_from m) m.awaiting) after is)
 
   -- or all, where a round of pointers is put
-  pub begins-round : index.due.entries ≡ [] → next ≡ record { next = m.next; first = m.first; least = m.least; awaiting = m.next - index.begun } → contents_of new.trees ≡ contents_of old.trees
+  pub begins-round : index.due.entries ≡ [] → next ≡ record { next = m.next; first = m.first; least = m.least; awaiting = m.next - index.begun } → contents_by next new.trees ≡ contents_by m old.trees
   begins-round none is =
-      changes old new starts n prepared header (put_row (numbers_row next)) counts kept keyed
-      ∙ ap (λ (all : Outcomes). record (contents_of old.trees) { outcomes = all })
-      (round-same (old.trees 6) m next index index (has counts.sound).numbers (has counts.sound).counted (has counts.sound).places none is)
+      changes-by old new starts n prepared header (put_row (numbers_row next)) counts kept keyed next
+      ∙ ap (with_outcomes (contents_of old.trees)) (round-same (old.trees 6) m next index index (has counts.sound).counted (has counts.sound).places none is)
 
   pub begins-round-known : (later : OutcomeIndex) → AreCounted next → index.due.entries ≡ [] → next ≡ record { next = m.next; first = m.first; least = m.least; awaiting = m.next - index.begun }
       → later.due ≡ index.fresh → later.fresh.entries ≡ [] → later.begun ≡ m.next → CountsOutcomes new next later
-  begins-round-known later counted none is due fresh begun sound = subst (λ rs. KnowsOutcomes rs next later) (sym rows-now) (record {
-    numbers = sym (numbers-there (old.trees 6) next);
-    counted = counted;
-    places = later-places (old.trees 6) m next index later (has counts.sound).numbers (has counts.sound).counted (has counts.sound).places none is due fresh begun;
-  })
+  begins-round-known later counted none is due fresh begun sound =
+      subst (λ rs. KnowsOutcomes rs next later) (sym rows-now)
+      (knows-written (old.trees 6) next later counted (later-places (old.trees 6) m next index later (has counts.sound).counted (has counts.sound).places none is due fresh begun))
 
+-- as they are in memory
+module _ (old new : View) (starts : List ℕ) (n prepared : ℕ) (header : Header) (m : Numbers) (index : OutcomeIndex) (counts : SetsTree old new 6 (put_row (numbers_row m)))
+    (kept : IsKeptFile old starts n prepared header) (has : CountsOutcomes old m index) (keyed : header.format < keyed_format → ⊥) where
+  pub counts-file : IsKeptFile new starts n prepared header
+  counts-file = keeps-file old new starts n prepared header (put_row (numbers_row m)) counts kept keyed
+
+  pub counts-same : contents_by m new.trees ≡ contents_by m old.trees
+  counts-same = recounts old new starts n prepared header m m index counts kept has keyed
+
+  pub counts-known : CountsOutcomes new m (record { due = index.due; fresh = index.fresh; begun = index.begun; uncounted = false })
+  counts-known sound = has-written old new starts n prepared header m m index counts kept has keyed (has counts.sound).counted refl refl false sound
+
+-- those that are let go
 module _ (old new : View) (starts : List ℕ) (n prepared : ℕ) (header : Header) (m found : Numbers) (index : OutcomeIndex) (first : ℕ) (kept : IsKeptFile old starts n prepared header) (sound : old.is_broken ≡ false)
-    (has : CountsOutcomes old m index) (is : found ≡ numbers_in (old.trees 6)) (at : first ≡ found.next - found.least) (after : found.first < first)
+    (has : CountsOutcomes old m index) (all : index.uncounted ≡ false) (is : found ≡ numbers_in (old.trees 6)) (at : first ≡ found.next - found.least) (after : found.first < first)
     (counts : SetsTree old new 6 (put_row (numbers_row (record { next = found.next; first = first; least = found.least; awaiting = found.awaiting })))) where
   abbrev next : Numbers
   next = record { next = found.next; first = first; least = found.least; awaiting = found.awaiting }
 
-  found-known : found ≡ m
-  found-known = is ∙ sym (has sound).numbers
+  pub found-known : found ≡ m
+  found-known = is ∙ sym ((has sound).numbers all)
 
   counted : AreCounted found
   counted = subst AreCounted (sym found-known) (has sound).counted
@@ -202,8 +201,8 @@ module _ (old new : View) (starts : List ℕ) (n prepared : ℕ) (header : Heade
   known = subst (λ (k : Numbers). CountsOutcomes old k index) (sym found-known) has
 
   newer : header.format < keyed_format → ⊥
-  newer = numbered-keyed old starts n prepared header found kept sound is
-      (λ first'. let many = ap (λ (k : Numbers). k.next) first' in let few = ap (λ (k : Numbers). k.least) first' in omega (arith, after, at, many, few))
+  newer = numbered-keyed old starts n prepared header kept sound
+      (λ first'. let many = ap (λ (k : Numbers). k.next) (is ∙ first') in let few = ap (λ (k : Numbers). k.least) (is ∙ first') in omega (arith, after, at, many, few))
 
   pub lets-go-counted : AreCounted next
   lets-go-counted = let short = counted.short in record { some = counted.some; within = omega (arith, at); awaits = counted.awaits; short = counted.short; few = counted.few }
@@ -212,39 +211,37 @@ module _ (old new : View) (starts : List ℕ) (n prepared : ℕ) (header : Heade
   lets-go-file = keeps-file old new starts n prepared header (put_row (numbers_row next)) counts kept newer
 
   pub lets-go-numbers : CountsOutcomes new next index
-  lets-go-numbers = has-written old new starts n prepared header found next index counts kept known newer lets-go-counted refl refl
+  lets-go-numbers = has-written old new starts n prepared header found next index counts kept known newer lets-go-counted refl refl index.uncounted
 
-  pub lets-go-says : contents_of new.trees ≡ record (contents_of old.trees) { outcomes = let_go (contents_of old.trees).outcomes }
+  pub lets-go-says : contents_by next new.trees ≡ record (contents_by m old.trees) { outcomes = let_go (contents_by m old.trees).outcomes }
   lets-go-says = lets-go old new starts n prepared header found next index counts kept known newer (subst (λ f. found.first < f) at after)
       (ap (λ f. let it : Numbers = record { next = found.next; first = f; least = found.least; awaiting = found.awaiting } in it) at)
+      ∙ ap (λ (k : Numbers). let c : Contents = record (contents_by k old.trees) { outcomes = let_go (contents_by k old.trees).outcomes } in c) found-known
 
 -- where as few were kept all stay
-pub lets-none-go : (rows : List Row) (m : Numbers) → m ≡ numbers_in rows → m.next - m.least ≤ m.first → outcomes_in rows ≡ let_go (outcomes_in rows)
-lets-none-go rows m is few =
-    outcomes-known rows m is ∙ let-go-none-new m (kept_from rows (awaiting_from m) m.awaiting) few ∙ ap let_go (sym (outcomes-known rows m is))
+pub lets-none-go : (rows : List Row) (m : Numbers) → m.next - m.least ≤ m.first → outcomes_by m rows ≡ let_go (outcomes_by m rows)
+lets-none-go rows m few = let-go-none-new m (kept_from rows (awaiting_from m) m.awaiting) few
 
 -- ---- a pointer is put
 
 module _ (old new : View) (starts : List ℕ) (n prepared : ℕ) (header : Header) (m : Numbers) (index : OutcomeIndex) (due : BTreeMap ℕ ℕ) (place number : ℕ) (low : place < numbered_from)
     (puts : SetsTree old new 6 (put_row (pointer_row place number))) (kept : IsKeptFile old starts n prepared header) (has : CountsOutcomes old m index) (keyed : header.format < keyed_format → ⊥)
     (was : get nat_cmp index.due place ≡ Some number) (got : (q : ℕ) → get nat_cmp due q ≡ cond (is_eq (nat_cmp place q)) None (get nat_cmp index.due q)) where
-  pub points : contents_of new.trees ≡ contents_of old.trees
+  pub points : contents_by m new.trees ≡ contents_by m old.trees
   points =
-      changes old new starts n prepared header (put_row (pointer_row place number)) puts kept keyed
-      ∙ ap (λ (all : Outcomes). record (contents_of old.trees) { outcomes = all })
-      (pointed-same (old.trees 6) m index due place number low (has puts.sound).numbers (has puts.sound).counted was got (has puts.sound).places)
+      changes-by old new starts n prepared header (put_row (pointer_row place number)) puts kept keyed m
+      ∙ ap (with_outcomes (contents_of old.trees)) (pointed-same (old.trees 6) m index due place number low (has puts.sound).counted was got (has puts.sound).places)
 
   pub points-file : IsKeptFile new starts n prepared header
   points-file = keeps-file old new starts n prepared header (put_row (pointer_row place number)) puts kept keyed
 
-  pub points-known : CountsOutcomes new m (record { due = due; fresh = index.fresh; begun = index.begun })
+  pub points-known : CountsOutcomes new m (record { due = due; fresh = index.fresh; begun = index.begun; uncounted = index.uncounted })
   points-known sound =
       let known = has puts.sound in
-      subst (λ rs. KnowsOutcomes rs m (record { due = due; fresh = index.fresh; begun = index.begun })) (sym (edited old new starts n prepared header (put_row (pointer_row place number)) puts kept keyed)) (record {
-        numbers = pointed-numbers (old.trees 6) m index due place number low known.numbers known.counted was got known.places;
-        counted = known.counted;
-        places = pointed-places (old.trees 6) m index due place number low known.numbers known.counted was got known.places;
-      })
+      let later : OutcomeIndex = record { due = due; fresh = index.fresh; begun = index.begun; uncounted = index.uncounted } in
+      subst (λ rs. KnowsOutcomes rs m later) (sym (edited old new starts n prepared header (put_row (pointer_row place number)) puts kept keyed))
+      (knows-still (old.trees 6) _ m index later (pointed-numbers (old.trees 6) m index due place number low known.counted was got known.places) refl known
+      (pointed-places (old.trees 6) m index due place number low known.counted was got known.places))
 
 -- ---- rows are freed
 
@@ -268,23 +265,21 @@ module _ (old new : View) (starts : List ℕ) (n prepared : ℕ) (header : Heade
   -- a file in which one is let go knows keys
   freed-keyed : (k : ℕ) → k < below → old.is_broken ≡ false → header.format < keyed_format → ⊥
   freed-keyed k low sound =
-      numbered-keyed old starts n prepared header m kept sound (has sound).numbers
-      (λ is. let zero = ap (λ (x : Numbers). x.first) is in omega (arith, zero, low, goes))
+      numbered-keyed old starts n prepared header kept sound
+      (λ is. let zero = (has sound).first ∙ ap (λ (x : Numbers). x.first) is in omega (arith, zero, low, goes))
 
-  pub freed-same : Frees below old new → contents_of new.trees ≡ contents_of old.trees
+  pub freed-same : Frees below old new → contents_by m new.trees ≡ contents_by m old.trees
   freed-same (inl place) =
       let known = has place.sets.sound in
       let low = place.low in
-      changes old new starts n prepared header _ place.sets kept (freed-keyed (place_number place.gone) place.low place.sets.sound)
-      ∙ ap (λ (all : Outcomes). record (contents_of old.trees) { outcomes = all })
-      (place-freed-same (old.trees 6) m index known.numbers known.places place.place place.gone place.there (omega (arith, low, goes)) (omega (arith, low, before)))
+      changes-by old new starts n prepared header _ place.sets kept (freed-keyed (place_number place.gone) place.low place.sets.sound) m
+      ∙ ap (with_outcomes (contents_of old.trees)) (place-freed-same (old.trees 6) m index known.places place.place place.gone place.there (omega (arith, low, goes)) (omega (arith, low, before)))
   freed-same (inr (inl number)) =
       let known = has number.sets.sound in
       let low = number.low in
-      changes old new starts n prepared header _ number.sets kept (freed-keyed number.number number.low number.sets.sound)
-      ∙ ap (λ (all : Outcomes). record (contents_of old.trees) { outcomes = all })
-      (number-freed-same (old.trees 6) m index known.numbers known.places number.number (omega (arith, low, goes)) (omega (arith, low, before)))
-  freed-same (inr (inr same)) = ap (λ (v : View). contents_of v.trees) same
+      changes-by old new starts n prepared header _ number.sets kept (freed-keyed number.number number.low number.sets.sound) m
+      ∙ ap (with_outcomes (contents_of old.trees)) (number-freed-same (old.trees 6) m index known.places number.number (omega (arith, low, goes)) (omega (arith, low, before)))
+  freed-same (inr (inr same)) = ap (λ (v : View). contents_by m v.trees) same
 
   pub freed-file : Frees below old new → IsKeptFile new starts n prepared header
   freed-file (inl place) = keeps-file old new starts n prepared header _ place.sets kept (freed-keyed (place_number place.gone) place.low place.sets.sound)
@@ -295,19 +290,15 @@ module _ (old new : View) (starts : List ℕ) (n prepared : ℕ) (header : Heade
   freed-known (inl place) = λ sound.
       let known = has place.sets.sound in
       let low = place.low in
-      subst (λ rs. KnowsOutcomes rs m index) (sym (ap (λ (v : View). v.trees 6) place.sets.is)) (record {
-        numbers = place-freed-numbers (old.trees 6) m index known.numbers known.places place.place place.gone place.there (omega (arith, low, goes)) (omega (arith, low, before));
-        counted = known.counted;
-        places = place-freed-places (old.trees 6) m index known.numbers known.places place.place place.gone place.there (omega (arith, low, goes)) (omega (arith, low, before));
-      })
+      subst (λ rs. KnowsOutcomes rs m index) (sym (ap (λ (v : View). v.trees 6) place.sets.is))
+      (knows-still (old.trees 6) _ m index index (place-freed-numbers (old.trees 6) m index known.places place.place place.gone place.there (omega (arith, low, goes)) (omega (arith, low, before))) refl known
+      (place-freed-places (old.trees 6) m index known.places place.place place.gone place.there (omega (arith, low, goes)) (omega (arith, low, before))))
   freed-known (inr (inl number)) = λ sound.
       let known = has number.sets.sound in
       let low = number.low in
-      subst (λ rs. KnowsOutcomes rs m index) (sym (ap (λ (v : View). v.trees 6) number.sets.is)) (record {
-        numbers = number-freed-numbers (old.trees 6) m index known.numbers known.places number.number (omega (arith, low, goes)) (omega (arith, low, before));
-        counted = known.counted;
-        places = number-freed-places (old.trees 6) m index known.numbers known.places number.number (omega (arith, low, goes)) (omega (arith, low, before));
-      })
+      subst (λ rs. KnowsOutcomes rs m index) (sym (ap (λ (v : View). v.trees 6) number.sets.is))
+      (knows-still (old.trees 6) _ m index index (number-freed-numbers (old.trees 6) m index known.places number.number (omega (arith, low, goes)) (omega (arith, low, before))) refl known
+      (number-freed-places (old.trees 6) m index known.places number.number (omega (arith, low, goes)) (omega (arith, low, before))))
   freed-known (inr (inr same)) = subst (λ (v : View). CountsOutcomes v m index) (sym same) has
 
 -- ---- a table that has no row is made anew

@@ -90,14 +90,14 @@ module _ (old middle new : View) (starts : List ℕ) (n many : ℕ) (header : He
   states-told : map state_told (new.trees 4) ≡ states
   states-told = ap (map state_told) again.rows_are ∙ rows-told state_row state_told state_read_back 0 states
 
-  outcomes : new.trees 6 ≡ old.trees 6
-  outcomes = stays 6 (λ is. omega (arith, is)) (λ is. omega (arith, is)) (λ is. omega (arith, is)) (lit< tt)
+  pub outcome-rows-same : new.trees 6 ≡ old.trees 6
+  outcome-rows-same = stays 6 (λ is. omega (arith, is)) (λ is. omega (arith, is)) (λ is. omega (arith, is)) (lit< tt)
 
   pub resets-numbers : (m : Numbers) (index : OutcomeIndex) → CountsOutcomes old m index → CountsOutcomes new m index
-  resets-numbers m index has = same-numbers old new m index outcomes gone.sound has
+  resets-numbers m index has = same-numbers old new m index outcome-rows-same gone.sound has
 
   pub at-states : contents_of new.trees ≡ at_states (contents_of old.trees) states
-  at-states = rw (events, headers, types, objects, states-told, prepared, outcomes) refl
+  at-states = rw (events, headers, types, objects, states-told, prepared, outcome-rows-same) refl
 
   pub resets : IsKeptFile new [] 0 0 header
   resets = record {
@@ -110,7 +110,7 @@ module _ (old middle new : View) (starts : List ℕ) (n many : ℕ) (header : He
       states = again.rows_are ∙ ap (value_rows state_row 0) (sym states-told);
       prepared = rw prepared refl;
       unprepared = λ _. prepared;
-      outcomes = rw (headers, outcomes) before.outcomes;
+      outcomes = rw (headers, outcome-rows-same) before.outcomes;
     };
     count_is = λ _. rw events refl;
     starts_are = λ _. rw events refl;

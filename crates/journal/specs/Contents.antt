@@ -12,7 +12,8 @@ use Rattle.journal.specs.TypeRow.{type_row, type_told}
 use Rattle.journal.specs.ObjectRows.{object_row, object_told}
 use Rattle.journal.specs.StateRow.{state_row, state_told}
 use Rattle.journal.specs.declared.outcome_row.KeyedOutcome.{KeyedOutcome}
-use Rattle.journal.specs.Outcomes.{Outcomes, let_go, outcomes_in, outcomes_with, staying}
+use Rattle.journal.specs.declared.numbers.Numbers.{Numbers}
+use Rattle.journal.specs.Outcomes.{Outcomes, let_go, outcomes_by, outcomes_in, outcomes_with, staying}
 use Rattle.journal.specs.declared.prepared_row.Prepared.{Prepared}
 use Rattle.journal.specs.PreparedRow.{prepared_row, prepared_told}
 
@@ -37,6 +38,14 @@ contents_of db = record {
   prepared = map prepared_told (db 5);
   outcomes = outcomes_in (db 6);
 }
+
+-- where this became of transactions that have keys
+abbrev pub with_outcomes : Contents → Outcomes → Contents
+with_outcomes c all = record c { outcomes = all }
+
+-- where outcomes have these numbers, also where their row doesn't count them all yet
+abbrev pub contents_by : Numbers → Trees → Contents
+contents_by n db = with_outcomes (contents_of db) (outcomes_by n (db 6))
 
 -- the format of what is written: 9 has outcomes in the order of their numbers, 8 numbers of outcomes, 7 prepared transactions, 6 what became of transactions that have keys, 5 a row for the events that were written together,
 -- 4 names of objects, 3 operations with amounts, 2 types that are numbers

@@ -11,8 +11,9 @@ use Rattle.sqlite_trees.specs.View.{IsClean, View}
 use Rattle.event_text.specs.EventText.{AreShort}
 use Rattle.journal.specs.declared.header.Header.{Header}
 use Rattle.journal.specs.declared.journal.Journal.{Journal}
-use Rattle.journal.specs.Contents.{Contents, IsFile, contents_of, with_pending}
+use Rattle.journal.specs.Contents.{Contents, IsFile, contents_by, contents_of, with_pending}
 use Rattle.journal.specs.EventRow.{event_told, row_starts}
+use Rattle.journal.specs.Numbers.{numbers_in}
 use Rattle.journal.specs.OutcomeIndex.{CountsOutcomes}
 use Rattle.journal.specs.Tables.{IsUnused}
 
@@ -50,9 +51,9 @@ pub record IsKeptFile (v : View) (starts : List ℕ) (count prepared : ℕ) (hea
   pub named : v.is_broken ≡ false → IsNamedOnce (v.trees catalog_tree)
 
 module _ {S : Type 0} (g : Ghosts S) where
-  -- what was written: what is pending too, which the next commit makes a row of
+  -- what was written: what is pending too, which the next commit makes a row of, and the outcomes that it counts in theirs
   abbrev pub written : Journal S → Contents
-  written it = with_pending (contents_of (g.view it.store).trees) it.pending
+  written it = with_pending (contents_by it.numbers (g.view it.store).trees) it.pending
 
   -- what was there at the last commit
   abbrev pub durable : Journal S → Contents
@@ -81,9 +82,9 @@ module _ {S : Type 0} (g : Ghosts S) where
   abbrev pub IsSettled : Journal S → Type 0
   IsSettled it = (db : Trees) → may_leave it db → contents_of db ≡ durable it
 
-  -- nothing is written that isn't durable: nothing is pending, and the trees show their last commit
+  -- nothing is written that isn't durable: nothing is pending, all outcomes are counted, and the trees show their last commit
   abbrev pub ShowsCommit : Journal S → Type 0
-  ShowsCommit it = IsClean (g.view it.store) → IsUnused (g.view it.store) × (it.pending ≡ [])
+  ShowsCommit it = IsClean (g.view it.store) → IsUnused (g.view it.store) × (it.pending ≡ []) × (it.numbers ≡ numbers_in ((g.view it.store).trees 6))
 
   -- its trees are listed by their numbers, as an open of the file gives it
   abbrev pub IsNumbered : Journal S → Type 0

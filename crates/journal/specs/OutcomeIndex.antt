@@ -79,9 +79,10 @@ pub record KnowsPlaces (rows : List Row) (m : Numbers) (index : OutcomeIndex) : 
   pub due : (p n : ℕ) → get nat_cmp index.due p ≡ Some n → last_number rows p (awaiting_from m) (index.begun - awaiting_from m) ≡ Some n
   pub put : (p n : ℕ) → get nat_cmp index.due p ≡ None → last_number rows p (awaiting_from m) (index.begun - awaiting_from m) ≡ Some n → placed rows p ≡ Some (Pointer n)
 
--- what a journal has in memory of a file's outcomes: their numbers, and the places of those that await
+-- what a journal has in memory of a file's outcomes: their numbers, which are those of the row where it counts all, and the places of those that await
 pub record KnowsOutcomes (rows : List Row) (n : Numbers) (index : OutcomeIndex) : Type 0 where
-  pub numbers : n ≡ numbers_in rows
+  pub numbers : index.uncounted ≡ false → n ≡ numbers_in rows
+  pub first : n.first ≡ (numbers_in rows).first
   pub counted : AreCounted n
   pub places : KnowsPlaces rows n index
 

@@ -6,7 +6,7 @@ use Rattle.journal.specs.declared.numbers.Numbers.{Numbers}
 use Rattle.journal.specs.declared.outcome_row.KeptOutcome.{KeptOutcome}
 use Rattle.journal.specs.declared.outcome_row.KeyedOutcome.{KeyedOutcome}
 use Rattle.journal.specs.Numbers.{numbers_in}
-use Rattle.journal.specs.OutcomeIndex.{kept_row}
+use Rattle.journal.specs.OutcomeIndex.{awaiting_from, kept_from, kept_row}
 
 -- what is kept at each place, and which it was of all that were ever kept, the first of which is 1; the number of the next; and how many of the last stay at least
 pub record Outcomes : Type 0 where
@@ -64,6 +64,10 @@ outcomes_of n kept = record {
   next = n.next;
   least = n.least;
 }
+
+-- what rows say of outcomes that have these numbers, also where the row of the numbers doesn't count them all yet
+abbrev pub outcomes_by : Numbers → List Row → Outcomes
+outcomes_by n rows = outcomes_of n (kept_from rows (awaiting_from n) n.awaiting)
 
 unfoldable pub outcomes_in : List Row → Outcomes
 outcomes_in rows = outcomes_of (numbers_in rows) (kept_row rows)

@@ -1,6 +1,6 @@
 //! What the tables of a file say, and how they are read.
 
-ghost use Rattle.std.specs.Prelude.{◌≡◌, ◌<◌, ◌∷◌, [], IfOk, IsTrue, OnOk};
+ghost use Rattle.std.specs.Prelude.{◌≡◌, ◌<◌, ◌∷◌, [], IfOk, IsTrue, OnOk, false};
 ghost use Rattle.sqlite_trees.specs.Tree.{Trees};
 ghost use Rattle.sqlite_trees.specs.View.{IsClean};
 ghost use Rattle.journal.specs.HeaderRow.{header_row};
@@ -87,6 +87,7 @@ pub fn read_contents<S: Store>(
     requires tables { IsClean (S.Store.view store.old) → HasTables (S.Store.view store.old) }
     ensures told { IfOk result (λ found. IsClean (S.Store.view store.new) → HasRowsOf (S.Store.view store.old).trees found.said found.starts.items) }
     ensures outcomes { IfOk result (λ found. IsClean (S.Store.view store.new) → KnowsOutcomes ((S.Store.view store.old).trees 6) found.numbers found.index) }
+    ensures counted { IfOk result (λ found. found.index.uncounted ≡ false) }
     ensures same { OnOk result (IsClean (S.Store.view store.new) → OnlyReads (S.Store.view store.old) (S.Store.view store.new)) }
     ensures clean { IsClean (S.Store.view store.new) → IsClean (S.Store.view store.old) }
     ensures crash { (db : Trees) → S.Store.recovers store.new db → S.Store.recovers store.old db }

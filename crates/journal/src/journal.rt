@@ -50,6 +50,7 @@ pub struct Journal<S: Store> {
     pub(crate) header: Header,
     // How many transactions were prepared in this epoch.
     pub(crate) prepared: u64,
+    // Of outcomes, also of those that their row in the file doesn't count yet: the next commit writes it.
     pub(crate) numbers: Numbers,
     // Of those that await the index of the file.
     pub(crate) index: OutcomeIndex,
@@ -131,10 +132,11 @@ impl<S: Store> Journal<S> {
         ensures numbered { IsNumbered S.Store self.old → IsNumbered S.Store self.new }
     {
         self.write_pending()?;
+        self.count_outcomes()?;
         self.commit_rows()
     }
 
-    /// Makes all that was written durable, where it is in rows.
+    /// Makes all that was written durable, where it is in rows, and outcomes are counted.
     ///
     /// # Errors
     ///
@@ -142,6 +144,7 @@ impl<S: Store> Journal<S> {
     fn commit_rows(&mut self) -> Result<(), JournalError>
         requires journal { IsJournal S.Store self.old }
         requires none { self.old.pending ≡ [] }
+        requires counted { self.old.index.uncounted ≡ false }
         ensures kept { OnOk result (IsJournal S.Store self.new) }
         ensures durable { OnOk result (Clean S.Store self.new → durable S.Store self.new ≡ written S.Store self.old) }
         ensures written { OnOk result (Clean S.Store self.new → written S.Store self.new ≡ written S.Store self.old) }

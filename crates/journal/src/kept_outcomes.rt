@@ -1,10 +1,10 @@
 //! What became of transactions that have keys: what a journal keeps of it, and lets go.
 
-ghost use Rattle.std.specs.Prelude.{◌≡◌, ◌<◌, ◌≤◌, ◌+◌, IfOk, OnOk};
+ghost use Rattle.std.specs.Prelude.{◌≡◌, ◌<◌, ◌≤◌, ◌+◌, IfOk, OnOk, false};
 ghost use Rattle.sqlite_trees.specs.Tree.{Trees};
 ghost use Rattle.transaction_key.specs.TransactionKey.{key_place};
 ghost use Rattle.journal.specs.Contents.{newest_format, with_least, with_let_go, with_outcome};
-ghost use Rattle.journal.specs.Journal.{Clean, IsJournal, ShowsCommit, durable, may_leave, written};
+ghost use Rattle.journal.specs.Journal.{Clean, IsJournal, IsNumbered, ShowsCommit, durable, may_leave, written};
 ghost use Rattle.journal.specs.Numbers.{AreCounted};
 
 use crate::header::FORMAT;
@@ -53,7 +53,7 @@ impl<S: Store> Journal<S> {
         self.sweep()
     }
 
-    /// Writes what became of a transaction, as `keep_outcome`, and the numbers that there are then.
+    /// Writes what became of a transaction, as `keep_outcome`: these are the numbers then, which the next commit writes.
     ///
     /// # Errors
     ///
@@ -74,9 +74,41 @@ impl<S: Store> Journal<S> {
         let number = self.numbers.next;
         let (store, row) = (&mut self.store, &mut self.row);
         put_outcome(store, kept, number, row)?;
-        put_numbers(store, numbers, row)?;
         self.index.fresh.insert(kept.key.place(), number)?;
+        self.index.uncounted = true;
         self.numbers = numbers;
+        Ok(())
+    }
+
+    /// Writes the numbers, where outcomes were kept that their row doesn't count yet. A crash may still take it away.
+    ///
+    /// # Errors
+    ///
+    /// `Foreign` where the file is of an older format, or `Full` after 2^62 outcomes: in neither are outcomes kept; the file
+    /// failed, or memory was refused. The journal isn't to be used any more.
+    pub(crate) fn count_outcomes(&mut self) -> Result<(), JournalError>
+        requires { IsJournal S.Store self.old }
+        ensures kept { OnOk result (IsJournal S.Store self.new) }
+        ensures counted { OnOk result (self.new.index.uncounted ≡ false) }
+        ensures pending { self.new.pending ≡ self.old.pending }
+        ensures written { OnOk result (Clean S.Store self.new → written S.Store self.new ≡ written S.Store self.old) }
+        ensures durable { OnOk result (Clean S.Store self.new → durable S.Store self.new ≡ durable S.Store self.old) }
+        ensures header { self.new.header ≡ self.old.header }
+        ensures clean { Clean S.Store self.new → Clean S.Store self.old }
+        ensures crash { (db : Trees) → may_leave S.Store self.new db → may_leave S.Store self.old db }
+        ensures numbered { IsNumbered S.Store self.old → IsNumbered S.Store self.new }
+    {
+        if !self.index.uncounted {
+            return Ok(());
+        }
+        if self.header.format < FORMAT {
+            return Err(JournalError::Foreign);
+        }
+        if !are_counted(self.numbers) {
+            return Err(JournalError::Full);
+        }
+        put_numbers(&mut self.store, self.numbers, &mut self.row)?;
+        self.index.uncounted = false;
         Ok(())
     }
 
@@ -151,6 +183,7 @@ impl<S: Store> Journal<S> {
         put_numbers(&mut self.store, numbers, &mut self.row)?;
         self.numbers = numbers;
         self.index.begin_round(numbers.next);
+        self.index.uncounted = false;
         Ok(())
     }
 
@@ -214,6 +247,7 @@ impl<S: Store> Journal<S> {
         }
         put_numbers(&mut self.store, numbers, &mut self.row)?;
         self.numbers = numbers;
+        self.index.uncounted = false;
         Ok(())
     }
 
@@ -231,6 +265,7 @@ impl<S: Store> Journal<S> {
         ensures clean { Clean S.Store self.new → Clean S.Store self.old }
         ensures crash { (db : Trees) → may_leave S.Store self.new db → may_leave S.Store self.old db }
     {
+        self.count_outcomes()?;
         let found = read_numbers(&mut self.store, &mut self.row)?;
         let first = found.next.saturating_sub(found.least);
         if first <= found.first {

@@ -7,7 +7,7 @@ ghost use Rattle.std.specs.Ordering.{nat_cmp};
 ghost use Rattle.sqlite_trees.specs.Tree.{Trees};
 ghost use Rattle.sqlite_trees.specs.View.{IsClean, KeepsSchema};
 ghost use Rattle.journal.specs.Numbers.{AreCounted};
-ghost use Rattle.journal.specs.OutcomeIndex.{CountsOutcomes, KnowsPlaces, awaiting_from, kept_row};
+ghost use Rattle.journal.specs.OutcomeIndex.{CountsOutcomes, KnowsPlaces, awaiting_from, kept_from};
 ghost use Rattle.journal.specs.Outcomes.{staying_from};
 
 use crate::journal_error::JournalError;
@@ -35,6 +35,8 @@ pub struct OutcomeIndex {
     pub fresh: BTreeMap<u64, u64>,
     /// From which number on they are in `fresh`.
     pub begun: u64,
+    /// Whether outcomes were kept that the row of the numbers doesn't count yet.
+    pub uncounted: bool,
 }
 
 impl OutcomeIndex {
@@ -43,11 +45,13 @@ impl OutcomeIndex {
         ensures due { result.due.entries ≡ [] }
         ensures fresh { result.fresh.entries ≡ [] }
         ensures begun { result.begun ≡ begun }
+        ensures counted { result.uncounted ≡ false }
     {
         OutcomeIndex {
             due: BTreeMap::new(alloc),
             fresh: BTreeMap::new(alloc),
             begun,
+            uncounted: false,
         }
     }
 
@@ -87,6 +91,7 @@ impl OutcomeIndex {
         ensures due { self.new.due ≡ self.old.fresh }
         ensures fresh { self.new.fresh.entries ≡ [] }
         ensures begun { self.new.begun ≡ next }
+        ensures counted { self.new.uncounted ≡ self.old.uncounted }
     {
         swap(&mut self.due, &mut self.fresh);
         self.begun = next;
@@ -107,6 +112,7 @@ pub fn read_index<S: Store>(
     requires counted { AreCounted numbers }
     requires shape { IsClean (S.Store.view store.old) → (S.Store.view store.old).shape 6 ≡ Shape.Table }
     ensures knows { IfOk result (λ index. IsClean (S.Store.view store.new) → KnowsPlaces ((S.Store.view store.old).trees 6) numbers index) }
+    ensures counted { IfOk result (λ index. index.uncounted ≡ false) }
     ensures same { OnOk result (IsClean (S.Store.view store.new) → S.Store.view store.new ≡ S.Store.view store.old) }
     ensures clean { IsClean (S.Store.view store.new) → IsClean (S.Store.view store.old) }
     ensures crash { (db : Trees) → S.Store.recovers store.new db → S.Store.recovers store.old db }
@@ -132,6 +138,7 @@ fn read_fresh<S: Store>(
     requires counted { AreCounted numbers }
     requires shape { IsClean (S.Store.view store.old) → (S.Store.view store.old).shape 6 ≡ Shape.Table }
     ensures begun { IfOk result (λ index. index.begun ≡ awaiting_from numbers) }
+    ensures counted { IfOk result (λ index. index.uncounted ≡ false) }
     ensures knows { IfOk result (λ index. IsClean (S.Store.view store.new) → KnowsPlaces ((S.Store.view store.old).trees 6) numbers index) }
     ensures same { OnOk result (IsClean (S.Store.view store.new) → S.Store.view store.new ≡ S.Store.view store.old) }
     ensures clean { IsClean (S.Store.view store.new) → IsClean (S.Store.view store.old) }
@@ -165,7 +172,7 @@ pub fn kept_at<S: Store>(
     requires low { place < 2 ^ 62 }
     requires shape { IsClean (S.Store.view store.old) → (S.Store.view store.old).shape 6 ≡ Shape.Table }
     requires known { IsClean (S.Store.view store.old) → CountsOutcomes (S.Store.view store.old) numbers index.now }
-    ensures found { IfOk result (λ found. IsClean (S.Store.view store.new) → found ≡ kept_row ((S.Store.view store.old).trees 6) place) }
+    ensures found { IfOk result (λ found. IsClean (S.Store.view store.new) → found ≡ kept_from ((S.Store.view store.old).trees 6) (awaiting_from numbers) numbers.awaiting place) }
     ensures sound { OnOk result (IsClean (S.Store.view store.new) → (S.Store.view store.old).is_broken ≡ false) }
     ensures same { OnOk result (IsClean (S.Store.view store.new) → S.Store.view store.new ≡ S.Store.view store.old) }
     ensures clean { IsClean (S.Store.view store.new) → IsClean (S.Store.view store.old) }

@@ -11,7 +11,7 @@ ghost use Rattle.journal.specs.Contents.{IsFile, contents_of};
 ghost use Rattle.journal.specs.EventRow.{event_row, events_in_rows, row_starts};
 ghost use Rattle.journal.specs.Examples.{first_outcome, order_committed, place_of_abc, prepared_order, second_outcome, seven_and_nine, small_file, two_outcomes, rows_awaiting};
 ghost use Rattle.journal.specs.Numbers.{numbers_row, numbers_told};
-ghost use Rattle.journal.specs.Outcomes.{let_go, no_outcomes, outcomes_of, outcomes_with};
+ghost use Rattle.journal.specs.Outcomes.{let_go, no_outcomes, outcomes_by, outcomes_of, outcomes_with};
 ghost use Rattle.journal.specs.OutcomeIndex.{kept_row};
 ghost use Rattle.journal.specs.OutcomeRow.{outcome_row};
 ghost use Rattle.journal.specs.PlaceRow.{pointer_row};
@@ -48,13 +48,15 @@ pub fn rows_of_outcomes()
 {}
 
 /// Two outcomes have the key `abc`. The pointer at its place leads to the first, and the second awaits the index: it is what is kept. Where none awaits, the
-/// pointer's is. A pointer leads nowhere whose outcome has another place. The row at a place that was written by an older program is kept there.
+/// pointer's is. A pointer leads nowhere whose outcome has another place. The row at a place that was written by an older program is kept there. The second is
+/// what is kept too where the row of the numbers doesn't count it yet as one that awaits.
 pub fn outcomes_that_await()
     ensures pointer { pointer_row 7 1 ≡ Int (pos 7) ∷ Null ∷ Null ∷ Null ∷ Null ∷ Int (pos 1) ∷ [] }
     ensures last { kept_row (rows_awaiting 1) place_of_abc ≡ Some second_outcome }
     ensures pointed { kept_row (rows_awaiting 0) place_of_abc ≡ Some first_outcome }
     ensures elsewhere { kept_row (rows_awaiting 0) 8 ≡ None }
     ensures whole { kept_row (rows_awaiting 1) 7 ≡ Some order_committed }
+    ensures uncounted { (outcomes_by (record { next = 3; first = 0; least = 2; awaiting = 1 }) (rows_awaiting 0)).at place_of_abc ≡ Some second_outcome.kept }
 {
     a_place();
 }

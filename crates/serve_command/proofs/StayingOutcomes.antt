@@ -3,9 +3,7 @@ use Rattle.std.proofs.Common.{◌≡◌, ◌∙◌, ℕ, sym, ap, subst}
 use Rattle.sqlite_trees.specs.declared.store.Store.{Ghosts}
 use Rattle.journal.specs.Contents.{Contents, with_least}
 use Rattle.journal.specs.declared.journal.Journal.{Journal}
-use Rattle.journal.specs.Journal.{Clean, IsJournal, ShowsCommit, written}
-use Rattle.journal.specs.Outcomes.{Outcomes}
-use Rattle.journal.proofs.OutcomeNumbers.{outcomes-known}
+use Rattle.journal.specs.Journal.{Clean, written}
 use Rattle.durable_store.specs.declared.durable.Durable.{Durable}
 use Rattle.durable_store.specs.Types.{HasTypes}
 use Rattle.durable_store.specs.Recovered.{IsRecovered}
@@ -24,9 +22,5 @@ opened-at g least c opened began sure found types same stays clean =
     }
 
 -- where so many stay already, nothing is to be written
-pub stays-so : {S : Type 0} (g : Ghosts S) (j : Journal S) (least : ℕ) → IsJournal g j → ShowsCommit g j → j.numbers.least ≡ least → Clean g j → written g j ≡ with_least (written g j) least
-stays-so g j least is shows same clean =
-    let (kept, counted, counts) = is clean in
-    let known = counts (shows clean).0.sound in
-    let found : (written g j).outcomes.least ≡ j.numbers.least = ap (λ (all : Outcomes). all.least) (outcomes-known ((g.view j.store).trees 6) j.numbers known.numbers) in
-    ap (with_least (written g j)) (found ∙ same)
+pub stays-so : {S : Type 0} (g : Ghosts S) (j : Journal S) (least : ℕ) → j.numbers.least ≡ least → written g j ≡ with_least (written g j) least
+stays-so g j least same = ap (with_least (written g j)) same

@@ -8,7 +8,8 @@ use Rattle.std.specs.Io.KnownBytes.{Appends}
 use Rattle.std.proofs.KnownBytes.{Appends-trans}
 use Rattle.sqlite_trees.specs.declared.store.Store.{Ghosts}
 use Rattle.journal.specs.declared.header.Header.{Header}
-use Rattle.journal.specs.Contents.{Contents, contents_of, with_pending}
+use Rattle.journal.specs.Contents.{Contents, contents_by, contents_of, with_pending}
+use Rattle.journal.proofs.Outcomes.{all-counted}
 use Rattle.journal.proofs.Writes.{none-pending}
 use Rattle.journal.specs.Journal.{Clean, IsJournal, ShowsCommit, durable, written}
 use Rattle.store_laws.specs.Stored.{Stored}
@@ -128,7 +129,8 @@ left-renewed g goes waits old mid new kept kept_now sound clean wrote keeps firs
 pub shown-durable : {S : Type 0} (g : Ghosts S) (d : Durable S) → ShowsCommit g d.journal → Clean g d.journal → durable g d.journal ≡ written g d.journal
 shown-durable g d shows now =
     let trees = (g.view d.journal.store).trees in
-    sym (ap (with_pending (contents_of trees)) (shows now).1 ∙ none-pending (contents_of trees) ∙ ap contents_of (shows now).0.clean)
+    let numbers = d.journal.numbers in
+    sym (ap (with_pending (contents_by numbers trees)) (shows now).1 ∙ none-pending (contents_by numbers trees) ∙ all-counted trees numbers (shows now).2 ∙ ap contents_of (shows now).0.clean)
 
 -- the file of a new epoch, and its life
 module _ {S : Type 0} {g : Ghosts S} (goes : Bool) (waits : Option Extension) (old mid new : Durable S) (sound : IsDurable g mid) (clean : Clean g new.journal → Clean g mid.journal)

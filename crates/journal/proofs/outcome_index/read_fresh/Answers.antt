@@ -12,6 +12,7 @@ pub loop-number-init : goal.loop-number-init
 loop-number-init g c = record {
   begun = c.new-index.ensures.begun ∙ c.awaiting_from.ensures;
   due = c.new-index.ensures.due;
+  counted = c.new-index.ensures.counted;
   fresh = λ clean p.
       let rows = (g.S.Store.view c.args.store.now).trees 6 in
       let start = c.awaiting_from-number.ensures in
@@ -32,6 +33,7 @@ loop-number-preserved g c =
     record {
       begun = inv.begun;
       due = inv.due;
+      counted = inv.counted;
       fresh = λ clean p.
           let rows = (g.S.Store.view c.args.store.now).trees 6 in
           let was = found.clean clean in

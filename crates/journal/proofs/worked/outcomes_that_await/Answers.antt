@@ -1,10 +1,13 @@
 use Rattle.std.proofs.Common.{◌≡◌, ◌∙◌, ℕ, None, Some, true, false, ap, codes, refl}
+use Rattle.std.specs.Prelude.{option_map}
 use Rattle.sqlite_value.proofs.OrderLemmas.{value_cmp-Int}
 use Rattle.transaction_key.specs.TransactionKey.{key_place}
+use Rattle.journal.specs.declared.outcome_row.KeptOutcome.{KeptOutcome}
 use Rattle.journal.specs.declared.place_row.PlaceRow.TheVariants.{Pointer, Whole}
 use Rattle.journal.specs.Examples.{first_outcome, order_committed, place_of_abc, second_outcome, rows_awaiting}
 use Rattle.journal.specs.Numbers.{numbers_in}
-use Rattle.journal.specs.OutcomeIndex.{is_placed, kept_row, last_number, led_to, outcome_numbered, placed, row_at}
+use Rattle.journal.specs.OutcomeIndex.{is_placed, kept_from, kept_row, last_number, led_to, outcome_numbered, placed, row_at}
+use Rattle.journal.specs.Outcomes.{staying_from}
 use Rattle.journal.proofs.KeptRows.{kept-known, kept-last, kept-led}
 use Rattle.journal.proofs.worked.outcomes_that_await.Goals as goal
 
@@ -51,16 +54,16 @@ module _ (abc : key_place (codes "abc") ≡ place_of_abc) where
   unfolding is_placed
   first-apart count = rw (first-is count) (rw abc refl)
 
-  last-is : last_number (rows_awaiting 1) place_of_abc 2 1 ≡ Some 2
+  last-is : (count : ℕ) → last_number (rows_awaiting count) place_of_abc 2 1 ≡ Some 2
   unfolding last_number
-  last-is = rw (second-has 1) refl
+  last-is count = rw (second-has count) refl
 
   none-is : last_number (rows_awaiting 1) 7 2 1 ≡ None
   unfolding last_number
   none-is = rw (second-apart 1) refl
 
   pub last-kept : kept_row (rows_awaiting 1) place_of_abc ≡ Some second_outcome
-  last-kept = kept-known (rows_awaiting 1) _ place_of_abc (numbers-are 1) ∙ kept-last (rows_awaiting 1) 2 1 place_of_abc 2 last-is ∙ second-is 1
+  last-kept = kept-known (rows_awaiting 1) _ place_of_abc (numbers-are 1) ∙ kept-last (rows_awaiting 1) 2 1 place_of_abc 2 (last-is 1) ∙ second-is 1
 
   pub pointed-kept : kept_row (rows_awaiting 0) place_of_abc ≡ Some first_outcome
   unfolding last_number
@@ -75,6 +78,9 @@ module _ (abc : key_place (codes "abc") ≡ place_of_abc) where
   pub whole-kept : kept_row (rows_awaiting 1) 7 ≡ Some order_committed
   whole-kept = kept-known (rows_awaiting 1) _ 7 (numbers-are 1) ∙ kept-led (rows_awaiting 1) 2 1 7 none-is ∙ ap (led_to (rows_awaiting 1) 2 7) (whole-is 1)
 
+  pub uncounted-kept : kept_from (rows_awaiting 0) 2 1 place_of_abc ≡ Some second_outcome
+  uncounted-kept = kept-last (rows_awaiting 0) 2 1 place_of_abc 2 (last-is 0) ∙ second-is 0
+
 pub returns-clause-last : goal.returns-clause-last
 returns-clause-last c = last-kept c.a_place.ensures
 
@@ -86,3 +92,6 @@ returns-clause-elsewhere c = elsewhere-kept c.a_place.ensures
 
 pub returns-clause-whole : goal.returns-clause-whole
 returns-clause-whole c = whole-kept c.a_place.ensures
+
+pub returns-clause-uncounted : goal.returns-clause-uncounted
+returns-clause-uncounted c = ap (λ k. option_map (λ (o : KeptOutcome). o.kept) (staying_from 0 k)) (uncounted-kept c.a_place.ensures)

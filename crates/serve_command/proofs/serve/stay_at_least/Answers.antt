@@ -8,4 +8,4 @@ returns-then-least_outcomes-from-clause-written g c =
     let known = c.least_outcomes.ensures in
     let as_many = c.if-least_outcomes-from.true in
     let asked = c.from.ensures in
-    stays-so g.S.Store c.args.store.now.journal c.args.least c.requires.sound.journal c.requires.shows (omega (arith, known, as_many, asked))
+    λ clean. stays-so g.S.Store c.args.store.now.journal c.args.least (omega (arith, known, as_many, asked))

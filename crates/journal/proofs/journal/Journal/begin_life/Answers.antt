@@ -3,6 +3,7 @@ use Rattle.sqlite_trees.specs.View.{View}
 use Rattle.journal.specs.Contents.{Contents, in_life, with_pending}
 use Rattle.journal.specs.OutcomeIndex.{CountsOutcomes}
 use Rattle.journal.proofs.NewHeaders.{raises, in-life}
+use Rattle.journal.proofs.Outcomes.{by-numbers}
 use Rattle.journal.proofs.journal.Journal.begin_life.Goals as goal
 
 pub returns-clause-kept : goal.returns-clause-kept
@@ -19,5 +20,8 @@ returns-clause-last g c = λ clean.
 pub returns-clause-written : goal.returns-clause-written
 returns-clause-written g c = λ clean.
     let between = c.append.ensures.clean clean in
-    ap (λ x. with_pending x c.raise_tables.new.self.pending) (in-life _ _ _ _ _ _ _ (c.in_ok-append.ensures.ok clean) (c.in_ok-raise_tables.ensures.kept between).0 refl)
+    let it = c.raise_tables.new.self in
+    let sets = c.in_ok-append.ensures.ok clean in
+    ap (λ x. with_pending x it.pending)
+    (by-numbers (g.S.Store.view c.append.new.store).trees (g.S.Store.view it.store).trees it.numbers _ (in-life _ _ _ _ _ _ _ sets (c.in_ok-raise_tables.ensures.kept between).0 refl) (ap (λ (v : View). v.trees 6) sets.is))
     ∙ ap (λ x. in_life x c.in-Some.life) (c.in_ok-raise_tables.ensures.written between)

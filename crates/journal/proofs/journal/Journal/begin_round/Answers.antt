@@ -1,4 +1,4 @@
-use Rattle.std.proofs.Common.{ℕ, ap, arith}
+use Rattle.std.proofs.Common.{ℕ, ap, arith, false}
 use Rattle.journal.specs.declared.numbers.Numbers.{Numbers}
 use Rattle.journal.specs.Contents.{with_pending}
 use Rattle.journal.proofs.Outcomes.{begins-round, begins-round-known, keeps-file}
@@ -13,7 +13,8 @@ returns-clause-kept g c = λ clean.
     let with : ℕ → Numbers = λ await. record { next = it.numbers.next; first = it.numbers.first; least = it.numbers.least; awaiting = await } in (
       keeps-file _ _ it.starts.items it.settled it.prepared it.header _ counts was.0 (λ older. omega (arith, c.requires.newest, older)),
       was.1,
-      begins-round-known _ _ it.starts.items it.settled it.prepared it.header it.numbers _ it.index counts was.0 was.2 (λ older. omega (arith, c.requires.newest, older)) c.begin_round.new.self
+      begins-round-known _ _ it.starts.items it.settled it.prepared it.header it.numbers _ it.index counts was.0 was.2 (λ older. omega (arith, c.requires.newest, older))
+          (record { due = c.begin_round.new.self.due; fresh = c.begin_round.new.self.fresh; begun = c.begin_round.new.self.begun; uncounted = false })
           (c.are_counted.ensures c.if-not-are_counted.false) (c.is_put.ensures c.if-not-is_put.false) (ap with c.saturating_sub.ensures) round.due round.fresh round.begun,
     )
 

@@ -1,9 +1,10 @@
 use Rattle.std.proofs.Common.{◌≡◌, ◌≤◌, ◌-◌, ◌++◌, ℕ, List, ap, drop, length, sym, take, ◌∙◌, arith}
 use Rattle.std.proofs.lemmas.List.{length-drop, length-take-le, take-append-drop, take_all}
 use Rattle.journal.specs.declared.state_row.FirstState.{FirstState}
-use Rattle.journal.specs.Contents.{contents_of, extended_at, with_pending}
+use Rattle.journal.specs.Contents.{contents_by, extended_at, with_pending}
 use Rattle.journal.specs.Journal.{written}
-use Rattle.journal.proofs.Extended.{begins-anew, extends, extends-numbers}
+use Rattle.journal.proofs.Extended.{begins-anew, extends, extends-numbers, outcome-rows-same}
+use Rattle.journal.proofs.Outcomes.{by-numbers}
 use Rattle.journal.proofs.Writes.{none-pending}
 use Rattle.journal.proofs.journal.Journal.extend.Goals as goal
 
@@ -44,9 +45,14 @@ returns-clause-written g c = λ clean.
     let before = c.empty_epoch.ensures.clean none in
     let was = c.requires.journal before in
     let new = g.S.Store.view c.append_each-3.new.store in
-    ap (with_pending (contents_of new.trees)) c.clear-2.ensures
-    ∙ none-pending (contents_of new.trees)
-    ∙ extends _ (g.S.Store.view c.empty_epoch.new.store) (g.S.Store.view c.rewrite_states.new.store) (g.S.Store.view c.append_each.new.store) (g.S.Store.view c.append_each-2.new.store) _ _ _ _ _ _ _ _ _ _ _
+    let it = c.args.self.now in
+    ap (with_pending (contents_by it.numbers new.trees)) c.clear-2.ensures
+    ∙ none-pending (contents_by it.numbers new.trees)
+    ∙ by-numbers new.trees (g.S.Store.view it.store).trees it.numbers _
+    (extends _ (g.S.Store.view c.empty_epoch.new.store) (g.S.Store.view c.rewrite_states.new.store) (g.S.Store.view c.append_each.new.store) (g.S.Store.view c.append_each-2.new.store) _ _ _ _ _ _ _ _ _ _ _
     was.0 (c.in_ok-empty_epoch.ensures.ok none) (c.in_ok-rewrite_states.ensures.ok first) (c.in_ok-append_each.ensures.ok all) (c.in_ok-append_each-2.ensures.ok typed)
-    (c.in_ok-append_each-3.ensures.ok clean) (length-take-le count states low) (sym (c.requires.known before)) (c.requires.objects before ∙ omega (arith, c.requires.as_many before))
+    (c.in_ok-append_each-3.ensures.ok clean) (length-take-le count states low) (sym (c.requires.known before)) (c.requires.objects before ∙ omega (arith, c.requires.as_many before)))
+    (outcome-rows-same _ (g.S.Store.view c.empty_epoch.new.store) (g.S.Store.view c.rewrite_states.new.store) (g.S.Store.view c.append_each.new.store) (g.S.Store.view c.append_each-2.new.store) _ _ _ _ _ _ _ _ _ _ _
+    was.0 (c.in_ok-empty_epoch.ensures.ok none) (c.in_ok-rewrite_states.ensures.ok first) (c.in_ok-append_each.ensures.ok all) (c.in_ok-append_each-2.ensures.ok typed)
+    (c.in_ok-append_each-3.ensures.ok clean) (length-take-le count states low) (sym (c.requires.known before)) (c.requires.objects before ∙ omega (arith, c.requires.as_many before)))
     ∙ ap (extended_at (written g.S.Store c.args.self.now) c.args.types.now c.args.objects.now) (halves count states)

@@ -1,4 +1,4 @@
-use Rattle.std.proofs.Common.{ap, arith, refl}
+use Rattle.std.proofs.Common.{ap, arith, false, refl}
 use Rattle.journal.specs.Contents.{with_pending}
 use Rattle.journal.proofs.Outcomes.{has-written, keeps-file, keeps-least}
 use Rattle.journal.proofs.journal.Journal.keep_at_least.Goals as goal
@@ -10,7 +10,7 @@ returns-clause-kept g c = λ clean.
     let counts = c.in_ok-put_numbers.ensures.ok clean in (
       keeps-file _ _ it.starts.items it.settled it.prepared it.header _ counts was.0 (λ low. omega (arith, c.if-self-lt-FORMAT.false, low)),
       was.1,
-      has-written _ _ it.starts.items it.settled it.prepared it.header it.numbers _ it.index counts was.0 was.2 (λ low. omega (arith, c.if-self-lt-FORMAT.false, low)) (c.are_counted.ensures c.if-not-are_counted.false) refl refl,
+      has-written _ _ it.starts.items it.settled it.prepared it.header it.numbers _ it.index counts was.0 was.2 (λ low. omega (arith, c.if-self-lt-FORMAT.false, low)) (c.are_counted.ensures c.if-not-are_counted.false) refl refl false,
     )
 
 pub returns-clause-written : goal.returns-clause-written

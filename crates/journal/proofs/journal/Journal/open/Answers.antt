@@ -1,8 +1,11 @@
 use Rattle.std.proofs.Common.{◌≡◌, subst, sym, false, IsTrue, arith, ap, ◌∙◌}
 use Rattle.sqlite_trees.specs.View.{IsClean, View}
-use Rattle.journal.specs.Contents.{Contents, IsFile, contents_of}
+use Rattle.journal.specs.Contents.{Contents, IsFile, contents_by, contents_of, with_pending}
+use Rattle.journal.specs.Numbers.{numbers_in}
 use Rattle.journal.specs.OutcomeIndex.{CountsOutcomes}
 use Rattle.journal.specs.Said.{contents_beside}
+use Rattle.journal.proofs.Outcomes.{all-counted}
+use Rattle.journal.proofs.Writes.{none-pending}
 use Rattle.journal.proofs.Opens.{starts, is-file, says, unused, was_open, same_commit}
 use Rattle.journal.proofs.journal.Journal.open.Goals as goal
 
@@ -22,6 +25,22 @@ returns-in-Ok-clause-kept g c = λ clean.
       rw c.new.ensures (omega arith),
       subst (λ (v : View). CountsOutcomes v found.numbers found.index) (sym (c.in-Ok.ensures.same clean)) (λ _. c.in-Ok.ensures.outcomes clean),
     )
+
+pub returns-in-Ok-clause-settled : goal.returns-in-Ok-clause-settled
+returns-in-Ok-clause-settled g c = λ clean.
+    let first = g.S.Store.view c.args.store in
+    let old = g.S.Store.view c.rollback.new.self in
+    let new = g.S.Store.view c.read_contents.new.store in
+    let found = c.in-Ok.field-0 in
+    let was : IsClean old = c.in-Ok.ensures.clean clean in
+    let sound : old.is_broken ≡ false = c.in-Ok-true.ensures.sound c.in-Ok-true.field-0-test was in
+    let u = unused first old c.rollback.ensures.undone was (g.met.S.Store.broken_if_shut _) sound in
+    let same = c.in-Ok.ensures.same clean in
+    let all : found.numbers ≡ numbers_in (new.trees 6) = (c.in-Ok.ensures.outcomes clean).numbers c.in-Ok.ensures.counted ∙ ap (λ (v : View). numbers_in (v.trees 6)) (sym same) in
+    ap (with_pending (contents_by found.numbers new.trees)) c.new.ensures
+    ∙ none-pending (contents_by found.numbers new.trees)
+    ∙ all-counted new.trees found.numbers all
+    ∙ ap (λ (v : View). contents_of v.trees) same ∙ ap contents_of u.clean ∙ ap (λ (v : View). contents_of v.committed) (sym same)
 
 pub returns-in-Ok-clause-said : goal.returns-in-Ok-clause-said
 returns-in-Ok-clause-said g c = λ clean.

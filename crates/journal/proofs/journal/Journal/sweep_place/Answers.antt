@@ -1,6 +1,6 @@
 use Rattle.std.proofs.Common.{ap, subst, sym, ◌∙◌}
 use Rattle.sqlite_trees.specs.View.{View}
-use Rattle.journal.specs.Contents.{contents_of, with_pending}
+use Rattle.journal.specs.Contents.{contents_by, with_pending}
 use Rattle.journal.specs.OutcomeIndex.{CountsOutcomes}
 use Rattle.journal.proofs.Outcomes.{freed-file, freed-known, freed-same, read-file}
 use Rattle.journal.proofs.journal.Journal.sweep_place.Goals as goal
@@ -35,4 +35,4 @@ returns-in_ok-free_place-in-Some-clause-written g c = λ clean.
     let below = c.freed_below.ensures in
     ap (λ x. with_pending x it.pending)
     (freed-same mid new it.starts.items it.settled it.prepared it.header it.numbers it.index _ below.first below.awaiting kept has (c.in_ok-free_place-in-Some.ensures.frees clean)
-    ∙ ap (λ (v : View). contents_of v.trees) only)
+    ∙ ap (λ (v : View). contents_by it.numbers v.trees) only)

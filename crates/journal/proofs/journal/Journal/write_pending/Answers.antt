@@ -1,7 +1,8 @@
 use Rattle.std.proofs.Common.{◌≡◌, ap, arith, length, subst, sym, ◌∙◌}
 use Rattle.sqlite_trees.specs.View.{View}
-use Rattle.journal.specs.Contents.{contents_of, with_pending}
+use Rattle.journal.specs.Contents.{contents_by, with_pending}
 use Rattle.journal.specs.OutcomeIndex.{CountsOutcomes}
+use Rattle.journal.proofs.Outcomes.{by-numbers}
 use Rattle.journal.proofs.Writes.{grouped, groups, none-pending}
 use Rattle.journal.proofs.journal.Journal.write_pending.Goals as goal
 
@@ -22,6 +23,8 @@ returns-clause-written g c = λ clean.
     let was = c.requires (c.put_group.ensures.clean clean) in
     let position : c.len-position.result ≡ length it.starts.items = omega (arith, c.len-position.ensures) in
     let new = g.S.Store.view c.put_group.new.store in
-    ap (with_pending (contents_of new.trees)) c.clear.ensures
-    ∙ none-pending (contents_of new.trees)
-    ∙ grouped (g.S.Store.view it.store) new c.len-position.result it.settled it.prepared it.starts.items it.header it.pending (c.in_ok-put_group.ensures.ok clean) was.0 position
+    let sets = c.in_ok-put_group.ensures.ok clean in
+    ap (with_pending (contents_by it.numbers new.trees)) c.clear.ensures
+    ∙ none-pending (contents_by it.numbers new.trees)
+    ∙ by-numbers new.trees (g.S.Store.view it.store).trees it.numbers _
+    (grouped (g.S.Store.view it.store) new c.len-position.result it.settled it.prepared it.starts.items it.header it.pending sets was.0 position) (ap (λ (v : View). v.trees 6) sets.is)
