@@ -6,6 +6,7 @@ use crate::http::patient::{Patient, Requests};
 use crate::http::replies;
 use crate::limits::LONGEST_HEAD;
 use crate::problem::{Problem, ProblemKind};
+use futures_util::stream::{FuturesUnordered, StreamExt};
 use hyper::server::conn::Http;
 use hyper::service::service_fn;
 use std::convert::Infallible;
@@ -44,6 +45,15 @@ pub enum Stage {
     /// What is open may end.
     Draining,
     /// Connections are closed when their request is answered.
+    Closing,
+}
+
+/// Why a connection is to end.
+#[derive(Clone, Copy, Debug, PartialEq, Eq)]
+enum Over {
+    /// Nothing was asked for long.
+    Rested,
+    /// The server closes.
     Closing,
 }
 
@@ -137,16 +147,27 @@ async fn answer_all<S: AsyncRead + AsyncWrite + Unpin + Send + 'static>(app: Arc
     });
     let connection = protocol(patience).serve_connection(Patient::new(stream, patience, Arc::clone(&requests)), service);
     tokio::pin!(connection);
-    let ended = tokio::select! {
-        ended = connection.as_mut() => ended,
-        () = requests.rest(LONGEST_REST) => Ok(()),
-        () = reaches(&mut stage, Stage::Closing) => {
-            connection.as_mut().graceful_shutdown();
-            tokio::select! {
-                ended = connection.as_mut() => ended,
-                () = requests.rest(LAST_ANSWERS) => Ok(()),
-            }
+    let over = async {
+        tokio::select! {
+            () = requests.rest(LONGEST_REST) => Over::Rested,
+            () = reaches(&mut stage, Stage::Closing) => Over::Closing,
         }
+    };
+    // a set of one is polled where that wakes, and not with each piece of the connection
+    let mut over = FuturesUnordered::from_iter([over]);
+    let ended = tokio::select! {
+        biased;
+        ended = connection.as_mut() => ended,
+        Some(why) = over.next() => match why {
+            Over::Rested => Ok(()),
+            Over::Closing => {
+                connection.as_mut().graceful_shutdown();
+                tokio::select! {
+                    ended = connection.as_mut() => ended,
+                    () = requests.rest(LAST_ANSWERS) => Ok(()),
+                }
+            }
+        },
     };
     if let Err(error) = ended {
         tracing::debug!(%peer, %error, "a connection broke off");

@@ -68,7 +68,8 @@ impl Drop for Request {
 struct Head {
     /// How many requests there were before it.
     before: usize,
-    deadline: Instant,
+    /// It is set where the head didn't come whole.
+    deadline: Option<Instant>,
 }
 
 /// A stream with limits.
@@ -110,10 +111,11 @@ impl<S> Patient<S> {
         if self.head.as_ref().is_some_and(|head| head.before != self.requests.begun()) {
             self.head = None;
         }
-        let Some(head) = &self.head else { return false };
-        let late = self.late.get_or_insert_with(|| Box::pin(sleep_until(head.deadline)));
-        if late.deadline() != head.deadline {
-            late.as_mut().reset(head.deadline);
+        let (Some(head), patience) = (&mut self.head, self.patience) else { return false };
+        let deadline = *head.deadline.get_or_insert_with(|| Instant::now() + patience);
+        let late = self.late.get_or_insert_with(|| Box::pin(sleep_until(deadline)));
+        if late.deadline() != deadline {
+            late.as_mut().reset(deadline);
         }
         late.as_mut().poll(context).is_ready()
     }
@@ -125,7 +127,7 @@ impl<S> Patient<S> {
             self.is_http_2 = bytes.starts_with(HTTP_2);
         }
         if self.head.is_none() && !self.is_http_2 && self.requests.are_answered() {
-            self.head = Some(Head { before: self.requests.begun(), deadline: Instant::now() + self.patience });
+            self.head = Some(Head { before: self.requests.begun(), deadline: None });
         }
     }
 }
