@@ -83,9 +83,10 @@ impl Recent {
     }
 }
 
+/// The power of two that the square isn't below: twice as many as those of the time itself.
 fn bucket(time: Duration) -> usize {
-    let micros = time.as_micros().max(1) as f64;
-    ((micros.log2() * 2.0) as usize).min(BUCKETS - 1)
+    let micros = time.as_micros().clamp(1, 1 << (BUCKETS / 2)) as u64;
+    ((micros * micros).ilog2() as usize).min(BUCKETS - 1)
 }
 
 /// The upper end, in milliseconds, of the times in which such a part of all is.
@@ -102,7 +103,7 @@ fn quantile(times: &[u64; BUCKETS], part: f64) -> Option<f64> {
 
 #[cfg(test)]
 mod tests {
-    use super::{Recent, KEPT};
+    use super::{bucket, Recent, BUCKETS, KEPT};
     use std::time::Duration;
 
     #[test]
@@ -113,6 +114,14 @@ mod tests {
         assert_eq!(recent.summary_at(3).commits, [3, 0, 1, 0]);
         let late = recent.summary_at(KEPT as u64);
         assert_eq!((late.commits.len(), late.commits[1], late.commits.iter().sum::<u32>()), (KEPT, 1, 1));
+    }
+
+    #[test]
+    fn a_bucket_ends_at_the_next_power_of_the_square_root_of_two() {
+        for (micros, place) in [(0, 0), (1, 0), (2, 2), (3, 3), (4, 4), (5, 4), (6, 5), (1_000, 19), (1_024, 20), (1_448, 20), (1_449, 21)] {
+            assert_eq!(bucket(Duration::from_micros(micros)), place, "{micros}");
+        }
+        assert_eq!([1 << 28, u64::MAX].map(|micros| bucket(Duration::from_micros(micros))), [BUCKETS - 1; 2]);
     }
 
     #[test]

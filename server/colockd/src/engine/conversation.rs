@@ -1,15 +1,14 @@
 //! One child: what is asked is written to it, and what it answers is handed on.
 
 use crate::engine::answer::Answer;
-use crate::engine::child::{kill, next_line, reap, Started};
+use crate::engine::child::{kill, reap, Started, LONGEST_ANSWER};
 use crate::engine::flight::Flight;
 use crate::engine::{Asked, Group, Listener, Outcome, Told};
 use crate::locks::locked;
 use std::fmt::Write;
-use std::io;
 use std::sync::{Arc, Mutex};
 use std::time::{Duration, Instant};
-use tokio::io::{AsyncWriteExt, BufReader};
+use tokio::io::{AsyncReadExt, AsyncWriteExt, BufReader};
 use tokio::process::{ChildStdin, ChildStdout};
 use tokio::sync::{mpsc, oneshot};
 use tokio::task::{yield_now, JoinHandle};
@@ -17,6 +16,9 @@ use tokio::time::{sleep, timeout};
 
 /// How many bytes of questions are written at once, but for a group that is longer by itself.
 const WRITTEN_AT_ONCE: usize = 32_768;
+
+/// The most bytes of answers that are read at once.
+const READ_AT_ONCE: usize = 65_536;
 
 /// How long a child may answer nothing that it was asked; then it is ended.
 pub const LONGEST_SILENCE: Duration = Duration::from_secs(60);
@@ -130,16 +132,16 @@ fn is_silent<A>(air: &Mutex<Air<A>>) -> bool {
 
 /// The lines of a group, and of those that were asked by now; how many questions these are, and whether the last is the end.
 fn gather<A>(group: Group<A>, unwritten: &mut mpsc::Receiver<Group<A>>, air: &Mutex<Air<A>>, lines: &mut String) -> (usize, bool) {
-    let mut air = locked(air);
+    let (mut air, now) = (locked(air), Instant::now());
     if air.flight.is_empty() {
-        air.answered = Instant::now();
+        air.answered = now;
     }
     let (mut next, mut count) = (Some(group), 0);
     while let Some(group) = next {
         count += 1 + group.rest.len();
         let is_end = group.is_end;
         for asked in std::iter::once(group.first).chain(group.rest) {
-            add_line(&mut air.flight, asked, lines);
+            add_line(&mut air.flight, asked, now, lines);
         }
         if is_end {
             return (count, true);
@@ -149,9 +151,9 @@ fn gather<A>(group: Group<A>, unwritten: &mut mpsc::Receiver<Group<A>>, air: &Mu
     (count, false)
 }
 
-fn add_line<A>(flight: &mut Flight<Waiter<A>>, asked: Asked<A>, lines: &mut String) {
+fn add_line<A>(flight: &mut Flight<Waiter<A>>, asked: Asked<A>, written: Instant, lines: &mut String) {
     let Asked { question, to } = asked;
-    let tag = flight.expect(question.form, Waiter { to, about: question.about, written: Instant::now() });
+    let tag = flight.expect(question.form, Waiter { to, about: question.about, written });
     // a string takes all that is written to it
     let _ = write!(lines, "{tag} ");
     lines.push_str(&question.words);
@@ -160,31 +162,70 @@ fn add_line<A>(flight: &mut Flight<Waiter<A>>, asked: Asked<A>, lines: &mut Stri
 
 /// Hands each answer to whoever asked; why there are no more.
 async fn read_all<A: 'static>(mut output: BufReader<ChildStdout>, air: Arc<Mutex<Air<A>>>, listener: Arc<dyn Listener<A>>) -> String {
-    let mut room = Vec::new();
+    let mut read = Vec::new();
     loop {
-        match next_line(&mut output, &mut room).await {
-            Ok(Some(line)) => {
-                if let Err(why) = hand_on(line, &air, &listener) {
-                    return why;
-                }
-            }
-            Ok(None) => return "its output has ended".to_string(),
-            Err(error) if error.kind() == io::ErrorKind::InvalidData => return "a line of its output is none".to_string(),
+        read.reserve(READ_AT_ONCE);
+        match output.read_buf(&mut read).await {
+            Ok(0) => return "its output has ended".to_string(),
+            Ok(_) => {}
             Err(error) => return format!("its output can't be read: {error}"),
+        }
+        match hand_on(&read, &air, &listener) {
+            Ok(count) => drop(read.drain(..count)),
+            Err(why) => return why,
         }
     }
 }
 
-fn hand_on<A: 'static>(line: &str, air: &Mutex<Air<A>>, listener: &Arc<dyn Listener<A>>) -> Result<(), String> {
+/// Hands on what the whole lines answer; how many bytes these are.
+fn hand_on<A: 'static>(read: &[u8], air: &Mutex<Air<A>>, listener: &Arc<dyn Listener<A>>) -> Result<usize, String> {
+    let (mut rest, now) = (read, Instant::now());
+    while let Some((line, behind)) = first_line(rest)? {
+        tell(line, now, air, listener)?;
+        rest = behind;
+    }
+    Ok(read.len() - rest.len())
+}
+
+/// The first line, without its LF, and what is behind it; nothing where its end isn't there.
+fn first_line(read: &[u8]) -> Result<Option<(&str, &[u8])>, String> {
+    let no_line = || "a line of its output is none".to_string();
+    let end = read.iter().position(|byte| *byte == b'\n');
+    if end.unwrap_or(read.len()) >= LONGEST_ANSWER as usize {
+        return Err(no_line());
+    }
+    let Some(end) = end else { return Ok(None) };
+    let line = std::str::from_utf8(&read[..end]).map_err(|_| no_line())?;
+    Ok(Some((line, &read[end + 1..])))
+}
+
+fn tell<A: 'static>(line: &str, now: Instant, air: &Mutex<Air<A>>, listener: &Arc<dyn Listener<A>>) -> Result<(), String> {
     let whole = {
         let mut air = locked(air);
-        air.answered = Instant::now();
+        air.answered = now;
         air.flight.take(line).map_err(|no_answer| no_answer.0)?
     };
     let Some(whole) = whole else { return Ok(()) };
     let answer = Answer::read(whole.line).ok_or_else(|| format!("no answer of a store: {}", whole.line.escape_debug()))?;
-    listener.answered(&whole.asker.about, answer, &whole.listed, whole.asker.written.elapsed());
+    listener.answered(&whole.asker.about, answer, &whole.listed, now.saturating_duration_since(whole.asker.written));
     // who doesn't wait any more needs no answer
     let _ = whole.asker.to.send(Ok(Told { listed: whole.listed, line: whole.line.to_string() }));
     Ok(())
+}
+
+#[cfg(test)]
+mod tests {
+    use super::first_line;
+
+    #[test]
+    fn lines_are_whole_and_not_too_long() {
+        assert_eq!(first_line(b"1 ok\n2 o"), Ok(Some(("1 ok", b"2 o".as_slice()))));
+        assert_eq!((first_line(b"2 o"), first_line(b"")), (Ok(None), Ok(None)));
+        let (longest, longer) = ("x".repeat(4_095), "x".repeat(4_096));
+        assert_eq!(first_line(format!("{longest}\n").as_bytes()), Ok(Some((longest.as_str(), b"".as_slice()))));
+        assert_eq!(first_line(longest.as_bytes()), Ok(None));
+        for none in [longer.as_bytes(), format!("{longer}\n").as_bytes(), b"1 \xff\n"] {
+            assert!(first_line(none).is_err());
+        }
+    }
 }

@@ -296,9 +296,11 @@ mod tests {
     use std::sync::{Arc, Mutex};
     use std::time::Duration;
 
-    /// A child that answers with what it is asked, dies, answers nonsense, or answers one line late.
+    /// A child that answers with what it is asked, dies, answers nonsense, also behind an answer, answers in two pieces, or answers one
+    /// line late.
     const SCRIPT: &str = "echo 'colock: a.db: 5 events, 1 aborted, 7 ms' >&2; echo colock 5 3; while read -r tag words; do case $words in \
-        die) exit 1;; nonsense) echo what;; end) echo $tag ok; exit 0;; late) late=$tag;; \
+        die) exit 1;; nonsense) echo what;; both) printf '%s ok both\\nwhat\\n' $tag;; \
+        pieces) printf '%s o' $tag; sleep 0.05; echo k pieces;; end) echo $tag ok; exit 0;; late) late=$tag;; \
         *) echo $tag ok $words; [ -n \"$late\" ] && echo $late ok late; late=;; esac; done";
 
     #[derive(Debug, Default)]
@@ -351,6 +353,15 @@ mod tests {
             assert_eq!(told(&engine, "a").await, Ok("ok a".to_string()), "{word}");
         }
         assert_eq!(locked(&seen.0).iter().filter(|line| *line == "lost").count(), 2);
+    }
+
+    #[tokio::test]
+    async fn an_answer_may_come_in_pieces_and_counts_also_where_nonsense_follows() {
+        let (engine, seen) = engine();
+        assert_eq!(told(&engine, "pieces").await, Ok("ok pieces".to_string()));
+        assert_eq!(told(&engine, "both").await, Ok("ok both".to_string()));
+        assert!(engine.end().await);
+        assert_eq!(locked(&seen.0)[..3], ["life 3", "0 Ok(\"pieces\")", "0 Ok(\"both\")"]);
     }
 
     #[tokio::test]
