@@ -11,6 +11,7 @@ pub mod locks;
 pub mod metrics;
 pub mod names;
 pub mod options;
+pub mod places;
 pub mod problem;
 pub mod program;
 pub mod recent;

@@ -5,7 +5,7 @@ use crate::recent::Recent;
 use crate::store::about::Cause;
 use prometheus::{Encoder, Histogram, HistogramOpts, HistogramVec, IntCounter, IntCounterVec, IntGauge, IntGaugeVec, Opts, Registry, TextEncoder};
 use std::collections::HashMap;
-use std::sync::Mutex;
+use std::sync::{Mutex, OnceLock};
 use std::time::Duration;
 
 /// How many objects are counted by name.
@@ -16,6 +16,9 @@ const SECONDS: [f64; 17] = [0.0001, 0.00025, 0.0005, 0.001, 0.0025, 0.005, 0.01,
 
 /// How many questions are written at once.
 const GROUPS: [f64; 10] = [1.0, 2.0, 4.0, 8.0, 16.0, 32.0, 64.0, 128.0, 256.0, 512.0];
+
+/// The routes that are asked for most often, with the status of what is done: their counts are found without a look into a table.
+const FREQUENT: [(&str, &str); 4] = [("attempts", "200"), ("begin", "201"), ("call", "200"), ("commit", "200")];
 
 /// All that is counted.
 #[derive(Debug)]
@@ -47,8 +50,8 @@ pub struct Metrics {
     /// Questions that are written at once.
     pub group_size: Histogram,
     commit_seconds: Histogram,
-    /// Seconds of a request, by its route and status.
-    pub request_seconds: HistogramVec,
+    request_seconds: HistogramVec,
+    frequent: [OnceLock<Histogram>; FREQUENT.len()],
     in_flight: IntGauge,
     /// Connections.
     pub connections: IntGauge,
@@ -85,6 +88,7 @@ impl Metrics {
             group_size: make.histogram("group_size", "Questions that were written to the store at once.", &GROUPS)?,
             commit_seconds: make.histogram("commit_seconds", "From the writing of a commit to its answer, with its syncs.", &SECONDS)?,
             request_seconds: make.histograms("request_seconds", "Requests, by route and status.", &["route", "status"])?,
+            frequent: Default::default(),
             in_flight: make.gauge("requests_in_flight", "Requests that are being answered.")?,
             connections: make.gauge("connections", "Connections.")?,
             refused_tokens: make.counter("refused_tokens_total", "Requests that were refused to a token, or for want of one.")?,
@@ -102,9 +106,18 @@ impl Metrics {
     }
 
     /// A request is being answered, until the result is dropped, also where its client goes away.
-    pub fn counts_request(&self) -> CountedRequest {
+    pub fn counts_request(&self) -> CountedRequest<'_> {
         self.in_flight.inc();
-        CountedRequest(self.in_flight.clone())
+        CountedRequest(&self.in_flight)
+    }
+
+    /// A request of a route was answered with a status, after so many seconds.
+    pub fn answered_request(&self, route: &str, status: &str, seconds: f64) {
+        let found = || self.request_seconds.with_label_values(&[route, status]);
+        match FREQUENT.iter().position(|frequent| *frequent == (route, status)) {
+            Some(place) => self.frequent[place].get_or_init(found).observe(seconds),
+            None => found().observe(seconds),
+        }
     }
 
     /// A call at an object was busy.
@@ -146,9 +159,9 @@ impl Metrics {
 
 /// A request that is counted.
 #[derive(Debug)]
-pub struct CountedRequest(IntGauge);
+pub struct CountedRequest<'m>(&'m IntGauge);
 
-impl Drop for CountedRequest {
+impl Drop for CountedRequest<'_> {
     fn drop(&mut self) {
         self.0.dec();
     }
@@ -219,10 +232,20 @@ mod tests {
         metrics.commits.inc();
         metrics.aborted(Cause::Idle, 2);
         metrics.answered_commit(Duration::from_millis(3));
-        metrics.request_seconds.with_label_values(&["attempts", "200"]).observe(0.001);
+        for (route, status) in [("attempts", "200"), ("attempts", "200"), ("attempts", "409"), ("metrics", "200")] {
+            metrics.answered_request(route, status, 0.001);
+        }
         let text = String::from_utf8(metrics.text(|_| String::new()).unwrap()).unwrap();
-        for line in ["colockd_commits_total 1", "colockd_aborts_total{cause=\"idle\"} 2", "colockd_commit_seconds_count 1"] {
+        for line in [
+            "colockd_commits_total 1",
+            "colockd_aborts_total{cause=\"idle\"} 2",
+            "colockd_commit_seconds_count 1",
+            "colockd_request_seconds_count{route=\"attempts\",status=\"200\"} 2",
+            "colockd_request_seconds_count{route=\"attempts\",status=\"409\"} 1",
+            "colockd_request_seconds_count{route=\"metrics\",status=\"200\"} 1",
+        ] {
             assert!(text.contains(line), "{line} in {text}");
         }
+        assert!(!text.contains("route=\"begin\""));
     }
 }

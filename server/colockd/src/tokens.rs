@@ -54,15 +54,19 @@ impl FromIterator<Right> for Rights {
 /// Who asks.
 #[derive(Clone, Debug, PartialEq, Eq)]
 pub struct Caller {
-    /// The name of the token.
-    pub name: Arc<str>,
+    token: Option<Arc<str>>,
     rights: Rights,
 }
 
 impl Caller {
     /// Anyone, who may do all.
     pub fn anyone() -> Caller {
-        Caller { name: Arc::from("anyone"), rights: Right::ALL.iter().map(|(_, right)| *right).collect() }
+        Caller { token: None, rights: Right::ALL.iter().map(|(_, right)| *right).collect() }
+    }
+
+    /// The name of the token.
+    pub fn name(&self) -> &str {
+        self.token.as_deref().unwrap_or("anyone")
     }
 
     /// Whether this is allowed.
@@ -169,7 +173,7 @@ fn token(line: &str) -> Result<Token, &'static str> {
     let rights = rights.split(',').map(right).collect::<Option<Rights>>().ok_or("a right is read, write, types or admin")?;
     let mut bytes = [0; 32];
     hex::decode_to_slice(hash, &mut bytes).map_err(|_| "the hash has to be the 64 hexadecimal digits of a SHA-256")?;
-    Ok(Token { hash: bytes, caller: Caller { name: Arc::from(name), rights } })
+    Ok(Token { hash: bytes, caller: Caller { token: Some(Arc::from(name)), rights } })
 }
 
 #[cfg(test)]
@@ -186,7 +190,7 @@ mod tests {
         let text = format!("# tokens\nshop read,write {}\nops admin {}\n", hex::encode(hash_of("secret")), hex::encode(hash_of("other")));
         let tokens = tokens(&text);
         let shop = tokens.caller("secret").unwrap();
-        assert_eq!((&*shop.name, shop.may(Right::Write), shop.may(Right::Admin)), ("shop", true, false));
+        assert_eq!((shop.name(), shop.may(Right::Write), shop.may(Right::Admin)), ("shop", true, false));
         assert_eq!(tokens.caller("other").map(|caller| caller.may(Right::Read)), Some(false));
         assert_eq!(tokens.caller("secret "), None);
         assert!(Caller::anyone().may(Right::Admin));

@@ -13,6 +13,7 @@ use crate::engine::answer::Answer;
 use crate::engine::child::{Greeting, Plan, Started};
 use crate::engine::conversation::{converse, How};
 use crate::engine::question::Question;
+use std::sync::atomic::{AtomicBool, Ordering};
 use std::sync::Arc;
 use std::time::{Duration, Instant};
 use tokio::sync::mpsc::error::TrySendError;
@@ -107,11 +108,13 @@ pub(crate) struct Group<A> {
 pub struct Engine<A> {
     groups: mpsc::Sender<Group<A>>,
     status: watch::Receiver<Status>,
+    /// What the status says, without the lock that is in it.
+    is_up: Arc<AtomicBool>,
 }
 
 impl<A> Clone for Engine<A> {
     fn clone(&self) -> Engine<A> {
-        Engine { groups: self.groups.clone(), status: self.status.clone() }
+        Engine { groups: self.groups.clone(), status: self.status.clone(), is_up: Arc::clone(&self.is_up) }
     }
 }
 
@@ -120,8 +123,9 @@ impl<A: Default + Send + 'static> Engine<A> {
     pub fn start(plan: Plan, listener: Arc<dyn Listener<A>>) -> Engine<A> {
         let (groups, unwritten) = mpsc::channel(MOST_UNWRITTEN);
         let (told, status) = watch::channel(Status::Away(0));
-        tokio::spawn(supervise(plan, unwritten, told, listener));
-        Engine { groups, status }
+        let is_up = Arc::new(AtomicBool::new(false));
+        tokio::spawn(supervise(plan, unwritten, Sign { status: told, is_up: Arc::clone(&is_up) }, listener));
+        Engine { groups, status, is_up }
     }
 
     /// Whether there is a store.
@@ -232,7 +236,7 @@ impl<A: Default + Send + 'static> Engine<A> {
 
     /// Puts a group where the store is up and there is room, which is so almost always; else it comes back.
     fn put_now(&self, group: Group<A>) -> Result<(), Group<A>> {
-        if !matches!(self.status(), Status::Up(_)) {
+        if !self.is_up.load(Ordering::Acquire) {
             return Err(group);
         }
         self.groups.try_send(group).map_err(|unput| match unput {
@@ -248,13 +252,22 @@ impl<A: Default + Send + 'static> Engine<A> {
     }
 }
 
-/// Starts one child after the other.
-async fn supervise<A: Default + Send + 'static>(
-    plan: Plan,
-    mut unwritten: mpsc::Receiver<Group<A>>,
+/// By which all know whether there is a store.
+#[derive(Debug)]
+struct Sign {
     status: watch::Sender<Status>,
-    listener: Arc<dyn Listener<A>>,
-) {
+    is_up: Arc<AtomicBool>,
+}
+
+impl Sign {
+    fn show(&self, status: Status) {
+        self.is_up.store(matches!(status, Status::Up(_)), Ordering::Release);
+        self.status.send_replace(status);
+    }
+}
+
+/// Starts one child after the other.
+async fn supervise<A: Default + Send + 'static>(plan: Plan, mut unwritten: mpsc::Receiver<Group<A>>, sign: Sign, listener: Arc<dyn Listener<A>>) {
     let (mut pause, mut failures) = (PAUSES.0, 0);
     loop {
         let start = Instant::now();
@@ -262,10 +275,10 @@ async fn supervise<A: Default + Send + 'static>(
             Ok(started) => {
                 info!(process = started.process(), life = started.greeting.life, "the store has begun");
                 listener.greeted(started.greeting);
-                status.send_replace(Status::Up(started.greeting));
+                sign.show(Status::Up(started.greeting));
                 let (how, unanswered) = converse(started, &mut unwritten, &listener).await;
                 failures = 0;
-                status.send_replace(if how == How::InOrder { Status::Ended } else { Status::Away(failures) });
+                sign.show(if how == How::InOrder { Status::Ended } else { Status::Away(failures) });
                 listener.lost();
                 // who asks for the status then knows that it is another one
                 unanswered.into_iter().for_each(|to| drop(to.send(Err(Lost::InFlight))));
@@ -277,7 +290,7 @@ async fn supervise<A: Default + Send + 'static>(
             Err(why) => {
                 error!(%why, "the store can't be started");
                 failures += 1;
-                status.send_replace(Status::Away(failures));
+                sign.show(Status::Away(failures));
             }
         }
         if start.elapsed() >= LONG_LIFE {

@@ -4,6 +4,7 @@ use crate::http::body::Room;
 use crate::http::request_id::{RequestId, Run};
 use crate::limits::Limits;
 use crate::metrics::Metrics;
+use crate::places::{Place, Places};
 use crate::problem::{Problem, ProblemKind};
 use crate::store::Store;
 use crate::tokens::{Caller, Right, Tokens};
@@ -33,7 +34,7 @@ pub struct App {
     pub slow: Duration,
     /// Whether others than this machine may ask without a token.
     pub is_insecure: bool,
-    requests: Arc<Semaphore>,
+    requests: Places,
     followers: Arc<Semaphore>,
     requests_begun: AtomicU64,
     run: Run,
@@ -53,7 +54,7 @@ impl App {
             bodies: Room::default(),
             slow: Duration::from_secs(1),
             is_insecure: false,
-            requests: Arc::new(Semaphore::new(limits.requests)),
+            requests: Places::new(limits.requests),
             followers: Arc::new(Semaphore::new(limits.followers)),
             requests_begun: AtomicU64::new(0),
             run: Run::drawn(),
@@ -115,9 +116,8 @@ impl App {
     /// # Errors
     ///
     /// A [`Problem`] where there is none.
-    pub fn admitted(&self) -> Result<OwnedSemaphorePermit, Problem> {
-        let place = Arc::clone(&self.requests).try_acquire_owned();
-        place.map_err(|_| Problem::from(ProblemKind::TooManyRequests).with("limit", self.limits.requests))
+    pub fn admitted(&self) -> Result<Place<'_>, Problem> {
+        self.requests.take().ok_or_else(|| Problem::from(ProblemKind::TooManyRequests).with("limit", self.limits.requests))
     }
 
     /// A place among those who follow the events.
@@ -151,7 +151,7 @@ impl App {
         if caller.may(right) {
             return Ok(());
         }
-        let words = format!("the token {} has no right to {}", caller.name, right.word());
+        let words = format!("the token {} has no right to {}", caller.name(), right.word());
         Err(Problem::new(ProblemKind::NoRight, words).with("right", right.word()))
     }
 

@@ -1,7 +1,7 @@
 //! Connections: as many as may be there, each with its requests.
 
 use crate::http::app::App;
-use crate::http::handling::handle;
+use crate::http::handling::{handle, Connection};
 use crate::http::patient::{Patient, Requests};
 use crate::http::replies;
 use crate::limits::LONGEST_HEAD;
@@ -136,9 +136,9 @@ fn protocol(patience: Duration) -> Http {
 /// Answers the requests of a connection.
 async fn answer_all<S: AsyncRead + AsyncWrite + Unpin + Send + 'static>(app: Arc<App>, stream: S, peer: SocketAddr, mut stage: watch::Receiver<Stage>) {
     let (patience, requests) = (app.limits.patience, Arc::new(Requests::default()));
-    let begun = Arc::clone(&requests);
+    let (begun, asking) = (Arc::clone(&requests), Arc::new(Connection { app, peer }));
     let service = service_fn(move |request| {
-        let (asked, answer) = (begun.begins(), handle(Arc::clone(&app), peer, request));
+        let (asked, answer) = (begun.begins(), handle(Arc::clone(&asking), request));
         async move {
             let answer = answer.await;
             drop(asked);

@@ -15,11 +15,19 @@ use std::future::Future;
 use std::net::SocketAddr;
 use std::sync::Arc;
 use std::time::{Duration, Instant};
-use tokio::sync::OwnedSemaphorePermit;
 
 static REQUEST_ID: HeaderName = HeaderName::from_static("x-request-id");
 
 static IDEMPOTENCY_KEY: HeaderName = HeaderName::from_static("idempotency-key");
+
+/// A connection, for its requests. Each of them has a part in it, and none in what all connections share.
+#[derive(Debug)]
+pub struct Connection {
+    /// What all share.
+    pub app: Arc<App>,
+    /// The other side.
+    pub peer: SocketAddr,
+}
 
 /// What an answer is found by.
 pub struct Asked {
@@ -46,27 +54,21 @@ impl Asked {
     }
 }
 
-/// A request that is answered by what it asks for.
-struct Admitted {
-    asked: Asked,
-    _place: Option<OwnedSemaphorePermit>,
-}
-
 /// Answers a request. What is asked is found out at once: the future is moved, and has only what it needs.
-pub fn handle(app: Arc<App>, peer: SocketAddr, request: Request<Body>) -> impl Future<Output = Response<Body>> + Send {
-    let (start, number) = (Instant::now(), app.next_number());
-    let counted = app.metrics.counts_request();
+pub fn handle(connection: Arc<Connection>, request: Request<Body>) -> impl Future<Output = Response<Body>> + Send {
+    let (start, number) = (Instant::now(), connection.app.next_number());
     let found = Action::of(request.method(), request.uri().path());
     let label = found.as_ref().map_or("none", Action::label);
-    let admitted = found.and_then(|action| admitted(&app, peer, action, request, app.id(number)));
+    let asked = found.and_then(|action| allowed(&connection, action, request, number));
     async move {
-        let _counted = counted;
-        let answered = match admitted {
-            Ok(Admitted { asked, _place }) => dispatch(&app, asked).await,
+        let app = &connection.app;
+        let _counted = app.metrics.counts_request();
+        let answered = match asked {
+            Ok(asked) => dispatch(app, asked).await,
             Err(problem) => Err(problem),
         };
         let mut response = answered.unwrap_or_else(|problem| replies::problem(&problem));
-        note(&app, app.id(number), label, response.status(), start.elapsed());
+        note(app, app.id(number), label, response.status(), start.elapsed());
         if let Some(id) = app.id(number).value() {
             response.headers_mut().insert(&REQUEST_ID, id);
         }
@@ -77,7 +79,7 @@ pub fn handle(app: Arc<App>, peer: SocketAddr, request: Request<Body>) -> impl F
 /// Counts a request that was answered, and logs it.
 fn note(app: &App, id: RequestId<'_>, label: &'static str, status: StatusCode, took: Duration) {
     let seconds = took.as_secs_f64();
-    app.metrics.request_seconds.with_label_values(&[label, status.as_str()]).observe(seconds);
+    app.metrics.answered_request(label, status.as_str(), seconds);
     if matches!(label, "attempts" | "commit") && took >= app.slow {
         tracing::warn!(%id, route = label, status = status.as_u16(), seconds, "a slow commit");
     }
@@ -85,23 +87,19 @@ fn note(app: &App, id: RequestId<'_>, label: &'static str, status: StatusCode, t
 }
 
 /// What is asked, where it may be.
-fn admitted(app: &App, peer: SocketAddr, action: Action, request: Request<Body>, id: RequestId<'_>) -> Result<Admitted, Problem> {
+fn allowed(Connection { app, peer }: &Connection, action: Action, request: Request<Body>, number: u64) -> Result<Asked, Problem> {
     if request.uri().path_and_query().map_or(0, |path| path.as_str().len()) > LONGEST_PATH {
         return Err(ProblemKind::LongPath.into());
     }
     let caller = known(app, &action, &request);
     if let Err(problem) = &caller {
         app.metrics.refused_tokens.inc();
-        tracing::warn!(%id, %peer, route = action.label(), problem = problem.kind.name(), caller = caller_name(app, request.headers()), "refused");
+        tracing::warn!(id = %app.id(number), %peer, route = action.label(), problem = problem.kind.name(), caller = caller_name(app, request.headers()), "refused");
     }
     let caller = caller?;
-    let place = match action {
-        Action::Healthz | Action::Events => None,
-        _ => Some(app.admitted()?),
-    };
     let (parts, body) = request.into_parts();
     let query = parts.uri.query().map(str::to_string);
-    Ok(Admitted { asked: Asked { action, caller, query, headers: parts.headers, body }, _place: place })
+    Ok(Asked { action, caller, query, headers: parts.headers, body })
 }
 
 /// Who asks, where it may.
@@ -118,11 +116,16 @@ fn known(app: &App, action: &Action, request: &Request<Body>) -> Result<Caller, 
 }
 
 fn caller_name(app: &App, headers: &HeaderMap) -> String {
-    app.caller(headers).map_or_else(|_| "unknown".to_string(), |caller| caller.name.to_string())
+    app.caller(headers).map_or_else(|_| "unknown".to_string(), |caller| caller.name().to_string())
 }
 
-/// Those that are asked most often are answered here. The futures of the others are boxed: each request would move the largest.
+/// Answers where there is a place. Those that are asked most often are answered here. The futures of the others are boxed: each
+/// request would move the largest.
 async fn dispatch(app: &Arc<App>, asked: Asked) -> Result<Response<Body>, Problem> {
+    let _place = match asked.action {
+        Action::Healthz | Action::Events => None,
+        _ => Some(app.admitted()?),
+    };
     match asked.action {
         Action::Attempt => attempts::attempt(app, asked).await,
         Action::Begin => transactions::begin(app, asked).await,

@@ -51,7 +51,7 @@ pub async fn begin(app: &App, mut asked: Asked) -> Result<Response<Body>, Proble
     app.begins()?;
     let wanted: BeginAsked = parsed_or_default(&asked.bytes(app).await?)?;
     let idle = wanted.idle.map_or(Ok(IDLE.0), |idle| seconds("idle", idle, IDLE.1))?;
-    let (owner, most) = (Arc::clone(&asked.caller.name), app.limits.open_of_token);
+    let (owner, most): (Arc<str>, _) = (Arc::from(asked.caller.name()), app.limits.open_of_token);
     if app.store.observer.open.count_of(&owner) >= most {
         return Err(Problem::from(ProblemKind::TooManyOfToken).with("limit", most));
     }
@@ -70,7 +70,7 @@ fn known(app: &App, caller: &Caller, name: TransactionName) -> Result<Known, Pro
         Known::Open(open) => &open.owner,
         Known::Ended(ended) => &ended.owner,
     };
-    if **owner == *caller.name || caller.may(Right::Admin) {
+    if **owner == *caller.name() || caller.may(Right::Admin) {
         return Ok(known);
     }
     Err(Problem::new(ProblemKind::NoRight, format!("transaction {name} is another token's")).with("right", Right::Admin.word()))
@@ -163,7 +163,7 @@ pub async fn abort(app: &App, asked: &Asked, name: TransactionName) -> Result<Re
         Known::Ended(Ended { standing: Standing::Aborted(_), .. }) => return Ok(aborted()),
         Known::Ended(_) => return Err(app.store.ended(name)),
     };
-    let is_own = *open.owner == *asked.caller.name;
+    let is_own = *open.owner == *asked.caller.name();
     if is_own && !asked.caller.may(Right::Admin) {
         app.allowed(&asked.caller, Right::Write)?;
     }
@@ -175,7 +175,7 @@ pub async fn abort(app: &App, asked: &Asked, name: TransactionName) -> Result<Re
 /// Those that are open; of a caller without the right `admin` its own.
 pub fn list(app: &App, asked: &Asked) -> Response<Body> {
     let all = app.store.observer.open.all();
-    let seen = all.iter().filter(|open| *open.owner == *asked.caller.name || asked.caller.may(Right::Admin));
+    let seen = all.iter().filter(|open| *open.owner == *asked.caller.name() || asked.caller.may(Right::Admin));
     ok(&value!({ "transactions": seen.map(|open| shown(&app.store, open)).collect::<Vec<_>>() }))
 }
 
