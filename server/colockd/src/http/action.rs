@@ -129,37 +129,62 @@ impl Action {
     ///
     /// A [`Problem`] where there is no such path, or it doesn't take the method.
     pub fn of(method: &Method, path: &str) -> Result<Action, Problem> {
-        let mut takes = taken_by(path).ok_or_else(|| Problem::new(ProblemKind::NoRoute, "there is no such path"))?;
-        let is_head = method == Method::HEAD;
-        let method = if is_head { &Method::GET } else { method };
-        let Some(place) = takes.iter().position(|(taken, _)| *taken == method) else {
-            let allow = takes.iter().map(|(taken, _)| taken.as_str()).collect::<Vec<_>>().join(", ");
-            return Err(Problem::new(ProblemKind::NoMethod, format!("{path} takes {allow}")).with("allow", allow));
-        };
-        Ok(takes.swap_remove(place).1)
+        let takes = taken_by(path).ok_or_else(|| Problem::new(ProblemKind::NoRoute, "there is no such path"))?;
+        let is_get = method == GET || method == Method::HEAD;
+        match takes {
+            Taken { get: Some(action), .. } if is_get => Ok(action),
+            Taken { other: Some((taken, action)), .. } if taken == method => Ok(action),
+            takes => {
+                let allow = takes.methods().collect::<Vec<_>>().join(", ");
+                Err(Problem::new(ProblemKind::NoMethod, format!("{path} takes {allow}")).with("allow", allow))
+            }
+        }
     }
 }
 
-/// The methods that a path takes, and what each of them asks.
-type Taken = Vec<(&'static Method, Action)>;
+/// What a path takes: what `GET` asks, and what another method does.
+#[derive(Debug)]
+struct Taken {
+    get: Option<Action>,
+    other: Option<(&'static Method, Action)>,
+}
+
+impl Taken {
+    fn by_get(action: Action) -> Taken {
+        Taken { get: Some(action), other: None }
+    }
+
+    fn by(method: &'static Method, action: Action) -> Taken {
+        Taken { get: None, other: Some((method, action)) }
+    }
+
+    fn and_by(self, method: &'static Method, action: Action) -> Taken {
+        Taken { other: Some((method, action)), ..self }
+    }
+
+    fn methods(&self) -> impl Iterator<Item = &str> {
+        let get = self.get.as_ref().map(|_| GET.as_str());
+        get.into_iter().chain(self.other.as_ref().map(|(method, _)| method.as_str()))
+    }
+}
 
 fn taken_by(path: &str) -> Option<Taken> {
     Some(match path {
-        "/" => vec![(GET, Action::Page)],
-        "/page.js" => vec![(GET, Action::Script)],
-        "/page.css" => vec![(GET, Action::Style)],
-        "/healthz" => vec![(GET, Action::Healthz)],
-        "/readyz" => vec![(GET, Action::Readyz)],
-        "/metrics" => vec![(GET, Action::Metrics)],
-        "/openapi.json" => vec![(GET, Action::OpenApi)],
-        "/v1/types" => vec![(GET, Action::ListTypes)],
-        "/v1/objects" => vec![(GET, Action::ListObjects), (POST, Action::AddObjects)],
-        "/v1/attempts" => vec![(POST, Action::Attempt)],
-        "/v1/transactions" => vec![(GET, Action::ListTransactions), (POST, Action::Begin)],
-        "/v1/prepared" => vec![(GET, Action::ListPrepared)],
-        "/v1/snapshot" => vec![(GET, Action::Snapshot)],
-        "/v1/events" => vec![(GET, Action::Events)],
-        "/v1/status" => vec![(GET, Action::Status)],
+        "/" => Taken::by_get(Action::Page),
+        "/page.js" => Taken::by_get(Action::Script),
+        "/page.css" => Taken::by_get(Action::Style),
+        "/healthz" => Taken::by_get(Action::Healthz),
+        "/readyz" => Taken::by_get(Action::Readyz),
+        "/metrics" => Taken::by_get(Action::Metrics),
+        "/openapi.json" => Taken::by_get(Action::OpenApi),
+        "/v1/types" => Taken::by_get(Action::ListTypes),
+        "/v1/objects" => Taken::by_get(Action::ListObjects).and_by(POST, Action::AddObjects),
+        "/v1/attempts" => Taken::by(POST, Action::Attempt),
+        "/v1/transactions" => Taken::by_get(Action::ListTransactions).and_by(POST, Action::Begin),
+        "/v1/prepared" => Taken::by_get(Action::ListPrepared),
+        "/v1/snapshot" => Taken::by_get(Action::Snapshot),
+        "/v1/events" => Taken::by_get(Action::Events),
+        "/v1/status" => Taken::by_get(Action::Status),
         _ => return taken_by_name(path),
     })
 }
@@ -167,31 +192,31 @@ fn taken_by(path: &str) -> Option<Taken> {
 fn taken_by_name(path: &str) -> Option<Taken> {
     if let Some(name) = path.strip_prefix("/v1/objects/") {
         let name = decoded(name)?;
-        return Some(vec![(GET, Action::GetObject(name.clone())), (PUT, Action::PutObject(name))]);
+        return Some(Taken::by_get(Action::GetObject(name.clone())).and_by(PUT, Action::PutObject(name)));
     }
     if let Some(name) = path.strip_prefix("/v1/types/") {
         let name = decoded(name)?;
-        return Some(vec![(GET, Action::GetType(name.clone())), (PUT, Action::PutType(name))]);
+        return Some(Taken::by_get(Action::GetType(name.clone())).and_by(PUT, Action::PutType(name)));
     }
     if let Some(name) = path.strip_prefix("/problems/") {
-        return Some(vec![(GET, Action::Explain(decoded(name)?))]);
+        return Some(Taken::by_get(Action::Explain(decoded(name)?)));
     }
     if let Some(key) = path.strip_prefix("/v1/decisions/") {
         let key = decoded(key)?;
-        return Some(vec![(GET, Action::GetDecision(key.clone())), (PUT, Action::Decide(key))]);
+        return Some(Taken::by_get(Action::GetDecision(key.clone())).and_by(PUT, Action::Decide(key)));
     }
     let rest = path.strip_prefix("/v1/transactions/")?;
     let (name, what) = rest.split_once('/').unwrap_or((rest, ""));
     let name: TransactionName = name.parse().ok()?;
-    Some(vec![match what {
-        "" => (GET, Action::GetTransaction(name)),
-        "calls" => (POST, Action::Call(name)),
-        "rollback" => (POST, Action::Rollback(name)),
-        "commit" => (POST, Action::Commit(name)),
-        "abort" => (POST, Action::Abort(name)),
-        "prepare" => (POST, Action::Prepare(name)),
+    Some(match what {
+        "" => Taken::by_get(Action::GetTransaction(name)),
+        "calls" => Taken::by(POST, Action::Call(name)),
+        "rollback" => Taken::by(POST, Action::Rollback(name)),
+        "commit" => Taken::by(POST, Action::Commit(name)),
+        "abort" => Taken::by(POST, Action::Abort(name)),
+        "prepare" => Taken::by(POST, Action::Prepare(name)),
         _ => return None,
-    }])
+    })
 }
 
 const GET: &Method = &Method::GET;

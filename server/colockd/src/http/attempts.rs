@@ -6,7 +6,7 @@ use crate::http::handling::{checked_key, key_in, Asked};
 use crate::http::replies::ok;
 use crate::limits::{LONGEST_WAIT, MOST_ATTEMPTS};
 use crate::problem::{Problem, ProblemKind};
-use crate::store::attempts::Attempt;
+use crate::store::attempts::{Attempt, Replies};
 use crate::store::calls::{resolved, CallAsked};
 use futures_util::future::join_all;
 use hyper::{Body, Response};
@@ -18,8 +18,9 @@ use std::time::Duration;
 /// An attempt as it is asked for.
 #[derive(Debug, Deserialize)]
 #[serde(deny_unknown_fields)]
-struct AttemptAsked {
-    calls: Vec<CallAsked>,
+struct AttemptAsked<'a> {
+    #[serde(borrow)]
+    calls: Vec<CallAsked<'a>>,
     #[serde(default)]
     wait: f64,
     key: Option<String>,
@@ -28,7 +29,7 @@ struct AttemptAsked {
 /// What came of it.
 #[derive(Debug, Serialize)]
 struct Done {
-    replies: Vec<String>,
+    replies: Replies,
 }
 
 /// Does what a request asks for.
@@ -57,7 +58,7 @@ fn is_list(bytes: &[u8]) -> bool {
 }
 
 /// What is asked for, with the key of the body or the header.
-fn attempt_of(app: &App, asked: AttemptAsked, header: Option<String>) -> Result<Attempt, Problem> {
+fn attempt_of(app: &App, asked: AttemptAsked<'_>, header: Option<String>) -> Result<Attempt, Problem> {
     let wait = seconds("wait", asked.wait, LONGEST_WAIT)?;
     let key = match (asked.key, header) {
         (Some(key), None) => Some(checked_key(&key)?),
@@ -70,13 +71,13 @@ fn attempt_of(app: &App, asked: AttemptAsked, header: Option<String>) -> Result<
 }
 
 /// Does one of a list.
-async fn one(app: &App, asked: AttemptAsked) -> Result<Done, Problem> {
+async fn one(app: &App, asked: AttemptAsked<'_>) -> Result<Done, Problem> {
     let replies = app.store.attempt(attempt_of(app, asked, None)?).await?;
     Ok(Done { replies })
 }
 
 /// Each of a list is done by itself, all at the same time; the answer is a list of what each would have been answered.
-async fn list(app: &App, all: Vec<AttemptAsked>, header: Option<&str>) -> Result<Response<Body>, Problem> {
+async fn list(app: &App, all: Vec<AttemptAsked<'_>>, header: Option<&str>) -> Result<Response<Body>, Problem> {
     if !(1..=MOST_ATTEMPTS).contains(&all.len()) {
         return Err(Problem::new(ProblemKind::LongList, format!("{} attempts, and 1 to {MOST_ATTEMPTS} may be there", all.len())).with("limit", MOST_ATTEMPTS));
     }
@@ -93,7 +94,7 @@ fn member(answer: Result<Done, Problem>) -> Value {
         Ok(done) => {
             let mut members = Map::new();
             members.insert("status".to_string(), 200.into());
-            members.insert("replies".to_string(), done.replies.into());
+            members.insert("replies".to_string(), done.replies.words().collect());
             Value::Object(members)
         }
         Err(problem) => Value::Object(problem.members()),

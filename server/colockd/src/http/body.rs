@@ -2,9 +2,9 @@
 
 use crate::limits::{Limits, LARGEST_BODIES};
 use crate::problem::{Problem, ProblemKind};
-use hyper::body::HttpBody;
+use hyper::body::{self, HttpBody};
 use hyper::Body;
-use serde::de::DeserializeOwned;
+use serde::de::{Deserialize, DeserializeOwned};
 use std::future::{poll_fn, Future};
 use std::ops::Deref;
 use std::sync::Arc;
@@ -13,7 +13,7 @@ use std::time::Duration;
 use tokio::sync::{OwnedSemaphorePermit, Semaphore};
 use tokio::time::timeout;
 
-/// How many bytes a permit is for.
+/// How many bytes a permit is for. A body that is no larger and comes whole needs none: it is where it was read.
 const BYTES_OF_PERMIT: usize = 4_096;
 
 /// The room for the bodies of all requests.
@@ -26,15 +26,23 @@ impl Default for Room {
     }
 }
 
-/// A body that was read, which has its room.
+/// A body that was read.
 #[derive(Debug)]
-pub struct Bytes {
-    /// The bytes.
-    pub bytes: Vec<u8>,
+pub enum Bytes {
+    /// It came whole, and is small.
+    Whole(body::Bytes),
+    /// It was put together, and has its room.
+    Gathered(Gathered),
+}
+
+/// Bytes that came in pieces.
+#[derive(Debug, Default)]
+pub struct Gathered {
+    bytes: Vec<u8>,
     permits: Vec<OwnedSemaphorePermit>,
 }
 
-impl Bytes {
+impl Gathered {
     /// Takes more bytes, where there is room.
     fn extend(&mut self, piece: &[u8], room: &Room) -> Result<(), Problem> {
         let wanted = (self.bytes.len() + piece.len()).div_ceil(BYTES_OF_PERMIT);
@@ -53,7 +61,10 @@ impl Deref for Bytes {
     type Target = [u8];
 
     fn deref(&self) -> &[u8] {
-        &self.bytes
+        match self {
+            Bytes::Whole(bytes) => bytes,
+            Bytes::Gathered(gathered) => &gathered.bytes,
+        }
     }
 }
 
@@ -66,19 +77,22 @@ pub async fn read(mut body: Body, limits: &Limits, room: &Room) -> Result<Bytes,
     if body.size_hint().lower() > limits.body as u64 {
         return Err(large(limits));
     }
-    let mut taken = Bytes { bytes: Vec::new(), permits: Vec::new() };
-    let all = async {
-        while let Some(piece) = body.data().await {
-            let piece = piece.map_err(|error| Problem::new(ProblemKind::BadBody, format!("the body breaks off: {error}")))?;
-            if taken.bytes.len() + piece.len() > limits.body {
-                return Err(large(limits));
-            }
-            taken.extend(&piece, room)?;
+    limited(limits.patience, all(&mut body, limits, room)).await.unwrap_or_else(|| Err(slow(limits.patience)))
+}
+
+async fn all(body: &mut Body, limits: &Limits, room: &Room) -> Result<Bytes, Problem> {
+    let mut gathered = Gathered::default();
+    while let Some(piece) = body.data().await {
+        let piece = piece.map_err(|error| Problem::new(ProblemKind::BadBody, format!("the body breaks off: {error}")))?;
+        if gathered.bytes.len() + piece.len() > limits.body {
+            return Err(large(limits));
         }
-        Ok(())
-    };
-    limited(limits.patience, all).await.ok_or_else(|| slow(limits.patience))??;
-    Ok(taken)
+        if gathered.bytes.is_empty() && piece.len() <= BYTES_OF_PERMIT && body.is_end_stream() {
+            return Ok(Bytes::Whole(piece));
+        }
+        gathered.extend(&piece, room)?;
+    }
+    Ok(Bytes::Gathered(gathered))
 }
 
 /// Waits for a future for so long. Where it is ready at its second poll, as a body is that came with its head, there is no timer.
@@ -114,8 +128,10 @@ fn slow(patience: Duration) -> Problem {
 /// # Errors
 ///
 /// A [`Problem`] with the line and the column.
-pub fn parsed<T: DeserializeOwned>(bytes: &[u8]) -> Result<T, Problem> {
-    serde_json::from_slice(bytes).map_err(|error| {
+pub fn parsed<'b, T: Deserialize<'b>>(bytes: &'b [u8]) -> Result<T, Problem> {
+    // a text is known to be one, and its words aren't looked at again
+    let read = std::str::from_utf8(bytes).map_or_else(|_| serde_json::from_slice(bytes), serde_json::from_str);
+    read.map_err(|error| {
         let problem = Problem::new(ProblemKind::BadBody, &error);
         problem.with("line", error.line()).with("column", error.column())
     })
@@ -161,7 +177,7 @@ mod tests {
 
     #[tokio::test]
     async fn bodies_are_as_large_as_they_may_be() {
-        assert_eq!(read(Body::from("12345678"), &limits(), &Room::default()).await.unwrap().bytes, b"12345678");
+        assert_eq!(&*read(Body::from("12345678"), &limits(), &Room::default()).await.unwrap(), b"12345678");
         assert_eq!(read(Body::from("123456789"), &limits(), &Room::default()).await.unwrap_err().kind, ProblemKind::LargeBody);
         let (mut sender, body) = Body::channel();
         tokio::spawn(async move { while sender.send_data("1234".into()).await.is_ok() {} });
@@ -179,8 +195,21 @@ mod tests {
             }
         };
         assert_eq!((kept.len(), full), (32, ProblemKind::TooManyRequests));
+        assert_eq!(read(in_pieces(["1", "2"]), &limits, &room).await.unwrap_err().kind, ProblemKind::TooManyRequests);
+        assert_eq!(&*read(Body::from("12"), &limits, &room).await.unwrap(), b"12");
         kept.clear();
-        assert!(read(Body::from("1"), &limits, &room).await.is_ok());
+        assert_eq!(&*read(in_pieces(["1", "2"]), &limits, &room).await.unwrap(), b"12");
+    }
+
+    fn in_pieces(pieces: [&'static str; 2]) -> Body {
+        let (mut sender, body) = Body::channel();
+        tokio::spawn(async move {
+            for piece in pieces {
+                // who found no room reads no more
+                let _ = sender.send_data(piece.into()).await;
+            }
+        });
+        body
     }
 
     #[tokio::test]
@@ -194,6 +223,8 @@ mod tests {
         let members = parsed::<Value>(b"{\n\"a\": }").unwrap_err().members();
         assert_eq!((members["line"].as_u64(), members["column"].as_u64()), (Some(2), Some(6)));
         assert_eq!(parsed_or_default::<Value>(b" \n"), Ok(Value::Null));
+        let members = parsed::<Value>(b"{\n\"\xff\"").unwrap_err().members();
+        assert_eq!(members["line"].as_u64(), Some(2));
         let deep = "[".repeat(100_000);
         assert!(parsed::<Value>(deep.as_bytes()).is_err());
     }

@@ -58,7 +58,7 @@ pub async fn follow(app: &Arc<App>, asked: &Asked) -> Result<Response<Body>, Pro
     let query = Query::of(asked.query.as_deref(), &["from", "last", "object", "follow"])?;
     let form = form_of(&asked.headers);
     let goes_on = query.read("follow")?.unwrap_or(true);
-    let object = query.one("object")?.map(|name| object_of(&ObjectAsked::Name(name.to_string()), &app.store.objects)).transpose()?;
+    let object = query.one("object")?.map(|name| object_of(&ObjectAsked::Name(name.into()), &app.store.objects)).transpose()?;
     let place = app.follows()?;
     let mut cursor = start(app, &query, &asked.headers).await?;
     // what is wrong with the beginning is answered by a status

@@ -75,7 +75,7 @@ fn limit_of(query: &Query) -> Result<usize, Problem> {
 ///
 /// A [`Problem`] where there is none.
 pub async fn get(app: &App, name: &str) -> Result<Response<Body>, Problem> {
-    let object = object_of(&ObjectAsked::Name(name.to_string()), &app.store.objects)?;
+    let object = object_of(&ObjectAsked::Name(name.into()), &app.store.objects)?;
     let seen = app.store.snapshot(&[Arc::clone(&object)], None).await?;
     let mut shown = entry(&object);
     shown["state"] = seen.words.first().map_or(Value::Null, |word| number(word));
@@ -191,7 +191,7 @@ pub async fn snapshot(app: &App, asked: &Asked) -> Result<Response<Body>, Proble
 }
 
 fn objects_in(app: &App, query: &Query) -> Result<Vec<Arc<ObjectEntry>>, Problem> {
-    let named = query.all("object").map(|name| object_of(&ObjectAsked::Name(name.to_string()), &app.store.objects));
+    let named = query.all("object").map(|name| object_of(&ObjectAsked::Name(name.into()), &app.store.objects));
     let mut objects = named.collect::<Result<Vec<_>, _>>()?;
     if let Some(prefix) = query.one("prefix")? {
         let page = app.store.objects.page(prefix, None, LARGEST_SNAPSHOT + 2);

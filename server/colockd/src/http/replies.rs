@@ -1,10 +1,12 @@
 //! How answers are written.
 
 use crate::problem::{Problem, ProblemKind};
+use hyper::body::Bytes;
 use hyper::header::{HeaderValue, ALLOW, CACHE_CONTROL, CONTENT_TYPE, RETRY_AFTER, WWW_AUTHENTICATE};
 use hyper::{Body, Response, StatusCode};
 use serde::Serialize;
 use serde_json::Value;
+use std::cell::RefCell;
 
 /// An answer with a body of a type.
 pub fn text(status: StatusCode, kind: &'static str, body: impl Into<Body>) -> Response<Body> {
@@ -15,12 +17,30 @@ pub fn text(status: StatusCode, kind: &'static str, body: impl Into<Body>) -> Re
     response
 }
 
+thread_local! {
+    /// Where a thread writes its answers, one after the other: so each is as long as its own memory.
+    static ROOM: RefCell<Vec<u8>> = const { RefCell::new(Vec::new()) };
+}
+
+/// How many bytes of room a thread keeps.
+const KEPT: usize = 65_536;
+
 /// An answer in JSON.
 pub fn json(status: StatusCode, value: &impl Serialize) -> Response<Body> {
-    match serde_json::to_vec(value) {
+    match written(value) {
         Ok(body) => text(status, "application/json", body),
         Err(error) => problem(&Problem::new(ProblemKind::Internal, error)),
     }
+}
+
+fn written(value: &impl Serialize) -> serde_json::Result<Bytes> {
+    ROOM.with_borrow_mut(|room| {
+        room.clear();
+        serde_json::to_writer(&mut *room, value)?;
+        let body = Bytes::copy_from_slice(room);
+        room.shrink_to(KEPT);
+        Ok(body)
+    })
 }
 
 /// It is done, and this came of it.

@@ -1,7 +1,11 @@
 //! Ids of requests, by which an answer is found in the log.
 
+use hyper::body::Bytes;
 use hyper::header::HeaderValue;
-use std::fmt::{self, Display, Write};
+use std::fmt::{self, Display};
+
+/// The hexadecimal digits of a number.
+const DIGITS: usize = 16;
 
 /// A run of the server: its requests have one beginning.
 #[derive(Debug)]
@@ -37,9 +41,14 @@ impl Display for RequestId<'_> {
 impl RequestId<'_> {
     /// As a header has it.
     pub fn value(self) -> Option<HeaderValue> {
-        let mut text = String::with_capacity(self.run.len() + 17);
-        write!(text, "{self}").ok()?;
-        HeaderValue::try_from(text).ok()
+        let mut digits = [0; DIGITS];
+        hex::encode_to_slice(self.number.to_be_bytes(), &mut digits).ok()?;
+        let zeros = digits.iter().take(DIGITS - 1).take_while(|digit| **digit == b'0').count();
+        let mut text = Vec::with_capacity(self.run.len() + 1 + DIGITS - zeros);
+        text.extend_from_slice(self.run.as_bytes());
+        text.push(b'-');
+        text.extend_from_slice(&digits[zeros..]);
+        HeaderValue::from_maybe_shared(Bytes::from(text)).ok()
     }
 }
 
@@ -51,7 +60,10 @@ mod tests {
     fn ids_say_the_run_and_the_number() {
         let run = Run("00000000000000a5".to_string());
         assert_eq!(run.request(0x1f).to_string(), "00000000000000a5-1f");
-        assert_eq!(run.request(u64::MAX).value().unwrap(), "00000000000000a5-ffffffffffffffff");
+        for (number, id) in [(0, "00000000000000a5-0"), (0x1f0, "00000000000000a5-1f0"), (u64::MAX, "00000000000000a5-ffffffffffffffff")] {
+            assert_eq!(run.request(number).value().unwrap(), id);
+            assert_eq!(run.request(number).to_string(), id);
+        }
     }
 
     #[test]

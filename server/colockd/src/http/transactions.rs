@@ -30,8 +30,9 @@ struct BeginAsked {
 
 #[derive(Debug, Deserialize)]
 #[serde(deny_unknown_fields)]
-struct CallsAsked {
-    calls: Vec<CallAsked>,
+struct CallsAsked<'a> {
+    #[serde(borrow)]
+    calls: Vec<CallAsked<'a>>,
     #[serde(default)]
     wait: f64,
 }
@@ -96,9 +97,11 @@ pub fn open(app: &App, caller: &Caller, name: TransactionName) -> Result<Arc<Ope
 pub async fn call(app: &App, mut asked: Asked, name: TransactionName) -> Result<Response<Body>, Problem> {
     let open = open(app, &asked.caller, name)?;
     let _used = open.used();
-    let wanted: CallsAsked = parsed(&asked.bytes(app).await?)?;
+    let bytes = asked.bytes(app).await?;
+    let wanted: CallsAsked<'_> = parsed(&bytes)?;
     let deadline = Instant::now() + wait_of(wanted.wait)?;
     let calls = resolved(wanted.calls, &app.store.objects)?;
+    drop(bytes);
     let _turn = open.turn.lock().await;
     let mut replies: Vec<String> = Vec::with_capacity(calls.len());
     for (place, call) in calls.iter().enumerate() {

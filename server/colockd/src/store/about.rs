@@ -2,7 +2,8 @@
 
 use crate::names::TransactionName;
 use crate::store::bell::Bell;
-use colock_waiting::{Age, Asker, Class, Number, ObjectIndex};
+use crate::store::calls::Call;
+use colock_waiting::{Age, Asker, Number};
 use std::sync::Arc;
 use std::time::Duration;
 
@@ -76,8 +77,8 @@ pub struct Hold {
 /// The calls of a whole transaction.
 #[derive(Debug)]
 pub struct AttemptCalls {
-    /// Of each its object and its class.
-    pub calls: Vec<(ObjectIndex, Class)>,
+    /// Each of them.
+    pub calls: Vec<Call>,
     /// What it is among those that wait, where it may wait.
     pub place: Option<AttemptPlace>,
 }

@@ -10,6 +10,7 @@ use crate::store::bell::Bell;
 use crate::store::calls::{add_words, Call};
 use crate::store::waits::Stay;
 use crate::store::Store;
+use serde::{Serialize, Serializer};
 use std::sync::Arc;
 use std::time::Duration;
 use tokio::time::{sleep, Instant};
@@ -34,38 +35,58 @@ pub struct Attempt {
     pub wait: Duration,
 }
 
-impl Attempt {
-    /// The line that asks for it.
-    fn line(&self) -> String {
-        let mut line = String::with_capacity(16 + 24 * self.calls.len());
-        line.push_str("do");
-        if let Some(key) = &self.key {
-            line.push_str(" =");
-            line.push_str(key);
-        }
-        add_words(&mut line, &self.calls);
-        line
+/// The replies of a whole transaction, in the line that told them behind `done`.
+#[derive(Debug)]
+pub struct Replies(String);
+
+impl Replies {
+    /// Each of them, in the order of the calls.
+    pub fn words(&self) -> impl Iterator<Item = &str> {
+        self.0.split_terminator(' ').skip(1)
+    }
+}
+
+impl Serialize for Replies {
+    fn serialize<S: Serializer>(&self, serializer: S) -> Result<S::Ok, S::Error> {
+        serializer.collect_seq(self.words())
     }
 }
 
 /// What is done after a try.
 enum Next {
-    Done(Vec<String>),
+    Done(Replies),
     Again,
     WaitForBell(Problem),
     Sleep(Instant, ProblemKind),
     Ends(Problem),
 }
 
-/// Until when an attempt is tried, and how it is woken.
+/// An attempt that is tried until a moment, and how it is woken.
 struct Trying {
     start: Instant,
     deadline: Instant,
+    key: Option<String>,
     about: Arc<AttemptCalls>,
     _stay: Option<Stay>,
 }
 
 impl Trying {
+    fn calls(&self) -> &[Call] {
+        &self.about.calls
+    }
+
+    /// The line that asks for it.
+    fn line(&self) -> String {
+        let mut line = String::with_capacity(16 + 24 * self.calls().len());
+        line.push_str("do");
+        if let Some(key) = &self.key {
+            line.push_str(" =");
+            line.push_str(key);
+        }
+        add_words(&mut line, self.calls());
+        line
+    }
+
     fn bell(&self) -> Option<&Arc<Bell>> {
         self.about.place.as_ref().map(|place| &place.bell)
     }
@@ -77,13 +98,12 @@ impl Store {
     /// # Errors
     ///
     /// A [`Problem`] where it isn't done.
-    pub async fn attempt(&self, attempt: Attempt) -> Result<Vec<String>, Problem> {
-        let trying = self.trying(&attempt);
-        let line = attempt.line();
+    pub async fn attempt(&self, attempt: Attempt) -> Result<Replies, Problem> {
+        let trying = self.trying(attempt);
         let mut has_waited = false;
         let done = loop {
-            let told = self.engine.ask(Question::about(line.as_str(), About::Attempt(Arc::clone(&trying.about)))).await;
-            match self.next(&attempt, &trying, told) {
+            let told = self.engine.ask(Question::about(trying.line(), About::Attempt(Arc::clone(&trying.about)))).await;
+            match self.next(&trying, told) {
                 Next::Done(replies) => break Ok(replies),
                 Next::Ends(problem) => break Err(problem),
                 Next::Again => {}
@@ -105,42 +125,41 @@ impl Store {
         done
     }
 
-    fn trying(&self, attempt: &Attempt) -> Trying {
+    fn trying(&self, Attempt { calls, key, wait }: Attempt) -> Trying {
         let start = Instant::now();
         let waits = &self.observer.waits;
-        let place = (!attempt.wait.is_zero()).then(|| {
+        let place = (!wait.is_zero()).then(|| {
             let (number, age) = waits.next_attempt();
             AttemptPlace { number, age, bell: Arc::new(Bell::default()) }
         });
         let stay = place.as_ref().map(|place| Stay::of(waits, place.number));
-        let about = Arc::new(AttemptCalls { calls: attempt.calls.iter().map(Call::at).collect(), place });
-        Trying { start, deadline: start + attempt.wait, about, _stay: stay }
+        Trying { start, deadline: start + wait, key, about: Arc::new(AttemptCalls { calls, place }), _stay: stay }
     }
 
-    fn next(&self, attempt: &Attempt, trying: &Trying, told: Result<Told, Lost>) -> Next {
+    fn next(&self, trying: &Trying, told: Result<Told, Lost>) -> Next {
         let told = match told {
             Ok(told) => told,
-            Err(lost) => return self.lost(attempt, trying, lost),
+            Err(lost) => return lost_at(trying, lost),
         };
         match told.answer() {
-            Some(Answer::Done(replies)) => Next::Done(replies.split_terminator(' ').map(str::to_string).collect()),
-            Some(Answer::BusyAt(place, blocker)) => Next::WaitForBell(busy(&attempt.calls, place, blocker)),
-            Some(Answer::IllegalAt(place)) => Next::Ends(at(&attempt.calls, place, ProblemKind::Illegal, "no operation of it is legal now")),
-            Some(Answer::RefusedAt(place, refusal)) => Next::Ends(at(&attempt.calls, place, refused(refusal), "the store refuses it")),
+            Some(Answer::Done(_)) => Next::Done(Replies(told.line)),
+            Some(Answer::BusyAt(place, blocker)) => Next::WaitForBell(busy(trying.calls(), place, blocker)),
+            Some(Answer::IllegalAt(place)) => Next::Ends(at(trying.calls(), place, ProblemKind::Illegal, "no operation of it is legal now")),
+            Some(Answer::RefusedAt(place, refusal)) => Next::Ends(at(trying.calls(), place, refused(refusal), "the store refuses it")),
             Some(Answer::Drain) => Next::Sleep(trying.deadline.max(trying.start + self.drain + NEXT_EPOCH), ProblemKind::EpochEnding),
             Some(Answer::Refused(Refusal::TooManyOpen)) => Next::Sleep(trying.deadline, ProblemKind::TooManyOpen),
             Some(Answer::Refused(refusal)) => Next::Ends(Problem::new(refused(refusal), format!("the store refuses it: {refusal}"))),
             _ => Next::Ends(unexpected(&told)),
         }
     }
+}
 
-    /// Under a key it is safe to ask again.
-    fn lost(&self, attempt: &Attempt, trying: &Trying, lost: Lost) -> Next {
-        match lost {
-            _ if attempt.key.is_some() && trying.start.elapsed() < LONGEST_ASKING => Next::Again,
-            Lost::Unasked => Next::Ends(ProblemKind::StoreAway.into()),
-            Lost::InFlight => Next::Ends(ProblemKind::OutcomeUnknown.into()),
-        }
+/// Under a key it is safe to ask again.
+fn lost_at(trying: &Trying, lost: Lost) -> Next {
+    match lost {
+        _ if trying.key.is_some() && trying.start.elapsed() < LONGEST_ASKING => Next::Again,
+        Lost::Unasked => Next::Ends(ProblemKind::StoreAway.into()),
+        Lost::InFlight => Next::Ends(ProblemKind::OutcomeUnknown.into()),
     }
 }
 

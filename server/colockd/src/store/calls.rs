@@ -7,20 +7,21 @@ use crate::store::objects::{ObjectEntry, SharedObjects};
 use colock_waiting::{Class, ObjectIndex};
 use serde::de::{Error, Unexpected, Visitor};
 use serde::{Deserialize, Deserializer};
+use std::borrow::Cow;
 use std::fmt::{self, Write};
 use std::sync::Arc;
 
 /// An object as it is asked for.
 #[derive(Clone, Debug, PartialEq, Eq)]
-pub enum ObjectAsked {
+pub enum ObjectAsked<'a> {
     /// By its name.
-    Name(String),
+    Name(Cow<'a, str>),
     /// By its number.
     Number(u32),
 }
 
-impl<'de> Deserialize<'de> for ObjectAsked {
-    fn deserialize<D: Deserializer<'de>>(deserializer: D) -> Result<ObjectAsked, D::Error> {
+impl<'de: 'a, 'a> Deserialize<'de> for ObjectAsked<'a> {
+    fn deserialize<D: Deserializer<'de>>(deserializer: D) -> Result<ObjectAsked<'a>, D::Error> {
         deserializer.deserialize_any(OfObject)
     }
 }
@@ -28,23 +29,27 @@ impl<'de> Deserialize<'de> for ObjectAsked {
 /// Takes a text as a name.
 struct OfObject;
 
-impl Visitor<'_> for OfObject {
-    type Value = ObjectAsked;
+impl<'de> Visitor<'de> for OfObject {
+    type Value = ObjectAsked<'de>;
 
     fn expecting(&self, f: &mut fmt::Formatter<'_>) -> fmt::Result {
         f.write_str("the name or the number of an object")
     }
 
-    fn visit_str<E: Error>(self, name: &str) -> Result<ObjectAsked, E> {
-        Ok(ObjectAsked::Name(name.to_string()))
+    fn visit_borrowed_str<E: Error>(self, name: &'de str) -> Result<ObjectAsked<'de>, E> {
+        Ok(ObjectAsked::Name(Cow::Borrowed(name)))
     }
 
-    fn visit_u64<E: Error>(self, number: u64) -> Result<ObjectAsked, E> {
+    fn visit_str<E: Error>(self, name: &str) -> Result<ObjectAsked<'de>, E> {
+        Ok(ObjectAsked::Name(Cow::Owned(name.to_string())))
+    }
+
+    fn visit_u64<E: Error>(self, number: u64) -> Result<ObjectAsked<'de>, E> {
         u32::try_from(number).map(ObjectAsked::Number).map_err(|_| E::invalid_value(Unexpected::Unsigned(number), &self))
     }
 }
 
-impl fmt::Display for ObjectAsked {
+impl fmt::Display for ObjectAsked<'_> {
     fn fmt(&self, f: &mut fmt::Formatter<'_>) -> fmt::Result {
         match self {
             ObjectAsked::Name(name) => f.write_str(name),
@@ -56,9 +61,10 @@ impl fmt::Display for ObjectAsked {
 /// A call as it is asked for.
 #[derive(Clone, Debug, Deserialize, PartialEq, Eq)]
 #[serde(deny_unknown_fields)]
-pub struct CallAsked {
+pub struct CallAsked<'a> {
     /// The object.
-    pub object: ObjectAsked,
+    #[serde(borrow)]
+    pub object: ObjectAsked<'a>,
     /// The name of the call.
     pub call: String,
 }
@@ -92,14 +98,18 @@ impl Call {
 /// # Errors
 ///
 /// A [`Problem`] at the first call that isn't one.
-pub fn resolved(asked: Vec<CallAsked>, objects: &SharedObjects) -> Result<Vec<Call>, Problem> {
+pub fn resolved(asked: Vec<CallAsked<'_>>, objects: &SharedObjects) -> Result<Vec<Call>, Problem> {
     if !(1..=MOST_CALLS).contains(&asked.len()) {
         return Err(Problem::new(ProblemKind::TooManyCalls, format!("{} calls, and 1 to {MOST_CALLS} may be there", asked.len())));
     }
-    asked.into_iter().enumerate().map(|(place, asked)| call_of(place, asked, objects)).collect()
+    let mut calls = Vec::with_capacity(asked.len());
+    for (place, asked) in asked.into_iter().enumerate() {
+        calls.push(call_of(place, asked, objects)?);
+    }
+    Ok(calls)
 }
 
-fn call_of(place: usize, asked: CallAsked, objects: &SharedObjects) -> Result<Call, Problem> {
+fn call_of(place: usize, asked: CallAsked<'_>, objects: &SharedObjects) -> Result<Call, Problem> {
     let CallAsked { object, call } = asked;
     let object = object_of(&object, objects).map_err(|problem| problem.with("place", place))?;
     if !is_name(&call) {
@@ -117,7 +127,7 @@ fn call_of(place: usize, asked: CallAsked, objects: &SharedObjects) -> Result<Ca
 /// # Errors
 ///
 /// A [`Problem`] where there is none.
-pub fn object_of(asked: &ObjectAsked, objects: &SharedObjects) -> Result<Arc<ObjectEntry>, Problem> {
+pub fn object_of(asked: &ObjectAsked<'_>, objects: &SharedObjects) -> Result<Arc<ObjectEntry>, Problem> {
     let found = match asked {
         ObjectAsked::Name(name) if !is_object_name(name) => {
             let words = format!("{:?} isn't the name of an object: 1 to 64 of a-z A-Z 0-9 _ : - . /", shown(name));
@@ -155,7 +165,7 @@ mod tests {
         objects
     }
 
-    fn asked(text: &str) -> Vec<CallAsked> {
+    fn asked(text: &str) -> Vec<CallAsked<'_>> {
         serde_json::from_str(text).unwrap()
     }
 
@@ -167,6 +177,7 @@ mod tests {
     fn objects_are_asked_for_by_name_or_number() {
         let calls = asked(r#"[{"object": "a", "call": "hold"}, {"object": 1, "call": "hold"}]"#);
         assert_eq!(calls[1].object, ObjectAsked::Number(1));
+        assert_eq!(asked(r#"[{"object": "\u0061", "call": "hold"}]"#)[0].object, calls[0].object);
         let mut line = "do".to_string();
         add_words(&mut line, &resolved(calls, &objects()).unwrap());
         assert_eq!(line, "do 0 hold 1 hold");
@@ -176,7 +187,7 @@ mod tests {
     fn what_is_neither_a_name_nor_a_number_is_told() {
         for wrong in ["true", "4294967296", "-1", "null", "1.5", "[]"] {
             let text = format!(r#"[{{"object": {wrong}, "call": "hold"}}]"#);
-            let told = serde_json::from_str::<Vec<CallAsked>>(&text).unwrap_err().to_string();
+            let told = serde_json::from_str::<Vec<CallAsked<'_>>>(&text).unwrap_err().to_string();
             assert!(told.contains("expected the name or the number of an object"), "{wrong}: {told}");
         }
     }

@@ -7,6 +7,7 @@ use crate::metrics::Metrics;
 use crate::names::{number_of, TransactionName};
 use crate::store::about::{About, AttemptCalls, Cause, Ending, Hold};
 use crate::store::bell::Bell;
+use crate::store::calls::Call;
 use crate::store::open::{Held, Known, OpenTransactions, Standing};
 use crate::store::waits::Waits;
 use colock_waiting::{Asker, Number, Touched};
@@ -104,12 +105,12 @@ impl Observer {
         match answer {
             Answer::Done(_) => {
                 self.metrics.commits.inc();
-                let touched: Touched = attempt.calls.iter().map(|(object, _)| *object).collect();
+                let touched: Touched = attempt.calls.iter().map(|call| call.at().0).collect();
                 self.waits.ended(attempt.place.as_ref().map_or(NOBODY, |place| place.number), touched);
             }
             Answer::BusyAt(place, blocker) => {
                 self.told_life(blocker.life);
-                let Some(&(object, call)) = attempt.calls.get(place) else { return };
+                let Some((object, call)) = attempt.calls.get(place).map(Call::at) else { return };
                 self.metrics.busy(object.0);
                 if let Some(place) = &attempt.place {
                     let asker = Asker { number: place.number, age: place.age, object, call };
@@ -238,8 +239,11 @@ mod tests {
     use crate::names::TransactionName;
     use crate::store::about::{About, AttemptCalls, AttemptPlace, Beginning, Cause, Ending, Hold};
     use crate::store::bell::{Bell, Woken};
-    use crate::store::objects::SharedObjects;
+    use crate::store::calls::Call;
+    use crate::store::objects::{ObjectEntry, SharedObjects};
     use crate::store::open::Standing;
+    use crate::store::recovery::Recovery;
+    use crate::store::type_text::TypeText;
     use colock_waiting::{Age, Asker, Class, Number, ObjectIndex};
     use std::sync::Arc;
     use std::time::Duration;
@@ -356,7 +360,9 @@ mod tests {
         let (number, age) = observer.waits.next_attempt();
         let bell = Arc::new(Bell::default());
         let place = AttemptPlace { number, age, bell: Arc::clone(&bell) };
-        (About::Attempt(Arc::new(AttemptCalls { calls: vec![(ObjectIndex(7), Class(0))], place: Some(place) })), bell)
+        let object = Arc::new(ObjectEntry { number: 7, name: None, recovery: Recovery::Undo, of: Arc::new(TypeText::read("type t\nop x ok\nend\n")) });
+        let calls = vec![Call { object, name: "x".to_string(), class: 0 }];
+        (About::Attempt(Arc::new(AttemptCalls { calls, place: Some(place) })), bell)
     }
 
     async fn rung(bell: &Bell) -> Option<Woken> {
