@@ -5,7 +5,6 @@ use crate::engine::child::{kill, reap, Started, LONGEST_ANSWER};
 use crate::engine::flight::Flight;
 use crate::engine::{Asked, Group, Listener, Outcome, Told};
 use crate::locks::locked;
-use std::fmt::Write;
 use std::sync::{Arc, Mutex};
 use std::time::{Duration, Instant};
 use tokio::io::{AsyncReadExt, AsyncWriteExt, BufReader};
@@ -138,11 +137,10 @@ fn gather<A>(group: Group<A>, unwritten: &mut mpsc::Receiver<Group<A>>, air: &Mu
     }
     let (mut next, mut count) = (Some(group), 0);
     while let Some(group) = next {
-        count += 1 + group.rest.len();
-        let is_end = group.is_end;
-        for asked in std::iter::once(group.first).chain(group.rest) {
-            add_line(&mut air.flight, asked, now, lines);
-        }
+        let Group { first, rest, is_end } = group;
+        count += 1 + rest.len();
+        add_line(&mut air.flight, first, now, lines);
+        rest.into_iter().for_each(|asked| add_line(&mut air.flight, asked, now, lines));
         if is_end {
             return (count, true);
         }
@@ -154,8 +152,8 @@ fn gather<A>(group: Group<A>, unwritten: &mut mpsc::Receiver<Group<A>>, air: &Mu
 fn add_line<A>(flight: &mut Flight<Waiter<A>>, asked: Asked<A>, written: Instant, lines: &mut String) {
     let Asked { question, to } = asked;
     let tag = flight.expect(question.form, Waiter { to, about: question.about, written });
-    // a string takes all that is written to it
-    let _ = write!(lines, "{tag} ");
+    lines.push_str(itoa::Buffer::new().format(tag));
+    lines.push(' ');
     lines.push_str(&question.words);
     lines.push('\n');
 }

@@ -8,7 +8,7 @@ use colock_waiting::{Class, ObjectIndex};
 use serde::de::{Error, Unexpected, Visitor};
 use serde::{Deserialize, Deserializer};
 use std::borrow::Cow;
-use std::fmt::{self, Write};
+use std::fmt;
 use std::sync::Arc;
 
 /// An object as it is asked for.
@@ -146,10 +146,12 @@ pub fn shown(word: &str) -> String {
 
 /// Puts the words of calls into a line.
 pub fn add_words(line: &mut String, calls: &[Call]) {
+    let mut number = itoa::Buffer::new();
     for call in calls {
-        // a string takes all that is written to it
-        let _ = write!(line, " {} ", call.object.number);
-        line.push_str(&call.name);
+        for word in [number.format(call.object.number), call.name.as_str()] {
+            line.push(' ');
+            line.push_str(word);
+        }
     }
 }
 
