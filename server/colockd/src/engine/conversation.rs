@@ -205,9 +205,12 @@ fn tell<A: 'static>(line: &str, now: Instant, air: &Mutex<Air<A>>, listener: &Ar
     };
     let Some(whole) = whole else { return Ok(()) };
     let answer = Answer::read(whole.line).ok_or_else(|| format!("no answer of a store: {}", whole.line.escape_debug()))?;
-    listener.answered(&whole.asker.about, answer, &whole.listed, now.saturating_duration_since(whole.asker.written));
+    let Waiter { to, about, written } = whole.asker;
+    listener.answered(&about, answer, &whole.listed, now.saturating_duration_since(written));
+    // whoever is woken by that isn't woken again by the answer
+    drop(about);
     // who doesn't wait any more needs no answer
-    let _ = whole.asker.to.send(Ok(Told { listed: whole.listed, line: whole.line.to_string() }));
+    let _ = to.send(Ok(Told { listed: whole.listed, line: whole.line.to_string() }));
     Ok(())
 }
 

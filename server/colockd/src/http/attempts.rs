@@ -47,8 +47,7 @@ pub fn attempt(app: &App, asked: Asked) -> impl Future<Output = Result<Response<
             return Box::pin(list(app, parsed(&bytes)?, key.as_deref())).await;
         }
         let attempt = attempt_of(app, parsed(&bytes)?, key)?;
-        drop(bytes);
-        let replies = app.store.attempt(attempt).await?;
+        let replies = app.store.attempt(attempt, Some(bytes.into_body())).await?;
         Ok(ok(&Done { replies }))
     }
 }
@@ -72,7 +71,7 @@ fn attempt_of(app: &App, asked: AttemptAsked<'_>, header: Option<String>) -> Res
 
 /// Does one of a list.
 async fn one(app: &App, asked: AttemptAsked<'_>) -> Result<Done, Problem> {
-    let replies = app.store.attempt(attempt_of(app, asked, None)?).await?;
+    let replies = app.store.attempt(attempt_of(app, asked, None)?, None).await?;
     Ok(Done { replies })
 }
 

@@ -26,18 +26,31 @@ impl Default for Room {
     }
 }
 
-/// A body that was read.
+/// The bytes of a body that was read.
 #[derive(Debug)]
-pub enum Bytes {
-    /// It came whole, and is small.
+pub struct Bytes {
+    read: Read,
+    body: Body,
+}
+
+impl Bytes {
+    /// The body, of which all was read. Its connection is woken where it is dropped.
+    pub fn into_body(self) -> Body {
+        self.body
+    }
+}
+
+#[derive(Debug)]
+enum Read {
+    /// They came at once, and are few.
     Whole(body::Bytes),
-    /// It was put together, and has its room.
+    /// They were put together, and have their room.
     Gathered(Gathered),
 }
 
 /// Bytes that came in pieces.
 #[derive(Debug, Default)]
-pub struct Gathered {
+struct Gathered {
     bytes: Vec<u8>,
     permits: Vec<OwnedSemaphorePermit>,
 }
@@ -61,9 +74,9 @@ impl Deref for Bytes {
     type Target = [u8];
 
     fn deref(&self) -> &[u8] {
-        match self {
-            Bytes::Whole(bytes) => bytes,
-            Bytes::Gathered(gathered) => &gathered.bytes,
+        match &self.read {
+            Read::Whole(bytes) => bytes,
+            Read::Gathered(gathered) => &gathered.bytes,
         }
     }
 }
@@ -77,10 +90,11 @@ pub async fn read(mut body: Body, limits: &Limits, room: &Room) -> Result<Bytes,
     if body.size_hint().lower() > limits.body as u64 {
         return Err(large(limits));
     }
-    limited(limits.patience, all(&mut body, limits, room)).await.unwrap_or_else(|| Err(slow(limits.patience)))
+    let read = limited(limits.patience, all(&mut body, limits, room)).await.unwrap_or_else(|| Err(slow(limits.patience)))?;
+    Ok(Bytes { read, body })
 }
 
-async fn all(body: &mut Body, limits: &Limits, room: &Room) -> Result<Bytes, Problem> {
+async fn all(body: &mut Body, limits: &Limits, room: &Room) -> Result<Read, Problem> {
     let mut gathered = Gathered::default();
     while let Some(piece) = body.data().await {
         let piece = piece.map_err(|error| Problem::new(ProblemKind::BadBody, format!("the body breaks off: {error}")))?;
@@ -88,11 +102,11 @@ async fn all(body: &mut Body, limits: &Limits, room: &Room) -> Result<Bytes, Pro
             return Err(large(limits));
         }
         if gathered.bytes.is_empty() && piece.len() <= BYTES_OF_PERMIT && body.is_end_stream() {
-            return Ok(Bytes::Whole(piece));
+            return Ok(Read::Whole(piece));
         }
         gathered.extend(&piece, room)?;
     }
-    Ok(Bytes::Gathered(gathered))
+    Ok(Read::Gathered(gathered))
 }
 
 /// Waits for a future for so long. Where it is ready at its second poll, as a body is that came with its head, there is no timer.

@@ -4,6 +4,7 @@ use crate::names::TransactionName;
 use crate::store::bell::Bell;
 use crate::store::calls::Call;
 use colock_waiting::{Age, Asker, Number};
+use hyper::Body;
 use std::sync::Arc;
 use std::time::Duration;
 
@@ -106,8 +107,8 @@ pub enum About {
     Call(Asker, Option<Arc<Bell>>),
     /// What a call that waits would be answered.
     Would(Number),
-    /// A whole transaction.
-    Attempt(Arc<AttemptCalls>),
+    /// A whole transaction; and the body that asked for it, which wakes its connection where it is dropped, as the answer does.
+    Attempt(Arc<AttemptCalls>, Option<Body>),
     /// A transaction ends.
     End(TransactionName, Ending),
     /// A transaction takes back so many operations.

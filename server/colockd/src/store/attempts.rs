@@ -10,6 +10,7 @@ use crate::store::bell::Bell;
 use crate::store::calls::{add_words, Call};
 use crate::store::waits::Stay;
 use crate::store::Store;
+use hyper::Body;
 use serde::{Serialize, Serializer};
 use std::sync::Arc;
 use std::time::Duration;
@@ -93,16 +94,16 @@ impl Trying {
 }
 
 impl Store {
-    /// Does a whole transaction; the replies.
+    /// Does a whole transaction, which a body asked for; the replies. The body is let go as the first answer comes.
     ///
     /// # Errors
     ///
     /// A [`Problem`] where it isn't done.
-    pub async fn attempt(&self, attempt: Attempt) -> Result<Replies, Problem> {
+    pub async fn attempt(&self, attempt: Attempt, mut body: Option<Body>) -> Result<Replies, Problem> {
         let trying = self.trying(attempt);
         let mut has_waited = false;
         let done = loop {
-            let told = self.engine.ask(Question::about(trying.line(), About::Attempt(Arc::clone(&trying.about)))).await;
+            let told = self.engine.ask(Question::about(trying.line(), About::Attempt(Arc::clone(&trying.about), body.take()))).await;
             match self.next(&trying, told) {
                 Next::Done(replies) => break Ok(replies),
                 Next::Ends(problem) => break Err(problem),

@@ -185,7 +185,7 @@ impl Listener<About> for Observer {
                 Answer::Busy(blocker) => self.waits.would(*number, Some(Number(blocker.packed()))),
                 _ => self.waits.would(*number, None),
             },
-            About::Attempt(attempt) => self.attempted(attempt, answer),
+            About::Attempt(attempt, _) => self.attempted(attempt, answer),
             About::End(name, ending) => self.end_answered(*name, *ending, answer),
             About::Rollback(name, count) => {
                 if let Answer::Ok(_) = answer {
@@ -198,7 +198,7 @@ impl Listener<About> for Observer {
             About::Outcome(key) => self.told_outcome(key, answer),
             About::Prepared => self.listed_prepared(listed),
         }
-        if matches!(about, About::Attempt(_) | About::End(_, Ending::Commit) | About::Decide(_, Ending::Commit)) {
+        if matches!(about, About::Attempt(..) | About::End(_, Ending::Commit) | About::Decide(_, Ending::Commit)) {
             self.metrics.answered_commit(since);
         }
     }
@@ -362,7 +362,7 @@ mod tests {
         let place = AttemptPlace { number, age, bell: Arc::clone(&bell) };
         let object = Arc::new(ObjectEntry { number: 7, name: None, recovery: Recovery::Undo, of: Arc::new(TypeText::read("type t\nop x ok\nend\n")) });
         let calls = vec![Call { object, name: "x".to_string(), class: 0 }];
-        (About::Attempt(Arc::new(AttemptCalls { calls, place: Some(place) })), bell)
+        (About::Attempt(Arc::new(AttemptCalls { calls, place: Some(place) }), None), bell)
     }
 
     async fn rung(bell: &Bell) -> Option<Woken> {

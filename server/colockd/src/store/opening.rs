@@ -95,7 +95,7 @@ impl Store {
     pub async fn commits(&self) -> Result<(), Problem> {
         let object = self.objects.named(READY_OBJECT).ok_or(ProblemKind::StoreAway)?;
         let calls = vec![Call { object, name: READY_CALL.to_string(), class: 0 }];
-        self.attempt(Attempt { calls, key: None, wait: Duration::ZERO }).await.map(drop)
+        self.attempt(Attempt { calls, key: None, wait: Duration::ZERO }, None).await.map(drop)
     }
 
     /// A store from elsewhere gets the object by which it is asked.
