@@ -27,9 +27,9 @@ def life_of(path):
 
 
 def parts_of(lines):
-    """How many objects a history has, and its events."""
+    """How many objects a history has, and its events. Of more than 256 objects a line before theirs says how many they are."""
     count = sum(line.startswith("object ") for line in lines)
-    return count, lines[count:-1]
+    return count, lines[count + lines[0].startswith("objects ") : -1]
 
 
 class Epochs:
