@@ -137,7 +137,7 @@ impl State {
     fn is_prepared(&self, key: &str, id: TransactionId) -> bool {
         match &self.held {
             Held::Memory(_) => self.keys.is_prepared(key, id),
-            Held::Remote(remote_state) => remote_state.prepared.get(key).is_some_and(|ticket| ticket.id == id),
+            Held::Remote(remote_state) => remote_state.prepared.under(key) == Some(id),
         }
     }
 

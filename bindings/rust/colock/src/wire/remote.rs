@@ -11,6 +11,7 @@ use crate::wire::dropped::Dropped;
 use crate::wire::ending::FileId;
 use crate::wire::extending::Extending;
 use crate::wire::past::Past;
+use crate::wire::prepared::PreparedHere;
 use crate::wire::request::Request;
 use crate::wire::slot::Slot;
 use std::collections::BTreeMap;
@@ -58,13 +59,12 @@ pub(crate) struct RemoteState {
     pub(crate) open: BTreeMap<TransactionId, u64>,
     /// When transactions let go.
     pub(crate) let_go: LetGo,
-    /// The transactions of this client that are prepared, or are asked to be, by their keys.
-    pub(crate) prepared: BTreeMap<Box<str>, Ticket>,
+    pub(crate) prepared: PreparedHere,
 }
 
 impl RemoteState {
     pub(crate) fn new(conversation: Conversation, first_life: u64) -> RemoteState {
-        let (open, prepared) = (BTreeMap::new(), BTreeMap::new());
+        let (open, prepared) = (BTreeMap::new(), PreparedHere::default());
         RemoteState { conversation, begins: Begins::default(), dropped: Vec::new(), first_life, open, let_go: LetGo::new(), prepared }
     }
 
