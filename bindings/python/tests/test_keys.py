@@ -14,6 +14,8 @@ import colock
 from colock import Aborted, Busy, Committed, Done, Ended, Illegal, Kind, Operation, Prepared, Store, Type, Unknown, _keys
 
 COUNTER = Type.counter(1_000, [1])
+# it is full behind no number of commits that a test makes
+UPS = Type("number ups\nmax 4294967295\ninitial 0\ngive 1\nend\n", Kind.ESCROW)
 UP = Operation("inc:1", "ok", 0)
 LONGEST = "aZ0_:-." + "x" * 57
 NO_KEYS = ("", " ", "a/b", "a b", "a\n", "\n", "=a", "@a", "ä", "\0", "a" * 65, LONGEST + "/")
@@ -450,9 +452,9 @@ class KeysOverAChild(support.OverChild, Keys, unittest.TestCase):
             self.store, types = store, ()
             try:
                 if key % 2:
-                    store.attempt([(0, "inc:1")], key=f"{key}").executed()
+                    store.attempt([(0, "give:1")], key=f"{key}").executed()
                 else:
-                    store.retry(lambda t: t.call(0, "inc:1").executed(), key=f"{key}")
+                    store.retry(lambda t: t.call(0, "give:1").executed(), key=f"{key}")
                 return lost
             except (colock.OutcomeUnknown, colock.ConnectionLost):
                 support.closed(store)
@@ -462,7 +464,7 @@ class KeysOverAChild(support.OverChild, Keys, unittest.TestCase):
     @unittest.skipIf(QUICK, "it takes seconds")
     def test_killed_at_any_moment(self):
         self.store, lost, is_over = None, 0, threading.Event()
-        self.once(0, [COUNTER])
+        self.once(0, [UPS])
 
         def kill():
             while not is_over.wait(0.05):
