@@ -14,8 +14,8 @@ use Rattle.script_run.specs.Turns.{text_of_turns, script_turns}
 abbrev pub one_counter : List Object
 one_counter = undo_counter ∷ []
 
-abbrev pub one_line : List ObjectLine
-one_line = record { kind = Undo; file = 0; name = None } ∷ []
+abbrev pub one_object_line : List ObjectLine
+one_object_line = record { kind = Undo; file = 0; name = None } ∷ []
 
 -- two transactions count up, one aborts and the other commits; its abort is asked a second time, and a third transaction stays open
 abbrev pub keeps_others : List Command
@@ -24,7 +24,7 @@ keeps_others =
 
 -- the text of that script with a limit of events, where memory is refused at some places and the counter keeps a state
 abbrev pub counter_run_text : ℕ → (ℕ → Bool) → ℕ → List ℕ
-counter_run_text most memory_refused state = text_of_turns (script_turns one_counter (standard_with most) memory_refused (state ∷ []) [] one_line keeps_others)
+counter_run_text most memory_refused state = text_of_turns (script_turns one_counter (standard_with most) memory_refused (state ∷ []) [] one_object_line keeps_others)
 
 -- memory is refused nowhere, or at one place
 abbrev pub never_refused : ℕ → Bool

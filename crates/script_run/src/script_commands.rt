@@ -124,7 +124,7 @@ fn ask_call<R: Recovery>(
     }
 }
 
-/// Asks the same by the name, and remembers its number where there is one.
+/// Finds the number by the name, remembers it, and asks by it; by the name where there is no number.
 #[inline(never)]
 fn ask_by_name<R: Recovery>(
     store: &mut Store<R>,
@@ -140,10 +140,11 @@ fn ask_by_name<R: Recovery>(
     ensures found { AreRemembered (objects store.old) names.now found.new }
 {
     let bytes = names[name as usize].as_bytes();
-    if let Some(call) = call_by(store, x, bytes) {
-        remember(found, x, name, call);
-    }
-    store.call_bytes(0, t, x, bytes).err()
+    let Some(call) = call_by(store, x, bytes) else {
+        return store.call_bytes(0, t, x, bytes).err();
+    };
+    remember(found, x, name, call);
+    store.call_op(0, t, x, call).err()
 }
 
 /// The number of the call at object x whose name has these bytes.

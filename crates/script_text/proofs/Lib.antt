@@ -1,3 +1,4 @@
 pub mod Fit
 pub mod CommandsKept
 pub mod PlainCommands
+pub mod FrontWords

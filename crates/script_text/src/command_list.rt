@@ -1,6 +1,7 @@
 ghost use Rattle.std.specs.Prelude.{◌≡◌, ◌==◌, ◌++◌, ◌∷◌, ◌<◌, ◌^◌, [], length, map, true, MatchOption, MatchResult};
 ghost use Rattle.std.specs.List.{AllByRecursion};
 ghost use Rattle.type_table.specs.Name.{is_name};
+ghost use Rattle.script_text.specs.Fronts.{BeginsWithLine};
 ghost use Rattle.script_text.specs.Kept.{command_said, HasName, PutsCall};
 ghost use Rattle.serial_order.specs.declared.command.Command.TheVariants.{Call};
 
@@ -129,6 +130,7 @@ impl CommandList {
 
     /// Finds these bytes at once where a text begins with them as this one does.
     pub(crate) fn note(&mut self, text: &[u8], bytes: &[u8])
+        requires { BeginsWithLine text.now bytes.now }
         ensures { self.new ≡ self.old }
     {
         self.names.note(text, bytes);

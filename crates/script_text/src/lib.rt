@@ -3,6 +3,7 @@
 
 mod command_list;
 mod commands;
+mod fronts;
 mod kept_command;
 mod names;
 mod plain;

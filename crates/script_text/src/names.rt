@@ -1,20 +1,23 @@
 //! The names that the calls of a script share.
 
-ghost use Rattle.std.specs.Prelude.{◌≡◌, ◌++◌, ◌∷◌, [], length, true, slice_get, IfSome, MatchResult, Some};
+ghost use Rattle.std.specs.Prelude.{◌≡◌, ◌≤◌, ◌++◌, ◌∷◌, [], ℕ, List, drop, length, true, slice_get, IfSome, MatchResult, Some};
+ghost use Rattle.std.specs.List.{All};
 ghost use Rattle.type_table.specs.Name.{is_name};
+ghost use Rattle.script_text.specs.Fronts.{BeginsWithLine, FindsName};
 ghost use Rattle.script_text.specs.Kept.{BeginsWithName, KeepsCommand};
 
+use crate::fronts::{Front, words_of};
 use crate::kept_command::KeptCommand;
 use serial_order::Command;
 use std::alloc::{AllocError, Global};
 use std::marker::Model;
 use type_table::Name;
 
-/// How many sums the bytes of a name, or the front of a text, may have.
+/// How many sums the bytes of a name, or the words of a text, may have.
 const SUMS: usize = 256;
 
-/// An odd number whose bits look drawn.
-const MIXER: u64 = 0x9e37_79b9_7f4a_7c15;
+/// The most bytes of a name that a front holds beside the LF.
+const MOST_IN_FRONT: usize = 15;
 
 /// Names, each at its position. One that comes again soon is found, and kept once.
 ///
@@ -24,16 +27,20 @@ pub(crate) struct Names {
     names: Vec<Name>,
     // The position of the last name of each sum. The name there is compared, so nothing relies on it.
     positions: [u32; SUMS],
-    // The same of the last name that a text with this sum of its front began with.
-    fronts: [u32; SUMS],
+    // The last name that a text with this sum of its words began with.
+    fronts: [Front; SUMS],
 }
 
 impl Model for Names {
     ghost use Rattle.std.specs.Prelude.{ℕ, List};
+    ghost use Rattle.std.specs.List.{All};
+    ghost use Rattle.script_text.specs.Fronts.{FindsName};
 
     ghost Value = { List (List ℕ) };
 
     ghost view = { λ n. n.names.items };
+
+    ghost invariant = { λ n. All (FindsName n.names.items) n.fronts };
 }
 
 impl Names {
@@ -44,7 +51,8 @@ impl Names {
         Names {
             names: Vec::new(alloc),
             positions: [0; SUMS],
-            fronts: [0; SUMS],
+            // no name is there, so that each short name is noted
+            fronts: [Front::nowhere(u32::MAX); SUMS],
         }
     }
 
@@ -71,11 +79,25 @@ impl Names {
     pub fn before_lf<'a>(&self, text: &'a [u8]) -> Option<(u32, &'a [u8])>
         ensures { IfSome result (λ found. BeginsWithName self.now text.now found.0 found.1.now) }
     {
-        let position = self.fronts[usize::from(front_of(text))];
+        let words = words_of(text)?;
+        let front = front_at(&self.fronts, words.sum());
+        if front.is_in(words) {
+            return Some((front.position, &text[front.end as usize..]));
+        }
+        let end = self.end_in(text, front.position)?;
+        Some((front.position, &text[end..]))
+    }
+
+    /// Where a text goes on behind the name at a position and a LF, where it begins with these.
+    #[inline(never)]
+    fn end_in(&self, text: &[u8], position: u32) -> Option<usize>
+        ensures within { IfSome result (λ end. end ≤ length text.now) }
+        ensures begins { IfSome result (λ end. BeginsWithName self.now text.now position (drop end text.now)) }
+    {
         let name = self.names.get(position as usize)?.as_bytes();
         let end = name.len();
         if end < text.len() && text[end] == b'\n' && &text[..end] == name {
-            Some((position, &text[end + 1..]))
+            Some(end + 1)
         } else {
             None
         }
@@ -83,11 +105,21 @@ impl Names {
 
     /// Finds these bytes, with which a text begins, by its front from now on, where they are found to be a name.
     pub fn note(&mut self, text: &[u8], bytes: &[u8])
+        requires { BeginsWithLine text.now bytes.now }
         ensures { self.new ≡ self.old }
     {
-        if let Some(position) = self.place_of(bytes) {
-            self.fronts[usize::from(front_of(text))] = position;
-        }
+        let Some(words) = words_of(text) else {
+            return;
+        };
+        let Some(position) = self.place_of(bytes) else {
+            return;
+        };
+        let front = if bytes.len() <= MOST_IN_FRONT {
+            Front::of(words, position, bytes.len() as u32 + 1)
+        } else {
+            Front::nowhere(position)
+        };
+        self.fronts[usize::from(words.sum())] = front;
     }
 
     /// What is kept of a command. A name that isn't found is put after the others.
@@ -137,6 +169,14 @@ impl Names {
     }
 }
 
+/// The front at this place. Whichever names all fronts find, it finds.
+#[inline(always)]
+fn front_at(fronts: &[Front; SUMS], place: u8) -> &Front
+    ensures { (names : List (List ℕ)) → All (FindsName names) fronts.now → FindsName names result.now }
+{
+    &fronts[usize::from(place)]
+}
+
 /// A sum of a name's bytes in which their order counts.
 #[inline]
 fn sum_of(bytes: &[u8]) -> u8 {
@@ -145,23 +185,4 @@ fn sum_of(bytes: &[u8]) -> u8 {
         sum = sum.rotate_left(3) ^ *byte;
     }
     sum
-}
-
-/// A sum of the first ten bytes of a text: of a short name, and of what comes after it.
-#[inline(always)]
-fn front_of(text: &[u8]) -> u8 {
-    match text {
-        [a, b, c, d, e, f, g, h, i, j, ..] => {
-            let first = u64::from_le_bytes([*a, *b, *c, *d, *e, *f, *g, *h]);
-            let last = u64::from(u16::from_le_bytes([*i, *j]));
-            mixed(first ^ last.wrapping_mul(MIXER))
-        }
-        _ => 0,
-    }
-}
-
-/// A byte on which each bit of a number has an influence.
-#[inline(always)]
-fn mixed(number: u64) -> u8 {
-    number.wrapping_mul(MIXER).to_le_bytes()[7]
 }

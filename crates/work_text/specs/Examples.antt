@@ -10,8 +10,8 @@ use Rattle.worker_turns.specs.declared.outcome.Outcome.{Outcome}
 use Rattle.worker_turns.specs.declared.outcome.Report.{Report}
 
 -- the counter, update in place
-abbrev pub one_line : List ObjectLine
-one_line = record { kind = Undo; file = 0; name = None } ∷ []
+abbrev pub one_object_line : List ObjectLine
+one_object_line = record { kind = Undo; file = 0; name = None } ∷ []
 
 -- worker 1 counts up once
 abbrev pub one_up_by_one : List Event

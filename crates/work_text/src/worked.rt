@@ -7,7 +7,7 @@ ghost use Rattle.history_judge.specs.declared.outcome.Audit.{Audit as AuditValue
 ghost use Rattle.history_judge.specs.declared.outcome.AuditFault.TheVariants.{NoMemory};
 ghost use Rattle.worker_turns.specs.declared.outcome.Outcome.TheVariants.{Committed, GaveUp, Refused, NotRun};
 ghost use Rattle.worker_turns.specs.declared.outcome.Report.{Report as ReportValue};
-ghost use Rattle.work_text.specs.Examples.{ended, one_line, one_up_by_one, HasOutcomes, IsYesWith};
+ghost use Rattle.work_text.specs.Examples.{ended, one_object_line, one_up_by_one, HasOutcomes, IsYesWith};
 ghost use Rattle.work_text.specs.Lines.{kept_text, report_text, reports_text};
 ghost use Rattle.work_text.specs.Text.{work_text};
 
@@ -34,9 +34,9 @@ pub fn lines_of_workers()
 /// The whole text: the history, the kept states, the audit and the jobs.
 pub fn text_of_work()
     ensures whole { (audit : AuditValue) (a b : ReportValue) → IsYesWith (0 ∷ []) (1 ∷ []) audit → HasOutcomes (NotRun ∷ []) a → HasOutcomes (Committed 0 ∷ []) b
-        → work_text one_line one_up_by_one (1 ∷ []) (Ok audit) (a ∷ b ∷ []) ≡ ended
+        → work_text one_object_line one_up_by_one (1 ∷ []) (Ok audit) (a ∷ b ∷ []) ≡ ended
         (codes "object undo 0" ∷ codes "begin 1 0" ∷ codes "op 1 0 0 0" ∷ codes "commit 1 0" ∷ codes "end" ∷ codes "# kept 0 1"
         ∷ codes "# audit yes" ∷ codes "# commit 0" ∷ codes "# serial 0 1" ∷ codes "# job 0 0 notrun" ∷ codes "# job 1 0 committed 0" ∷ []) }
     ensures no_audit { (b : ReportValue) → HasOutcomes (Committed 0 ∷ []) b
-        → work_text one_line [] (0 ∷ []) (Err NoMemory) (b ∷ []) ≡ ended (codes "object undo 0" ∷ codes "end" ∷ codes "# kept 0 0" ∷ codes "# job 0 0 committed 0" ∷ []) }
+        → work_text one_object_line [] (0 ∷ []) (Err NoMemory) (b ∷ []) ≡ ended (codes "object undo 0" ∷ codes "end" ∷ codes "# kept 0 0" ∷ codes "# job 0 0 committed 0" ∷ []) }
 {}

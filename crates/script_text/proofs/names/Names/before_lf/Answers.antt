@@ -1,25 +1,19 @@
-use Rattle.std.proofs.Common.{◌≡◌, ◌+◌, ◌-◌, ◌∷◌, ◌++◌, length, take, drop, ap, sym, ◌∙◌, Some, arith}
-use Rattle.std.specs.Prelude.{slice_index_or}
-use Rattle.std.proofs.lemmas.Bool.{ltb-true}
-use Rattle.std.proofs.lemmas.List.{length-drop, take_all}
-use Rattle.std.proofs.lemmas.Option.{slice_get-get_or}
-use Rattle.std.proofs.lemmas.Slice.Eq.{bytes_eq-Decides}
-use Rattle.line_text.proofs.PlainLines.{front_at}
+use Rattle.std.proofs.Common.{ℕ, ◌-◌, List, length, take, drop, sym, subst}
+use Rattle.std.proofs.lemmas.List.{take_rest}
+use Rattle.script_text.specs.Kept.{BeginsWithName}
 use Rattle.script_text.proofs.names.Names.before_lf.Goals as goal
 
-pub returns-then-eq : goal.returns-then-eq
-returns-then-eq c =
+pub returns-then-is_in : goal.returns-then-is_in
+returns-then-is_in c =
+    let names = c.self.inside.names.items in
     let text = c.args.text.now in
-    let name = c.as_bytes-name.result.now in
-    let count = length name in
-    let found = c.in_ok-get.ensures.lookup in
-    let names = c.deref.result.now in
-    let position = slice_index_or c.self.inside.fronts c.from.result 0 in
-    let same : take count text ≡ name = (bytes_eq-Decides (take count text) name).0 (sym c.eq.ensures ∙ c.if-eq.true) in
-    let rest : take (length text - (count + 1)) (drop (count + 1) text) ≡ drop (count + 1) text = take_all (length text - (count + 1)) (drop (count + 1) text) (omega (arith, length-drop (count + 1) text)) in
-    record {
-      word = name;
-      there = rw (← c.self.view_is, ← c.deref.ensures.value) (slice_get-get_or names position c.in_ok-get.field-0.now (ltb-true position (length names) (sym found.0)) ∙ ap Some (sym found.1 ∙ sym c.as_bytes-name.ensures.exact));
-      is_name = rw c.as_bytes-name.ensures.exact c.as_bytes-name.ensures.name;
-      front = front_at text count 10 c.if-end-text.true c.if-text-end-eq10.true ∙ ap (λ word. word ++ 10 ∷ drop (count + 1) text) same ∙ ap (λ behind. name ++ 10 ∷ behind) (sym rest);
-    }
+    let front = c.front_at-front.result.now in
+    let found = (c.front_at-front.ensures names c.self.invariant).each text c.in_ok-words.words c.in_ok-words.ensures (c.is_in.ensures c.if-is_in.true) in
+    subst (λ (all : List (List ℕ)). BeginsWithName all text front.position (take (length text - front.end) (drop front.end text))) c.self.view_is
+    (subst (λ behind. BeginsWithName names text front.position behind) (sym (take_rest text front.end)) found)
+
+pub returns : goal.returns
+returns c =
+    let text = c.args.text.now in
+    let end = c.in_ok-end.end in
+    subst (λ behind. BeginsWithName c.args.self.now text c.front_at-front.result.now.position behind) (sym (take_rest text end)) c.in_ok-end.ensures.begins
