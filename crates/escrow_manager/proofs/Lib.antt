@@ -1,3 +1,4 @@
+pub mod Admitting
 pub mod Blocking
 pub mod Changing
 pub mod Counting

@@ -1,11 +1,12 @@
 ghost use Rattle.type_table.specs.declared.kind.Kind.TheVariants.{Escrow};
-ghost use Rattle.std.specs.Prelude.{IsOk, IfOk, IfErr, ◌≡◌, ◌<◌, ◌↔◌, ◌≤◌, ◌+◌, ◌-◌, true, List, [], Some};
-ghost use Rattle.escrow_laws.specs.Marks.{mark_of, FitsIn};
+ghost use Rattle.std.specs.Prelude.{IsOk, IfOk, IfErr, ℕ, ◌≡◌, ◌<◌, ◌↔◌, ◌≤◌, ◌+◌, ◌-◌, true, List, [], Some, slice_get};
+ghost use Rattle.escrow_laws.specs.Marks.{mark_after, mark_of, is_legal_from, FitsIn};
 ghost use Rattle.escrow_laws.specs.declared.mark.OpenMark.{OpenMark as MarkOfOne};
 ghost use Rattle.object_trait.specs.Meaning.{own_of, view_of};
-ghost use Rattle.object_trait.specs.Steps.{IsFresh, MayApply, applied, IsCommit};
+ghost use Rattle.object_trait.specs.Steps.{IsFresh, stopper, MayApply, applied, IsCommit};
 ghost use Rattle.escrow_manager.specs.Numeric.{bounds_in, greatest};
 ghost use Rattle.escrow_manager.specs.Kept.{IsKeptInEscrow};
+ghost use Rattle.escrow_manager.specs.Marks.{IsSmall};
 
 use crate::entries::{count_of, keep_first, mark_of, named_keeper, take_out};
 use crate::marks::{drop_mark, mark_at, mark_in, place_of, put_mark};
@@ -17,9 +18,9 @@ use escrow_laws::{
     marks_fit, marks_tell,
 };
 use object_trait::{
-    LogEntry, Recovery, Renew, WrongKind, checked_is_covered, fresh_is_sound, keeps_first,
-    keeps_none, keeps_others, opens_are_counted, sound_after_apply, sound_after_commit,
-    sound_after_strike,
+    Admission, LogEntry, Recovery, Renew, WrongKind, admitted_by, checked_is_covered,
+    fresh_is_sound, keeps_first, keeps_none, keeps_others, opens_are_counted, sound_after_apply,
+    sound_after_commit, sound_after_strike,
 };
 use std::alloc::{AllocError, Global};
 use std::marker::Model;
@@ -33,8 +34,8 @@ use type_table::{Kind, Operation};
 ///
 /// Beside the log it keeps a mark for each transaction that is open here, in the order of their
 /// numbers, and the totals of all marks. `legal` and `apply` look at the transaction's mark, found at
-/// the end or by halves; so does `blocker`, and at the totals, where by these nobody keeps anybody. Else
-/// it goes through the marks, and through the log up to the first entry of whom it names. `commit` and
+/// the end or by halves; so do `blocker` and `admission`, and at the totals, where by these nobody keeps
+/// anybody. Else they go through the marks, and through the log up to the first entry of whom they name. `commit` and
 /// `abort` go through the log, and through the marks where the totals don't follow from those before;
 /// `strike` goes through both. Where no transaction is open, `apply_and_commit` moves the number alone.
 #[derive(Drop)]
@@ -122,6 +123,38 @@ impl EscrowManager {
         number_after(self.base, self.mark_of(t))
     }
 
+    /// Who keeps t, whose mark this is, from an operation with these bounds, which is legal for it.
+    fn keeper_of(&self, t: u32, op: Bounded, old: Mark) -> Option<u32>
+        requires mark { old ≡ mark_of (greatest self.now.checked) (bounds_in self.now.checked) (own_of self.now.log t) }
+        requires small { IsSmall (greatest self.now.checked) old op }
+        requires legal { is_legal_from (mark_after old op) self.now.base ≡ true }
+        ensures { (k : ℕ) → slice_get (bounds_in self.now.checked) k ≡ Some op → result ≡ stopper self.now t k }
+    {
+        marks_are_exact();
+        marks_fit();
+        marks_tell();
+        extremes_tell_firm();
+        firm_is_legal();
+        firm_keeps_nobody();
+        if self.log.is_empty() {
+            return None;
+        }
+        let mark = old.marked(op);
+        let totals = self.totals.with(old, mark);
+        if totals.are_firm(self.base) {
+            return None;
+        }
+        let top = greatest(&self.checked);
+        named_keeper(
+            &self.log,
+            &self.marks,
+            OpenMark { by: t, mark },
+            self.base,
+            totals,
+            top,
+        )
+    }
+
     /// Executes operation k for t, which commits, where no transaction is open: base is the number after it.
     fn commit_alone(&mut self, t: u32, k: Operation)
         requires may { MayApply self.old t k }
@@ -178,28 +211,22 @@ impl Recovery for EscrowManager {
     fn blocker(&self, t: u32, k: Operation) -> Option<u32> {
         marks_are_exact();
         marks_fit();
-        marks_tell();
-        extremes_tell_firm();
         firm_is_legal();
-        firm_keeps_nobody();
-        if self.log.is_empty() {
-            return None;
-        }
+        let op = bounded(&self.checked, k);
+        self.keeper_of(t, op, self.mark_of(t))
+    }
+
+    fn admission(&self, t: u32, k: Operation) -> Admission {
+        marks_are_exact();
+        marks_fit();
+        firm_is_legal();
+        let op = bounded(&self.checked, k);
         let old = self.mark_of(t);
-        let mark = old.marked(bounded(&self.checked, k));
-        let totals = self.totals.with(old, mark);
-        if totals.are_firm(self.base) {
-            return None;
+        let number = number_after(self.base, old);
+        if !is_legal_at(op, number) {
+            return Admission::Illegal;
         }
-        let top = greatest(&self.checked);
-        named_keeper(
-            &self.log,
-            &self.marks,
-            OpenMark { by: t, mark },
-            self.base,
-            totals,
-            top,
-        )
+        admitted_by(self.keeper_of(t, op, old))
     }
 
     fn amount_kept(&self, t: u32, place: u8, u: u32) -> Option<u32> {

@@ -1,11 +1,10 @@
 -- Words with the bits of entries' operations.
-use Rattle.std.proofs.Common.{◌≡◌, ℕ, ◌<◌, ◌≤◌, Bool, not, ◌&&◌, ◌==◌, eqb, List, [], ◌∷◌, ◌++◌, length, get_or, None, bit_and, All, sym, ap, ◌∙◌, arith, ◌+◌, take, Some, slice_get, subst}
+use Rattle.std.proofs.Common.{◌≡◌, ℕ, ◌*◌, ◌^◌, ◌%◌, ◌<◌, ◌≤◌, Bool, not, ◌&&◌, ◌==◌, eqb, List, [], ◌∷◌, ◌++◌, length, get_or, None, bit_and, bit_or, w64, All, sym, ap, subst, ◌∙◌, inl, inr, arith}
 use Rattle.std.specs.Int.{bit_at}
 use Rattle.std.specs.List.{find}
-use Rattle.std.proofs.lemmas.Bool.{and_right}
-use Rattle.std.proofs.lemmas.List.{take_all}
-use Rattle.std.proofs.lemmas.Option.{slice_get-get_or}
-use Rattle.type_table.proofs.Elements.{take-found, find_none, bits_apart}
+use Rattle.std.proofs.lemmas.Bool.{cases_eq, and_right}
+use Rattle.std.proofs.lemmas.Nat.Bits.{bit_at_set_same, bit_at_set_other}
+use Rattle.type_table.proofs.Elements.{find_none, bits_apart}
 use Rattle.std.proofs.lemmas.List.Elements.{All-push, All-weaker}
 use Rattle.type_table.specs.ConflictTable.{conflicts}
 use Rattle.object_trait.specs.declared.log_entry.LogEntry.{LogEntry}
@@ -17,18 +16,15 @@ bits-push word more log e added kept bits =
     let P : LogEntry → Type 0 = λ x. x.op < 64 → bit_at more x.op ≡ 1 in
     All-push P log e (All-weaker (λ (x : LogEntry). x.op < 64 → bit_at word x.op ≡ 1) P (λ x set low. kept x.op (set low)) log bits) added
 
--- one more entry that is passed
-pub bits-more : (word more : ℕ) (log seen : List LogEntry) → seen ≡ log → (i : ℕ) (e : LogEntry) → i < length seen → e ≡ get_or seen i e → (e.op < 64 → bit_at more e.op ≡ 1) → ((q : ℕ) → bit_at word q ≡ 1 → bit_at more q ≡ 1)
-    → LogHasBits word (take i log) → LogHasBits more (take (i + 1) log)
-bits-more word more log seen same i e low read added kept bits =
-    let found : slice_get log i ≡ Some e = subst (λ (xs : List LogEntry). slice_get xs i ≡ Some e) same (slice_get-get_or seen i e low ∙ ap Some (sym read)) in
-    subst (LogHasBits more) (sym (take-found log i e found)) (bits-push word more (take i log) e added kept bits)
-
--- all
-pub bits-all : (word : ℕ) (log seen : List LogEntry) → seen ≡ log → (i : ℕ) → length seen ≤ i → LogHasBits word (take i log) → LogHasBits word log
-bits-all word log seen same i past bits =
-    let end : length log ≤ i = subst (λ (xs : List LogEntry). length xs ≤ i) same past in
-    subst (LogHasBits word) (take_all i log end) bits
+-- one more entry, and its bit is set
+pub bits-set : (word : ℕ) (log : List LogEntry) (e : LogEntry) (k : ℕ) → k ≡ e.op → k < 64 → LogHasBits word log → LogHasBits (bit_or word (1 * 2 ^ k % 2 ^ 64)) (log ++ e ∷ [])
+bits-set word log e k op low bits =
+    let more : ℕ = bit_or word (1 * 2 ^ k % 2 ^ 64) in
+    bits-push word more log e (λ _. subst (λ q. bit_at more q ≡ 1) op (bit_at_set_same w64 word k low))
+    (λ q is. elim (cases_eq q k) [
+      | inl same ↦ rw same (bit_at_set_same w64 word k low)
+      | inr other ↦ bit_at_set_other w64 word k low q other ∙ is
+    ]) bits
 
 -- where the row of k and the word have no bit in common, no entry keeps another from k
 pub no-conflict : (rows : List (List Bool)) (t k row word : ℕ) (log : List LogEntry) → ((q : ℕ) → q < length rows → eqb (bit_at row q) 1 ≡ conflicts rows k q) → length rows ≤ 64

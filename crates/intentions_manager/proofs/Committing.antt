@@ -1,6 +1,6 @@
 -- A commit keeps what a manager keeps: each other view is carried on by the operations that were committed.
-use Rattle.std.proofs.Common.{◌≡◌, ℕ, ◌-◌, ◌<◌, ◌≤◌, false, not, eqb, ◌⊎◌, List, [], ◌∷◌, ◌++◌, map, length, take, drop, All, Option, Some, IsSome, refl, sym, ap, subst, ◌∙◌, inl, inr, arith}
-use Rattle.std.specs.List.{filter, AllByRecursion}
+use Rattle.std.proofs.Common.{◌≡◌, ℕ, ◌<◌, ◌≤◌, false, not, eqb, ◌⊎◌, List, [], ◌∷◌, ◌++◌, map, length, All, Option, Some, IsSome, refl, sym, ap, subst, ◌∙◌, inl, inr, arith}
+use Rattle.std.specs.List.{AllByRecursion}
 use Rattle.std.proofs.lemmas.Bool.{cases_Bool, eqb-true}
 use Rattle.std.proofs.lemmas.List.{nil_from_length}
 use Rattle.type_table.specs.Table.{Table}
@@ -12,7 +12,7 @@ use Rattle.object_trait.specs.Orders.{Pairs}
 use Rattle.object_trait.specs.Strike.{keep_first}
 use Rattle.object_trait.specs.Meaning.{Meaning, object, log_ops, is_open_of, open_of, run_log}
 use Rattle.object_trait.specs.Steps.{IsCommitBy, IsCommit}
-use Rattle.object_trait.specs.Laws.{KeepsFirst, KeepsNone, KeepsParts, KeepsOthers, OpensCommute, SoundAfterCommit}
+use Rattle.object_trait.specs.Laws.{KeepsFirst, KeepsNone, KeepsOthers, OpensCommute, SoundAfterCommit}
 use Rattle.object_trait.specs.declared.log_entry.LogEntry.{LogEntry}
 use Rattle.object_trait.proofs.Leaving.{others-stay, own-left, each-left}
 use Rattle.object_trait.proofs.Rows.{ordered-dropped}
@@ -21,7 +21,6 @@ use Rattle.intentions_manager.specs.Views.{view_owner, view_owners, bare, seen_b
 use Rattle.intentions_manager.specs.Walk.{walked, carried, FitsTable}
 use Rattle.intentions_manager.specs.Kept.{IsView, IsKeptDeferred}
 use Rattle.intentions_manager.specs.declared.views.View.{View}
-use Rattle.intentions_manager.proofs.Cutting.{cut-kept, behind_all}
 use Rattle.intentions_manager.proofs.Seeing.{seen-dropped_other}
 use Rattle.intentions_manager.proofs.Walking.{walk_view, walk-run, carried-map}
 use Rattle.intentions_manager.proofs.Keeping.{deferred-covered, equi-same, view-bare, seen-count}
@@ -34,7 +33,6 @@ pub record CommitLaws : Type 0 where
   pub within : EndsWithin
   pub opens : OpensCommute
   pub none : KeepsNone LogEntry
-  pub parts : KeepsParts LogEntry
   pub first : KeepsFirst LogEntry
   pub others : KeepsOthers LogEntry
   pub sound_after : SoundAfterCommit
@@ -70,19 +68,18 @@ equi-carried laws {m} {views} t u h differ =
     )
 
 -- so it is what may be shown, from t's view as base
-view-carried : CommitLaws → {m : Meaning} {views : List View} (t u : ℕ) (log part : List LogEntry) → IsKeptDeferred m views → eqb t u ≡ false → open_of u log ≡ open_of u m.log → open_of t part ≡ open_of t m.log →
-    IsView (object m) (seen_by t m.base views).state log u (walk_view m.checked.file.table t part (seen_by u m.base views))
-view-carried laws {m} {views} t u log part h differ same all =
+view-carried : CommitLaws → {m : Meaning} {views : List View} (t u : ℕ) (log : List LogEntry) → IsKeptDeferred m views → eqb t u ≡ false → open_of u log ≡ open_of u m.log →
+    IsView (object m) (seen_by t m.base views).state log u (walk_view m.checked.file.table t m.log (seen_by u m.base views))
+view-carried laws {m} {views} t u log h differ same =
     let T = m.checked.file.table in
     let o = object m in
     let mine = log_ops (open_of t m.log) in
     let shown = h.seen u in
     let s = (seen_by u m.base views).state in
     let base = (seen_by t m.base views).state in
-    let end = walked T t s part in
+    let end = walked T t s m.log in
     let both = equi-carried laws t u h differ in
-    let legal : IsLegal T (Some s) (log_ops (open_of t part)) = subst (λ V. IsLegal T (Some s) (log_ops V)) (sym all) both.0 in
-    let walk : run T (Some s) mine ≡ Some end = subst (λ V. run T (Some s) (log_ops V) ≡ Some end) all (walk-run T t s part legal) in
+    let walk : run T (Some s) mine ≡ Some end = walk-run T t s m.log both.0 in
     record {
       fits = laws.within T s end mine h.table shown.fits walk;
       inside = laws.inside T o.set s end mine (deferred-covered m h.deferred h.covered).closed shown.inside walk;
@@ -112,23 +109,22 @@ seen-committed T t part new (v ∷ views) =
       | inr isnt ↦ simp isnt (seen-committed T t part new views)
     ]
 
-view-committed : CommitLaws → {m : Meaning} {views : List View} (t : ℕ) (log part : List LogEntry) → IsKeptDeferred m views → ((u : ℕ) → eqb t u ≡ false → open_of u log ≡ open_of u m.log) → open_of t log ≡ [] →
-    open_of t part ≡ open_of t m.log → (u : ℕ) →
-    IsView (object m) (seen_by t m.base views).state log u (seen_by u (seen_by t m.base views).state (map (walk_view m.checked.file.table t part) (without_view t views)))
-view-committed laws {m} {views} t log part h same none all u =
+view-committed : CommitLaws → {m : Meaning} {views : List View} (t : ℕ) (log : List LogEntry) → IsKeptDeferred m views → ((u : ℕ) → eqb t u ≡ false → open_of u log ≡ open_of u m.log) → open_of t log ≡ [] → (u : ℕ) →
+    IsView (object m) (seen_by t m.base views).state log u (seen_by u (seen_by t m.base views).state (map (walk_view m.checked.file.table t m.log) (without_view t views)))
+view-committed laws {m} {views} t log h same none u =
     let T = m.checked.file.table in
     let o = object m in
     let base = (seen_by t m.base views).state in
     let committed = h.seen t in
-    let new = map (walk_view T t part) (without_view t views) in
+    let new = map (walk_view T t m.log) (without_view t views) in
     elim (cases_Bool (eqb t u)) [
       | inl is ↦
           subst (λ z. IsView o base log z (seen_by z base new)) (eqb-true t u is)
-          (subst (λ v. IsView o base log t v) (sym (seen-committed T t part base views)) (view-bare o base log t none committed.fits committed.inside))
+          (subst (λ v. IsView o base log t v) (sym (seen-committed T t m.log base views)) (view-bare o base log t none committed.fits committed.inside))
       | inr isnt ↦
           let before = seen-dropped_other t u m.base views isnt in
-          elim (seen-carried T t part u m.base base (without_view t views)) [
-            | inl on ↦ subst (λ v. IsView o base log u v) (sym (on ∙ ap (walk_view T t part) before)) (view-carried laws t u log part h isnt (same u isnt) all)
+          elim (seen-carried T t m.log u m.base base (without_view t views)) [
+            | inl on ↦ subst (λ v. IsView o base log u v) (sym (on ∙ ap (walk_view T t m.log) before)) (view-carried laws t u log h isnt (same u isnt))
             | inr nowhere ↦
                 let counted : length (open_of u m.log) ≡ 0 = sym (seen-count u (bare u m.base) h (sym nowhere.0 ∙ before)) in
                 subst (λ v. IsView o base log u v) (sym nowhere.1)
@@ -138,20 +134,12 @@ view-committed laws {m} {views} t log part h same none all u =
 
 -- ---- the commit
 
--- what the code did: w is t's view, from here on the log has all of t's entries, and they were taken out after the other views walked along them
-pub record IsCommitted (m : Meaning) (views : List View) (t from : ℕ) (w : View) (log : List LogEntry) (new : List View) : Type 0 where
+-- what the code did: w is t's view, and t's entries were taken out after the other views walked along them
+pub record IsCommitted (m : Meaning) (views : List View) (t : ℕ) (w : View) (log : List LogEntry) (new : List View) : Type 0 where
   pub seen : w ≡ seen_by t m.base views
-  pub counted : length (open_of t (drop from m.log)) ≡ w.count
-  pub cut : log ≡ take from m.log ++ filter (λ e. not (is_open_of t e)) (drop from m.log)
-  pub on : new ≡ carried m.checked.file.table t (drop from m.log) (without_view t views)
+  pub cut : log ≡ keep_first (is_open_of t) 0 m.log
+  pub on : new ≡ carried m.checked.file.table t m.log (without_view t views)
   pub fit : All (FitsTable m.checked.file.table) new
-
--- none of t's entries are left
-nothing-left : CommitLaws → {m : Meaning} {views : List View} {t from : ℕ} {w : View} {log : List LogEntry} {new : List View} → IsKeptDeferred m views → IsCommitted m views t from w log new → log ≡ keep_first (is_open_of t) 0 m.log
-nothing-left laws {m} {views} {t} {from} {w} {log} {new} h done =
-    let count = seen-count t w h done.seen in
-    let none : length (open_of t m.log) - w.count ≡ 0 = omega arith in
-    done.cut ∙ cut-kept laws.none laws.parts (is_open_of t) m.log from w.count done.counted ∙ ap (λ n. keep_first (is_open_of t) n m.log) none
 
 -- who has no entry sees base
 seen-base : (t base : ℕ) (views : List View) → AllByRecursion (λ (v : View). 0 < v.count) views → (seen_by t base views).count ≡ 0 → (seen_by t base views).state ≡ base
@@ -163,8 +151,8 @@ seen-base t base (v ∷ views) some none =
     ]
 
 -- where t has none, its view is base
-base-still : {m : Meaning} {views : List View} {t from : ℕ} {w : View} {log : List LogEntry} {new : List View} → IsKeptDeferred m views → IsCommitted m views t from w log new → open_of t m.log ≡ [] → w.state ≡ m.base
-base-still {m} {views} {t} {from} {w} {log} {new} h done none =
+base-still : {m : Meaning} {views : List View} {t : ℕ} {w : View} {log : List LogEntry} {new : List View} → IsKeptDeferred m views → IsCommitted m views t w log new → open_of t m.log ≡ [] → w.state ≡ m.base
+base-still {m} {views} {t} {w} {log} {new} h done none =
     let count : w.count ≡ 0 = seen-count t w h done.seen ∙ ap length none in
     ap (λ (v : View). v.state) done.seen ∙ seen-base t m.base views h.some (ap (λ (v : View). v.count) (sym done.seen) ∙ count)
 
@@ -172,15 +160,15 @@ base-still {m} {views} {t} {from} {w} {log} {new} h done none =
 abbrev pub committed : Meaning → View → List LogEntry → Meaning
 committed m w log = record m { base = w.state; log = log }
 
-pub committed-commits : CommitLaws → {m : Meaning} {views : List View} {t from : ℕ} {w : View} {log : List LogEntry} {new : List View} → IsKeptDeferred m views → IsCommitted m views t from w log new → IsCommit m t (committed m w log)
-committed-commits laws {m} {views} {t} {from} {w} {log} {new} h done =
+pub committed-commits : CommitLaws → {m : Meaning} {views : List View} {t : ℕ} {w : View} {log : List LogEntry} {new : List View} → IsKeptDeferred m views → IsCommitted m views t w log new → IsCommit m t (committed m w log)
+committed-commits laws {m} {views} {t} {w} {log} {new} h done =
     let o = object m in
     let shown = subst (λ v. IsView o m.base m.log t v) (sym done.seen) (h.seen t) in
     record {
       checked = refl;
       commit =
           subst (λ kind. IsCommitBy kind o m.base m.log t w.state log) (sym h.deferred)
-          (record { rest = nothing-left laws h done ∙ laws.none (is_open_of t) m.log; inside = shown.inside; reached = shown.equi; still = base-still h done });
+          (record { rest = done.cut ∙ laws.none (is_open_of t) m.log; inside = shown.inside; reached = shown.equi; still = base-still h done });
     }
 
 -- views that are carried on have their owners
@@ -188,17 +176,14 @@ owners-carried : (T : Table) (t : ℕ) (part : List LogEntry) (views : List View
 owners-carried T t part [] = refl
 owners-carried T t part (v ∷ views) = ap (λ rest. v.by ∷ rest) (owners-carried T t part views)
 
-pub committed-kept : CommitLaws → {m : Meaning} {views : List View} {t from : ℕ} {w : View} {log : List LogEntry} {new : List View} → IsKeptDeferred m views → IsCommitted m views t from w log new → IsKeptDeferred (committed m w log) new
-committed-kept laws {m} {views} {t} {from} {w} {log} {new} h done =
+pub committed-kept : CommitLaws → {m : Meaning} {views : List View} {t : ℕ} {w : View} {log : List LogEntry} {new : List View} → IsKeptDeferred m views → IsCommitted m views t w log new → IsKeptDeferred (committed m w log) new
+committed-kept laws {m} {views} {t} {w} {log} {new} h done =
     let T = m.checked.file.table in
     let o = object m in
-    let part = drop from m.log in
-    let left = nothing-left laws h done in
-    let count = seen-count t w h done.seen in
-    let all : open_of t part ≡ open_of t m.log = behind_all (is_open_of t) m.log from (done.counted ∙ count) in
+    let left = done.cut in
     let base : (seen_by t m.base views).state ≡ w.state = ap (λ (v : View). v.state) (sym done.seen) in
-    let on : new ≡ map (walk_view T t part) (without_view t views) = done.on ∙ carried-map T t part (without_view t views) in
-    let seen = view-committed laws t log part h (λ u differ. others-stay laws.others t u 0 m.log log left differ) (own-left laws.first t 0 m.log log left) all in
+    let on : new ≡ map (walk_view T t m.log) (without_view t views) = done.on ∙ carried-map T t m.log (without_view t views) in
+    let seen = view-committed laws t log h (λ u differ. others-stay laws.others t u 0 m.log log left differ) (own-left laws.first t 0 m.log log left) in
     let shown = h.seen t in
     let room = h.room in
     let long : length log ≤ length m.log = subst (λ V. length V ≤ length m.log) (sym left) (keep_first-length (is_open_of t) 0 m.log) in
@@ -210,11 +195,11 @@ committed-kept laws {m} {views} {t} {from} {w} {log} {new} h done =
       ops_fit = each-left (λ (e : LogEntry). e.op < length T.ops) t 0 m.log log left h.ops_fit;
       room = omega arith;
       sound = laws.sound_after m (committed m w log) t h.covered h.sound (committed-commits laws h done);
-      seen = λ u. subst (λ V. IsView o w.state log u (seen_by u w.state V)) (sym on) (subst (λ s. IsView o s log u (seen_by u s (map (walk_view T t part) (without_view t views)))) base (seen u));
+      seen = λ u. subst (λ V. IsView o w.state log u (seen_by u w.state V)) (sym on) (subst (λ s. IsView o s log u (seen_by u s (map (walk_view T t m.log) (without_view t views)))) base (seen u));
       fit = done.fit;
       some =
           subst (λ V. AllByRecursion (λ (v : View). 0 < v.count) V) (sym on)
-          (each-map (λ (v : View). 0 < v.count) (walk_view T t part) (without_view t views) (each-filter (λ (v : View). 0 < v.count) (λ v. not (eqb v.by t)) views h.some));
+          (each-map (λ (v : View). 0 < v.count) (walk_view T t m.log) (without_view t views) (each-filter (λ (v : View). 0 < v.count) (λ v. not (eqb v.by t)) views h.some));
       ordered =
-          subst (λ V. Pairs (λ a b. a < b) V) (sym (ap view_owners on ∙ owners-carried T t part (without_view t views))) (ordered-dropped view_owner (λ (v : View). not (eqb v.by t)) views h.ordered);
+          subst (λ V. Pairs (λ a b. a < b) V) (sym (ap view_owners on ∙ owners-carried T t m.log (without_view t views))) (ordered-dropped view_owner (λ (v : View). not (eqb v.by t)) views h.ordered);
     }

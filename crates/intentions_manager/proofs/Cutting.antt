@@ -1,97 +1,128 @@
--- A transaction's entries in a log, from the back: those that stay where the last of them are taken out.
-use Rattle.std.proofs.Common.{◌≡◌, ℕ, ◌+◌, ◌-◌, ◌<◌, ◌≤◌, Bool, true, false, not, List, [], ◌∷◌, ◌++◌, length, get_or, take, drop, set, refl, sym, ap, ◌∙◌, arith}
+-- A loop that takes a transaction's entries out of a log: what stays moves to the front.
+use Rattle.std.proofs.Common.{◌≡◌, ℕ, zero, suc, ◌+◌, ◌-◌, ◌*◌, ◌^◌, ◌%◌, ◌<◌, ◌≤◌, Bool, true, false, not, ◌||◌, List, [], ◌∷◌, ◌++◌, length, get_or, take, drop, set, bit_or, refl, sym, ap, subst, ◌∙◌, append_assoc, inl, inr, arith}
 use mir.Val.{bool_byte}
-use Rattle.std.specs.List.{filter}
-use Rattle.std.proofs.lemmas.List.{drop-drop, take_more, take_more_set, take-set, drop-set-lt, append-nil, append_assoc, take-append-drop, length-append, length-drop, length-set, get_or-drop, nil_from_length}
-use Rattle.std.proofs.lemmas.List.Elements.{filter-append}
-use Rattle.type_table.proofs.Elements.{same_there}
+use Rattle.std.specs.Prelude.{nat_lt}
+use Rattle.std.specs.Int.Bits.{or_zero_r}
+use Rattle.std.proofs.Math.Nat.{eq-zero-or-pos}
+use Rattle.std.proofs.lemmas.Bool.{cases_Bool, lt-ltb}
+use Rattle.std.proofs.lemmas.List.{drop-drop, drop-set-lt, take_more_set, take-set, length-set}
+use Rattle.type_table.proofs.Elements.{next_there}
 use Rattle.object_trait.specs.Strike.{keep_first}
-use Rattle.object_trait.specs.Laws.{KeepsNone, KeepsParts}
 use Rattle.object_trait.specs.declared.log_entry.LogEntry.{LogEntry}
-use Rattle.object_trait.proofs.Striking.{keep_first-all}
+use Rattle.intentions_manager.specs.Kept.{LogHasBits}
+use Rattle.intentions_manager.proofs.Bits.{bits-set}
 
--- ---- a loop that takes them out
-
--- of the list from this place to i those that are mine were taken out, and the others are in the places before kept
-pub record IsCut (mine : LogEntry → Bool) (from : ℕ) (old new : List LogEntry) (kept i : ℕ) : Type 0 where
-  pub front : take kept new ≡ take from old ++ filter (λ e. not (mine e)) (take (i - from) (drop from old))
+-- new began as old. In its first places is what stays of old before i, where `left` of mine may stay from i on
+pub record IsCut (mine : LogEntry → Bool) (first : ℕ) (old new : List LogEntry) (left count word i : ℕ) : Type 0 where
+  pub front : take count new ++ keep_first mine left (drop i old) ≡ keep_first mine first old
   pub rest : drop i new ≡ drop i old
-  pub behind : kept ≤ i
-  pub begun : from ≤ i
+  pub behind : count ≤ i
   pub long : length new ≡ length old
+  pub bits : LogHasBits word (take count new)
 
--- one more element of the list after the place
-taken_more : (from i : ℕ) (old : List LogEntry) (e : LogEntry) → from ≤ i → i < length old → e ≡ get_or old i e → take (i + 1 - from) (drop from old) ≡ take (i - from) (drop from old) ++ e ∷ []
-taken_more from i old e begun within read =
-    let long : length (drop from old) ≡ length old - from = length-drop from old in
-    let next : i + 1 - from ≡ i - from + 1 = omega arith in
-    let at : from + (i - from) ≡ i = omega arith in
-    let there : get_or (drop from old) (i - from) e ≡ e = get_or-drop from old (i - from) e ∙ ap (λ n. get_or old n e) at ∙ sym read in
-    ap (λ n. take n (drop from old)) next ∙ take_more (drop from old) (i - from) e (omega arith) ∙ ap (λ x. take (i - from) (drop from old) ++ x ∷ []) there
+-- of a list that begins with one of mine, and of one that begins with another's
+first-mine : (mine : LogEntry → Bool) (n : ℕ) (e : LogEntry) (V : List LogEntry) → mine e ≡ true → 0 < n → keep_first mine n (e ∷ V) ≡ e ∷ keep_first mine (n - 1) V
+first-mine mine zero e V is some = absurd (omega arith)
+first-mine mine (suc n) e V is some = let less : suc n - 1 ≡ n = omega arith in rw (is, less) refl
 
--- what a filter keeps of one more element
-filtered_more : (p : LogEntry → Bool) (V : List LogEntry) (e : LogEntry) (A : List LogEntry) → A ++ filter p (V ++ e ∷ []) ≡ A ++ filter p V ++ filter p (e ∷ [])
-filtered_more p V e A = ap (λ x. A ++ x) (filter-append p V (e ∷ [])) ∙ sym (append_assoc A (filter p V) (filter p (e ∷ [])))
+first-other : (mine : LogEntry → Bool) (n : ℕ) (e : LogEntry) (V : List LogEntry) → mine e ≡ false → keep_first mine n (e ∷ V) ≡ e ∷ keep_first mine n V
+first-other mine n e V isnt = rw isnt refl
 
--- the element goes to the first free place, and stays there where it isn't mine
-pub cut_more : (mine : LogEntry → Bool) (from : ℕ) (old new : List LogEntry) (kept i stays : ℕ) (e : LogEntry) → IsCut mine from old new kept i → i < length new → e ≡ get_or new i e →
-    stays ≡ bool_byte (not (mine e)) → IsCut mine from old (set new kept e) (kept + stays) (i + 1)
-cut_more mine from old new kept i stays e cut within read told =
-    let p : LogEntry → Bool = λ x. not (mine x) in
-    let long = cut.long in
-    let behind = cut.behind in
-    let begun = cut.begun in
-    let more = taken_more from i old e cut.begun (omega arith) (same_there old new i e cut.rest read) in
-    let wanted : take from old ++ filter p (take (i + 1 - from) (drop from old)) ≡ take kept new ++ filter p (e ∷ []) =
-    ap (λ V. take from old ++ filter p V) more ∙ filtered_more p (take (i - from) (drop from old)) e (take from old) ∙ ap (λ V. V ++ filter p (e ∷ [])) (sym cut.front) in
-    let back : drop (i + 1) new ≡ drop (i + 1) old = sym (drop-drop 1 i new) ∙ ap (drop 1) cut.rest ∙ drop-drop 1 i old in
-    let few : stays ≤ 1 = few_stay (mine e) stays told in
-    record {
-      front = fits (mine e) refl told ∙ sym wanted;
-      rest = drop-set-lt (i + 1) new kept e (omega arith) ∙ back;
-      behind = omega arith;
-      begun = omega arith;
-      long = length-set new kept e ∙ cut.long;
-    }
+first-none : (mine : LogEntry → Bool) (e : LogEntry) (V : List LogEntry) → mine e ≡ true → keep_first mine 0 (e ∷ V) ≡ keep_first mine 0 V
+first-none mine e V is = rw is refl
+
+-- e is at i
+module _ (mine : LogEntry → Bool) (first : ℕ) (old new : List LogEntry) (left count word i : ℕ) (e : LogEntry) (cut : IsCut mine first old new left count word i) (within : i < length new) (read : e ≡ get_or new i e) where
+  next : drop i old ≡ e ∷ drop (i + 1) old
+  next = let long = cut.long in next_there old new i e cut.rest (omega (arith, long, within)) read
+
+  back : drop (i + 1) new ≡ drop (i + 1) old
+  back = sym (drop-drop 1 i new) ∙ ap (drop 1) cut.rest ∙ drop-drop 1 i old
+
+  -- it stays, and moves to the front
+  moved : (n k : ℕ) → k ≡ e.op → k < 64 → keep_first mine left (e ∷ drop (i + 1) old) ≡ e ∷ keep_first mine n (drop (i + 1) old) →
+      IsCut mine first old (set new count e) n (count + 1) (bit_or word (1 * 2 ^ k % 2 ^ 64)) (i + 1)
+  moved n k op low kept =
+      let behind = cut.behind in
+      let more : take (count + 1) (set new count e) ≡ take count new ++ e ∷ [] = take_more_set new count e (omega (arith, behind, within)) in
+      let K : List LogEntry = keep_first mine n (drop (i + 1) old) in
+      let whole : take count new ++ keep_first mine left (drop i old) ≡ take count new ++ e ∷ K = ap (λ V. take count new ++ V) (ap (keep_first mine left) next ∙ kept) in
+      record {
+        front = ap (λ V. V ++ K) more ∙ append_assoc (take count new) (e ∷ []) K ∙ sym whole ∙ cut.front;
+        rest = drop-set-lt (i + 1) new count e (omega (arith, behind)) ∙ back;
+        behind = omega (arith, behind);
+        long = length-set new count e ∙ cut.long;
+        bits = subst (LogHasBits (bit_or word (1 * 2 ^ k % 2 ^ 64))) (sym more) (bits-set word (take count new) e k op low cut.bits);
+      }
+
+  -- it isn't mine
+  pub cut-other : (k : ℕ) → k ≡ e.op → k < 64 → mine e ≡ false → IsCut mine first old (set new count e) left (count + 1) (bit_or word (1 * 2 ^ k % 2 ^ 64)) (i + 1)
+  cut-other k op low isnt = moved left k op low (first-other mine left e (drop (i + 1) old) isnt)
+
+  -- it is mine, and none of mine stays any more
+  gone : mine e ≡ true → left ≡ 0 → take count new ++ keep_first mine 0 (drop (i + 1) old) ≡ keep_first mine first old
+  gone is none =
+      ap (λ V. take count new ++ V) (sym (ap (λ n. keep_first mine n (drop i old)) none ∙ ap (keep_first mine 0) next ∙ first-none mine e (drop (i + 1) old) is)) ∙ cut.front
+
+  pub cut-mine : mine e ≡ true → left ≡ 0 → IsCut mine first old new 0 count word (i + 1)
+  cut-mine is none = let behind = cut.behind in record {
+    front = gone is none;
+    rest = back;
+    behind = omega (arith, behind);
+    long = cut.long;
+    bits = cut.bits;
+  }
+
+  -- the same where it is written, but not kept
+  passed : (k : ℕ) → mine e ≡ true → left ≡ 0 → IsCut mine first old (set new count e) 0 (count + 0) (bit_or word (0 * 2 ^ k % 2 ^ 64)) (i + 1)
+  passed k is none =
+      let behind = cut.behind in
+      let here : count + 0 ≡ count = omega arith in
+      let same : take count (set new count e) ≡ take count new = take-set new count e in
+      let none_set : 0 * 2 ^ k % 2 ^ 64 ≡ 0 = omega arith in
+      let word_is : bit_or word (0 * 2 ^ k % 2 ^ 64) ≡ word = ap (bit_or word) none_set ∙ or_zero_r word in
+      rw (here, word_is)
+      (record {
+        front = ap (λ V. V ++ keep_first mine 0 (drop (i + 1) old)) same ∙ gone is none;
+        rest = drop-set-lt (i + 1) new count e (omega (arith, behind)) ∙ back;
+        behind = omega (arith, behind);
+        long = length-set new count e ∙ cut.long;
+        bits = subst (LogHasBits word) (sym same) cut.bits;
+      })
+
+  -- it stays or goes
+  pub cut-next : (k more bit own : ℕ) (stay : Bool) → k ≡ e.op → k < 64 → stay ≡ (not (mine e) || nat_lt 0 left) → more ≡ bool_byte stay → bit ≡ bool_byte stay → own ≡ bool_byte (mine e) →
+      IsCut mine first old (set new count e) (left - own) (count + more) (bit_or word (bit * 2 ^ k % 2 ^ 64)) (i + 1)
+  cut-next k more bit own stay op low stay_is more_is bit_is own_is =
+      let same : more ≡ bit = more_is ∙ sym bit_is in
+      elim (cases_Bool (mine e)) [
+        | inr other ↦
+            let one : bit ≡ 1 = bit_is ∙ ap bool_byte (stay_is ∙ ap (λ b. not b || nat_lt 0 left) other) in
+            let less : left - own ≡ left = omega (arith, own_is ∙ ap bool_byte other) in
+            rw (same, one, less) (cut-other k op low other)
+        | inl is ↦
+            let one_own : own ≡ 1 = own_is ∙ ap bool_byte is in
+            elim (eq-zero-or-pos left) [
+              | inl none ↦
+                  let bit_gone : bit ≡ 0 = bit_is ∙ ap bool_byte (stay_is ∙ ap (λ b. not b || nat_lt 0 left) is ∙ ap (λ n. nat_lt 0 n) none) in
+                  let less : left - own ≡ 0 = omega (arith, none) in
+                  rw (same, bit_gone, less) (passed k is none)
+              | inr some ↦
+                  let one : bit ≡ 1 = bit_is ∙ ap bool_byte (stay_is ∙ ap (λ b. not b || nat_lt 0 left) is ∙ lt-ltb 0 left some) in
+                  rw (same, one, one_own) (moved (left - 1) k op low (first-mine mine left e (drop (i + 1) old) is some))
+            ]
+      ]
+
+-- it stays or goes, where none of mine stays
+pub cut-next_none : (mine : LogEntry → Bool) (old new : List LogEntry) (count word i : ℕ) (e : LogEntry) → IsCut mine 0 old new 0 count word i → i < length new → e ≡ get_or new i e →
+    (k more bit : ℕ) (stay : Bool) → k ≡ e.op → k < 64 → stay ≡ not (mine e) → more ≡ bool_byte stay → bit ≡ bool_byte stay →
+    IsCut mine 0 old (set new count e) 0 (count + more) (bit_or word (bit * 2 ^ k % 2 ^ 64)) (i + 1)
+cut-next_none mine old new count word i e cut within read k more bit stay op low stay_is more_is bit_is =
+    let own : ℕ = bool_byte (mine e) in
+    let none : 0 - own ≡ 0 = omega arith in
+    subst (λ left. IsCut mine 0 old (set new count e) left (count + more) (bit_or word (bit * 2 ^ k % 2 ^ 64)) (i + 1)) none
+    (cut-next mine 0 old new 0 count word i e cut within read k more bit own stay op low (stay_is ∙ or_none (mine e)) more_is bit_is refl)
   where
-    few_stay : (b : Bool) (n : ℕ) → n ≡ bool_byte (not b) → n ≤ 1
-    few_stay true n h = omega arith
-    few_stay false n h = omega arith
-
-    fits : (b : Bool) → mine e ≡ b → stays ≡ bool_byte (not b) → take (kept + stays) (set new kept e) ≡ take kept new ++ filter (λ x. not (mine x)) (e ∷ [])
-    fits true is h =
-        let same : kept + stays ≡ kept = omega arith in
-        rw is (ap (λ n. take n (set new kept e)) same ∙ take-set new kept e ∙ sym (append-nil (take kept new)))
-    fits false isnt h =
-        let one : kept + stays ≡ kept + 1 = omega arith in
-        let behind = cut.behind in
-        rw isnt (ap (λ n. take n (set new kept e)) one ∙ take_more_set new kept e (omega arith))
-
--- ---- what is left
-
--- mine are those of the front and those of the rest
-mine_parted : (mine : LogEntry → Bool) (i : ℕ) (log : List LogEntry) → filter mine log ≡ filter mine (take i log) ++ filter mine (drop i log)
-mine_parted mine i log = ap (filter mine) (sym (take-append-drop i log)) ∙ filter-append mine (take i log) (drop i log)
-
--- a front, and the rest without mine, of which there are m: all but the last m of mine
-pub cut-kept : KeepsNone LogEntry → KeepsParts LogEntry → (mine : LogEntry → Bool) (log : List LogEntry) (i m : ℕ) → length (filter mine (drop i log)) ≡ m →
-    take i log ++ filter (λ e. not (mine e)) (drop i log) ≡ keep_first mine (length (filter mine log) - m) log
-cut-kept none parts mine log i m counted =
-    let n = length (filter mine (take i log)) in
-    let all : length (filter mine log) ≡ n + length (filter mine (drop i log)) = ap length (mine_parted mine i log) ∙ length-append (filter mine (take i log)) (filter mine (drop i log)) in
-    let left : length (filter mine log) - m ≡ n = omega arith in
-    let nothing : n - n ≡ 0 = omega arith in
-    let halves : keep_first mine n log ≡ keep_first mine n (take i log) ++ keep_first mine (n - n) (drop i log) =
-    ap (keep_first mine n) (sym (take-append-drop i log)) ∙ parts mine n (take i log) (drop i log) in
-    rw left
-    (sym
-    (halves ∙ ap (λ V. V ++ keep_first mine (n - n) (drop i log)) (keep_first-all mine (take i log)) ∙ ap (λ k. take i log ++ keep_first mine k (drop i log)) nothing
-    ∙ ap (λ V. take i log ++ V) (none mine (drop i log))))
-
--- where as many of mine are after a place as there are, these are all of mine
-pub behind_all : (mine : LogEntry → Bool) (log : List LogEntry) (i : ℕ) → length (filter mine (drop i log)) ≡ length (filter mine log) → filter mine (drop i log) ≡ filter mine log
-behind_all mine log i counted =
-    let all : length (filter mine log) ≡ length (filter mine (take i log)) + length (filter mine (drop i log)) =
-    ap length (mine_parted mine i log) ∙ length-append (filter mine (take i log)) (filter mine (drop i log)) in
-    let before : filter mine (take i log) ≡ [] = nil_from_length (filter mine (take i log)) (omega arith) in
-    sym (mine_parted mine i log ∙ ap (λ V. V ++ filter mine (drop i log)) before)
+    or_none : (b : Bool) → not b ≡ (not b || nat_lt 0 0)
+    or_none true = refl
+    or_none false = refl

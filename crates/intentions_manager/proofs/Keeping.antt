@@ -1,9 +1,9 @@
 -- What a manager keeps, and that a further operation keeps it.
-use Rattle.std.proofs.Common.{◌≡◌, ◌↔◌, ℕ, ◌+◌, ◌<◌, true, false, eqb, List, [], ◌∷◌, ◌++◌, length, Option, Some, refl, sym, ap, subst, ◌∙◌, inl, inr, arith}
+use Rattle.std.proofs.Common.{◌≡◌, ◌↔◌, ℕ, ◌+◌, ◌<◌, true, false, eqb, List, [], ◌∷◌, ◌++◌, length, All, Option, Some, refl, sym, ap, subst, ◌∙◌, inl, inr, arith}
 use Rattle.std.specs.Option.{is_some}
 use Rattle.std.proofs.lemmas.Bool.{cases_Bool, eqb-true}
 use Rattle.std.proofs.lemmas.List.{map-append, length_push}
-use Rattle.std.proofs.lemmas.List.Elements.{All-push, All-from_recursion, recursion_from_All}
+use Rattle.std.proofs.lemmas.List.Elements.{All-push, All-weaker, All-from_recursion, recursion_from_All}
 use Rattle.type_table.specs.Table.{Table, next}
 use Rattle.type_table.specs.Run.{run, IsLegal, AreEqui}
 use Rattle.type_table.specs.Laws.{RunsAlong, EquiExtends, StepsWithin}
@@ -45,6 +45,12 @@ deferred-view m t deferred = ap (λ way. view_by way (object m) m.base m.log t) 
 -- all entries are open
 pub all-open : {m : Meaning} {views : List View} → IsKeptDeferred m views → AreOpen m.log
 all-open {m} {views} h = All-from_recursion (λ (e : LogEntry). e.done ≡ false) m.log (deferred-sound m h.deferred h.sound).all_open
+
+-- each operation has a bit of a word
+pub low-ops : {m : Meaning} {views : List View} → IsKeptDeferred m views → All (λ (e : LogEntry). e.op < 64) m.log
+low-ops {m} {views} h =
+    let few = h.table.ops_fit in
+    All-weaker (λ (e : LogEntry). e.op < length m.checked.file.table.ops) (λ (e : LogEntry). e.op < 64) (λ e inside. omega (arith, few, inside)) m.log h.ops_fit
 
 -- equieffective states, under other names
 pub equi-same : (T : Table) (a b c d : Option ℕ) → a ≡ c → b ≡ d → AreEqui T a b → AreEqui T c d

@@ -5,6 +5,7 @@ pub mod Counting
 pub mod Cutting
 pub mod Idling
 pub mod Keeping
+pub mod Places
 pub mod Rewinding
 pub mod Seeing
 pub mod Walking

@@ -1,9 +1,9 @@
 -- A strike and an abort keep what a manager keeps.
-use Rattle.std.proofs.Common.{◌≡◌, ℕ, ◌<◌, ◌≤◌, false, not, eqb, List, [], length, take, drop, All, Some, refl, sym, ap, subst, ◌∙◌, inl, inr, arith}
+use Rattle.std.proofs.Common.{◌≡◌, ℕ, ◌<◌, ◌≤◌, false, not, eqb, List, [], length, take, All, Some, refl, sym, ap, subst, ◌∙◌, inl, inr, arith}
 use Rattle.std.specs.List.{AllByRecursion}
 use Rattle.std.proofs.lemmas.Bool.{cases_Bool, eqb-true}
 use Rattle.std.proofs.lemmas.List.Elements.{All-filter, All-from_recursion, recursion_from_All}
-use Rattle.type_table.specs.Run.{run, IsLegal, AreEqui}
+use Rattle.type_table.specs.Run.{run, AreEqui}
 use Rattle.type_table.specs.Laws.{EndsInside, EndsWithin}
 use Rattle.type_table.proofs.Elements.{each-filter}
 use Rattle.object_trait.specs.Strike.{keep_first}
@@ -18,7 +18,6 @@ use Rattle.intentions_manager.specs.Views.{view_owner, ViewsAscend, seen_by, wit
 use Rattle.intentions_manager.specs.Walk.{walked, FitsTable}
 use Rattle.intentions_manager.specs.Kept.{IsView, IsKeptDeferred}
 use Rattle.intentions_manager.specs.declared.views.View.{View}
-use Rattle.intentions_manager.proofs.Cutting.{behind_all}
 use Rattle.intentions_manager.proofs.Seeing.{seen-put, seen-put_other, seen-dropped, seen-dropped_other}
 use Rattle.intentions_manager.proofs.Walking.{walk-run}
 use Rattle.intentions_manager.proofs.Keeping.{deferred-covered, deferred-sound, view-same, view-bare}
@@ -89,33 +88,30 @@ pub record RewindLaws : Type 0 where
   pub strike : StrikeLaws
 
 -- where its entries end that are left
-view-rewound : RewindLaws → {m : Meaning} {views : List View} (t n from : ℕ) (log : List LogEntry) → IsKeptDeferred m views → log ≡ keep_first (is_open_of t) n m.log → n ≤ length (open_of t m.log) →
-    length (open_of t (drop from log)) ≡ n → IsView (object m) m.base log t (record { by = t; state = walked m.checked.file.table t m.base (drop from log); count = n })
-view-rewound laws {m} {views} t n from log h left many counted =
+view-rewound : RewindLaws → {m : Meaning} {views : List View} (t n : ℕ) (log : List LogEntry) → IsKeptDeferred m views → log ≡ keep_first (is_open_of t) n m.log → n ≤ length (open_of t m.log) →
+    IsView (object m) m.base log t (record { by = t; state = walked m.checked.file.table t m.base log; count = n })
+view-rewound laws {m} {views} t n log h left many =
     let T = m.checked.file.table in
     let o = object m in
     let opens = log_ops (open_of t log) in
-    let end = walked T t m.base (drop from log) in
-    let count : length (open_of t log) ≡ n = own-count laws.strike.first t n m.log log left many in
-    let all : open_of t (drop from log) ≡ open_of t log = behind_all (is_open_of t) log from (counted ∙ sym count) in
+    let end = walked T t m.base log in
     let old_sound = deferred-sound m h.deferred h.sound in
     let sound = deferred-sound (with_log m log) h.deferred (laws.strike.sound_after m (with_log m log) t n h.covered h.sound (struck-keeps t n log h left)) in
-    let legal : IsLegal T (Some m.base) (log_ops (open_of t (drop from log))) = subst (λ V. IsLegal T (Some m.base) (log_ops V)) (sym all) (sound.legal t) in
-    let walk : run T (Some m.base) opens ≡ Some end = subst (λ V. run T (Some m.base) (log_ops V) ≡ Some end) all (walk-run T t m.base (drop from log) legal) in
+    let walk : run T (Some m.base) opens ≡ Some end = walk-run T t m.base log (sound.legal t) in
     record {
       fits = laws.within T m.base end opens h.table h.base_fits walk;
       inside = laws.inside T o.set m.base end opens (deferred-covered m h.deferred h.covered).closed old_sound.inside walk;
       equi = subst (λ x. AreEqui T x (run T (Some m.base) opens)) walk (λ ks l. l, λ ks l. l);
-      counted = sym count;
+      counted = sym (own-count laws.strike.first t n m.log log left many);
     }
 
-pub rewound-kept : RewindLaws → {m : Meaning} {views : List View} (new : List View) (t n from state : ℕ) (log : List LogEntry) → IsKeptDeferred m views → log ≡ keep_first (is_open_of t) n m.log → n ≤ length (open_of t m.log) → 0 < n →
-    length (open_of t (drop from log)) ≡ n → state ≡ walked m.checked.file.table t m.base (drop from log) → new ≡ with_view (record { by = t; state = state; count = n }) views → IsKeptDeferred (with_log m log) new
-rewound-kept laws {m} {views} new t n from state log h left many some counted ended put =
+pub rewound-kept : RewindLaws → {m : Meaning} {views : List View} (new : List View) (t n state : ℕ) (log : List LogEntry) → IsKeptDeferred m views → log ≡ keep_first (is_open_of t) n m.log → n ≤ length (open_of t m.log) → 0 < n →
+    state ≡ walked m.checked.file.table t m.base log → new ≡ with_view (record { by = t; state = state; count = n }) views → IsKeptDeferred (with_log m log) new
+rewound-kept laws {m} {views} new t n state log h left many some ended put =
     let T = m.checked.file.table in
     let o = object m in
     let w : View = record { by = t; state = state; count = n } in
-    let shown : IsView o m.base log t w = subst (λ s. IsView o m.base log t (record { by = t; state = s; count = n })) (sym ended) (view-rewound laws t n from log h left many counted) in
+    let shown : IsView o m.base log t w = subst (λ s. IsView o m.base log t (record { by = t; state = s; count = n })) (sym ended) (view-rewound laws t n log h left many) in
     let own : IsView o m.base log t (seen_by t m.base (with_view w views)) = subst (λ v. IsView o m.base log t v) (sym (seen-put w m.base views)) shown in
     subst (λ V. IsKeptDeferred (with_log m log) V) (sym put)
     (struck-kept laws.strike (with_view w views) t n log h left (λ u differ. seen-put_other w u m.base views differ) own

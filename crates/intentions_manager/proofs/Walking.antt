@@ -1,5 +1,5 @@
 -- Walks along a transaction's open entries.
-use Rattle.std.proofs.Common.{◌≡◌, ℕ, ◌<◌, false, List, [], ◌∷◌, map, Option, Some, None, refl, sym, ap, subst, ◌∙◌, inl, inr}
+use Rattle.std.proofs.Common.{◌≡◌, ℕ, ◌<◌, true, false, List, [], ◌∷◌, map, Option, Some, None, refl, sym, ap, subst, ◌∙◌, inl, inr}
 use Rattle.std.specs.Option.{unwrap_or}
 use Rattle.std.proofs.lemmas.Bool.{cases_Bool}
 use Rattle.std.proofs.lemmas.List.{map-id}
@@ -9,7 +9,7 @@ use Rattle.type_table.specs.Run.{run, IsLegal}
 use Rattle.type_table.proofs.Legal.{nothing_legal}
 use Rattle.object_trait.specs.Meaning.{log_ops, is_open_of, open_of}
 use Rattle.object_trait.specs.declared.log_entry.LogEntry.{LogEntry}
-use Rattle.intentions_manager.specs.Walk.{stepped, walked, step_view, carried}
+use Rattle.intentions_manager.specs.Walk.{stepped, walked, view_moved, step_view, carried}
 use Rattle.intentions_manager.specs.declared.views.View.{View}
 
 -- ---- legal walks
@@ -61,3 +61,10 @@ unmoved T t e isnt [] = refl
 unmoved T t e isnt (v ∷ views) =
     let same : step_view T t e v ≡ v = rw isnt refl in
     ap (λ x. x ∷ views) (sym same) ∙ ap (λ rest. step_view T t e v ∷ rest) (unmoved T t e isnt views)
+
+-- one of t's own moves each
+pub moved-own : (T : Table) (t : ℕ) (e : LogEntry) → is_open_of t e ≡ true → (views : List View) → map (view_moved T e.op) views ≡ map (step_view T t e) views
+moved-own T t e is [] = refl
+moved-own T t e is (v ∷ views) =
+    let same : step_view T t e v ≡ view_moved T e.op v = rw is refl in
+    ap (λ x. x ∷ map (view_moved T e.op) views) (sym same) ∙ ap (λ rest. step_view T t e v ∷ rest) (moved-own T t e is views)

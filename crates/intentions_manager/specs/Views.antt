@@ -1,7 +1,8 @@
 -- The states that open transactions see, in the order of the transactions' numbers.
-use Rattle.std.specs.Prelude.{ℕ, List}
+use Rattle.std.specs.Prelude.{◌≡◌, ℕ, true, false, List}
 use Rattle.object_trait.specs.Rows as rows
 use Rattle.intentions_manager.specs.declared.views.View.{View}
+use Rattle.intentions_manager.specs.declared.views.Place.{Place}
 
 -- whose view it is
 abbrev pub view_owner : View → ℕ
@@ -22,6 +23,12 @@ view_index t views = rows.row_index view_owner t views
 -- t's view is at this index
 abbrev pub IsViewAt : ℕ → ℕ → List View → Type 0
 IsViewAt t at views = rows.IsRowAt view_owner t at views
+
+-- t's index is this place, and its view is there where the place is taken
+pub record IsPlace (t : ℕ) (views : List View) (place : Place) : Type 0 where
+  pub index : place.at ≡ view_index t views
+  pub there : place.is_taken ≡ true → IsViewAt t (view_index t views) views
+  pub elsewhere : place.is_taken ≡ false → IsViewAt t (view_index t views) views → ⊥
 
 -- of no entries
 abbrev pub bare : ℕ → ℕ → View

@@ -3,6 +3,7 @@
 
 mod entries;
 mod manager;
+mod packing;
 mod views;
 pub mod worked;
 

@@ -2,12 +2,13 @@ ghost use Rattle.std.specs.Prelude.{◌≡◌, ◌↔◌, [], IsOk, IfOk, IfErr}
 ghost use Rattle.type_table.specs.declared.kind.Kind.TheVariants.{Intentions};
 ghost use Rattle.object_trait.specs.Steps.{IsFresh, MayApply, applied, IsCommit};
 
-use crate::entries::{carry_from, first_conflict, place_of_last, take_out, word_of};
+use crate::entries::first_conflict;
+use crate::packing::{carry, cut, cut_behind};
 use crate::views::{View, drop_view, place_of, put_view, seen_at, seen_by, stepped, walked};
 use declared_types::DeclaredType;
 use object_trait::{
     LogEntry, Recovery, Renew, WrongKind, checked_is_covered, fresh_is_sound, keeps_first,
-    keeps_none, keeps_others, keeps_parts, opens_are_counted, opens_commute, sound_after_apply,
+    keeps_none, keeps_others, opens_are_counted, opens_commute, sound_after_apply,
     sound_after_commit, sound_after_strike, with_bit,
 };
 use std::alloc::{AllocError, Global};
@@ -22,10 +23,9 @@ use type_table::{
 /// transaction sees this state after its own operations alone.
 ///
 /// Beside the log it keeps one state for each transaction that is open here, in the order of their
-/// numbers. `legal` and `apply` search among these by halves. `view` goes through the log. `commit`,
-/// `abort` and `strike` go through it from the back, and only as far as the transaction's entries reach; a
-/// commit steps each of the other states by each of these entries. Where no transaction is open,
-/// `apply_and_commit` steps the base alone.
+/// numbers. `legal` and `apply` look at the last of these, and search the others by halves. `view` goes through the log, and so do
+/// `commit`, `abort` and `strike`; a commit steps each of the other states by each of the transaction's
+/// entries. Where no transaction is open, `apply_and_commit` steps the base alone.
 #[derive(Drop)]
 pub struct IntentionsManager {
     checked: Arc<CheckedType>,
@@ -108,9 +108,10 @@ impl Recovery for IntentionsManager {
 
     fn view(&self, t: u32) -> u32 {
         // (after another's commit the kept view may be another state, which is only equieffective)
-        u32::from(walked(self.checked.table(), t, self.base, &self.log, 0))
+        u32::from(walked(self.checked.table(), t, self.base, &self.log))
     }
 
+    #[inline(always)]
     fn legal(&self, t: u32, k: Operation) -> bool {
         let view = seen_by(&self.views, t, self.base);
         let table = self.checked.table();
@@ -145,15 +146,15 @@ impl Recovery for IntentionsManager {
         sound_after_apply();
         self.log.reserve(1)?;
         self.views.reserve(1)?;
-        let at = place_of(&self.views, t);
-        let seen = seen_at(&self.views, at, t, self.base);
+        let place = place_of(&self.views, t);
+        let seen = seen_at(&self.views, place, t, self.base);
         let state = stepped(self.checked.table(), seen.state, k);
         let view = View {
             by: t,
             state,
             count: seen.count + 1,
         };
-        put_view(&mut self.views, at, view);
+        put_view(&mut self.views, place, view);
         self.log.push_reserved(LogEntry {
             by: t,
             op: k,
@@ -171,23 +172,14 @@ impl Recovery for IntentionsManager {
         ends_within();
         opens_commute();
         keeps_none::<LogEntry>();
-        keeps_parts::<LogEntry>();
         keeps_first::<LogEntry>();
         keeps_others::<LogEntry>();
         sound_after_commit();
-        let at = place_of(&self.views, t);
-        let view = seen_at(&self.views, at, t, self.base);
-        let from = place_of_last(&self.log, t, view.count);
+        let place = place_of(&self.views, t);
+        let view = seen_at(&self.views, place, t, self.base);
         self.base = view.state;
-        drop_view(&mut self.views, at, t);
-        carry_from(
-            &mut self.log,
-            from,
-            t,
-            &mut self.views,
-            self.checked.table(),
-        );
-        self.word = word_of(&self.log);
+        drop_view(&mut self.views, place, t);
+        self.word = carry(&mut self.log, t, &mut self.views, self.checked.table());
     }
 
     #[inline(always)]
@@ -205,11 +197,9 @@ impl Recovery for IntentionsManager {
         keeps_first::<LogEntry>();
         keeps_others::<LogEntry>();
         sound_after_strike();
-        let at = place_of(&self.views, t);
-        let view = seen_at(&self.views, at, t, self.base);
-        take_out(&mut self.log, t, view.count);
-        self.word = word_of(&self.log);
-        drop_view(&mut self.views, at, t);
+        self.word = cut(&mut self.log, t);
+        let place = place_of(&self.views, t);
+        drop_view(&mut self.views, place, t);
     }
 
     fn strike(&mut self, t: u32, m: u32) {
@@ -218,20 +208,18 @@ impl Recovery for IntentionsManager {
         keeps_first::<LogEntry>();
         keeps_others::<LogEntry>();
         sound_after_strike();
-        let at = place_of(&self.views, t);
-        let view = seen_at(&self.views, at, t, self.base);
+        let place = place_of(&self.views, t);
+        let view = seen_at(&self.views, place, t, self.base);
         let count = view.count - m;
-        take_out(&mut self.log, t, m);
-        self.word = word_of(&self.log);
+        self.word = cut_behind(&mut self.log, t, count);
         if count == 0 {
-            drop_view(&mut self.views, at, t);
+            drop_view(&mut self.views, place, t);
             return;
         }
-        let from = place_of_last(&self.log, t, count);
-        let state = walked(self.checked.table(), t, self.base, &self.log, from);
+        let state = walked(self.checked.table(), t, self.base, &self.log);
         put_view(
             &mut self.views,
-            at,
+            place,
             View {
                 by: t,
                 state,

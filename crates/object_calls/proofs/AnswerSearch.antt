@@ -8,7 +8,7 @@ use Rattle.type_table.specs.Least.{found_or, first_below}
 use Rattle.type_table.specs.Operation.{operation_at, place_of, amount_of, operation-again}
 use Rattle.type_table.specs.Run.{run}
 use Rattle.type_table.specs.Table.{is_same_call}
-use Rattle.type_table.proofs.Least.{found_or_false, first_below-skip, first_below-found, found_below, found_true}
+use Rattle.type_table.proofs.Least.{found_or_false, first_below-skip, first_below-found}
 use Rattle.number_types.proofs.FirstOfLine.{operation-ascends}
 use Rattle.object_trait.specs.Meaning.{Meaning, view_of}
 use Rattle.object_trait.specs.Steps.{IsLegalFor, stopper}
@@ -17,7 +17,7 @@ use Rattle.object_calls.specs.Asked.{beside, AreLookedAt, IsAskedCall}
 use Rattle.object_calls.specs.Lowest.{TakesLowest}
 use Rattle.object_calls.specs.declared.answer.Answer.TheVariants as answer
 use Rattle.object_calls.specs.declared.call.Call.{Call}
-use Rattle.object_calls.proofs.FirstThrough.{map_found, mapped_from, first_below-through}
+use Rattle.object_calls.proofs.FirstThrough.{map_found, first_below-through}
 
 -- what is looked at at a place is legal
 abbrev is_legal_at : Meaning → ℕ → Call → ℕ → Bool
@@ -231,16 +231,6 @@ module _ (m : Meaning) (t : ℕ) (asked : Call) where
         first_below-skip (is_free_at m t asked) h.done word_bits (omega (arith, h.within, word_bits-is))
         (λ q from low. not_free m t asked q (silent_after q from low))
         ∙ h.none_free
-
-    -- what was found is an operation of the table that is legal
-    pub found_is : (k : ℕ) → found ≡ Some k → AreLookedAt m.checked.file.table asked → (k < length m.checked.file.table.ops) × IsLegalFor m t k
-    found_is k is inside =
-        let from = mapped_from (beside asked.first) (first_below word_bits (is_legal_at m t asked)) k (sym first_of_all ∙ is) in
-        let low = found_below (is_legal_at m t asked) word_bits from.0 (Some from.0) (sym from.1) refl in
-        let parts = legal_parts m t asked from.0 (found_true (is_legal_at m t asked) word_bits from.0 (Some from.0) (sym from.1) refl) in (
-          omega (arith, from.2, inside from.0 (omega (arith, low, word_bits-is)) parts.0),
-          subst (λ q. IsLegalFor m t q) from.2 parts.1,
-        )
 
     module _ (inside : AreLookedAt m.checked.file.table asked) (c : ℕ) (asks : IsAskedCall m t c asked) where
       none_free_replies : first_below (length m.checked.file.table.ops) (is_free_answer m t c) ≡ None

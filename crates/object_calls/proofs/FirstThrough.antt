@@ -35,11 +35,6 @@ pub map_found : (g : ℕ → ℕ) (found : Option ℕ) (k : ℕ) → option_or (
 map_found g (Some j) k = refl
 map_found g None k = refl
 
--- what is found has the number of something that was found
-pub mapped_from : (g : ℕ → ℕ) (found : Option ℕ) (k : ℕ) → option_map g found ≡ Some k → (p : ℕ) × (found ≡ Some p) × (g p ≡ k)
-mapped_from g (Some p) k is = (p, refl, let same : g p ≡ k = cc in same)
-mapped_from g None k is = absurd (none-some k is)
-
 -- numbers p below m are those of numbers g p below n, in the same order. Each k that passes is the number of one that does, and the other way
 -- round: then the least is found by either
 module _ (test part : ℕ → Bool) (g : ℕ → ℕ) (n m : ℕ)

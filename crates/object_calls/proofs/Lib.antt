@@ -12,6 +12,7 @@ pub mod LookUps
 pub mod FirstThrough
 pub mod Held
 pub mod AnswerSearch
+pub mod AnswerChoice
 pub mod OneAnswer
 pub mod WithoutReply
 pub mod Holding

@@ -9,7 +9,7 @@ use crate::call::Call;
 use crate::lowest::take_lowest;
 use declared_types::Declaration;
 use number_types::number_has_table;
-use object_trait::Recovery;
+use object_trait::{Admission, Recovery};
 use type_table::Operation;
 
 /// What a call is answered.
@@ -33,7 +33,7 @@ pub fn choose<R: Recovery>(object: &R, t: u32, call: Call) -> Answer
     choose_of(object, t, asked_at(object, t, call))
 }
 
-/// The answer of each call of which these are the operations that are looked at.
+/// The answer of each call of which these are the operations that are looked at. Who blocks the first legal one is kept.
 #[inline(always)]
 fn choose_of<R: Recovery>(object: &R, t: u32, asked: Call) -> Answer
     requires { AreLookedAt (R.meaning object.now).checked.file.table asked }
@@ -41,20 +41,16 @@ fn choose_of<R: Recovery>(object: &R, t: u32, asked: Call) -> Answer
 {
     let operation = asked.first;
     let mut left = asked.operations;
-    let mut first = None;
+    let mut blocker = None;
     while left != 0 {
         let k = beside(operation, take_lowest(&mut left));
-        if object.legal(t, k) {
-            if object.blocker(t, k).is_none() {
-                return Answer::Reply(k);
-            }
-            first = first.or(Some(k));
+        match object.admission(t, k) {
+            Admission::Free => return Answer::Reply(k),
+            Admission::Blocked(u) => blocker = blocker.or(Some(u)),
+            Admission::Illegal => {}
         }
     }
-    match first {
-        Some(k) => busy_with(object.blocker(t, k)),
-        None => Answer::None,
-    }
+    busy_with(blocker)
 }
 
 /// The operations of a call that are looked at: of a number's call `value` the one with the number that t sees.

@@ -119,6 +119,7 @@ impl CallTable {
     }
 
     /// The call with this number of the type that is declared so.
+    #[inline(always)]
     pub fn by_number(&self, declared: &DeclaredType, c: Operation) -> Option<Call>
         requires { HoldsCalls (table_of declared.now) self.now }
         ensures named { (name : List ℕ) → first_op (table_of declared.now) name ≡ Some c → IsSome result }
@@ -149,6 +150,7 @@ impl CallTable {
     }
 
     /// The call that is held with this number.
+    #[inline(always)]
     fn held_by_number(&self, c: Operation) -> Option<Call>
         ensures exact { result ≡ by_number self.now c }
         ensures number { IfSome result (λ call. call.first ≡ c) }

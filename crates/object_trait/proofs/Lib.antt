@@ -1,4 +1,5 @@
 pub mod Accepted
+pub mod Admissions
 pub mod Alone
 pub mod Amounts
 pub mod Committed

@@ -7,5 +7,6 @@ pub mod Committed
 pub mod Sound
 pub mod Alone
 pub mod Steps
+pub mod Admissions
 pub mod Laws
 pub mod Examples

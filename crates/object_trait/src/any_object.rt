@@ -2,6 +2,7 @@
 
 ghost use Rattle.std.specs.Prelude.{◌≡◌};
 
+use crate::admission::Admission;
 use crate::log_entry::LogEntry;
 use crate::recovery::Recovery;
 use declared_types::DeclaredType;
@@ -57,6 +58,10 @@ impl Recovery for AnyObject {
 
     fn blocker(&self, t: u32, k: Operation) -> Option<u32> {
         self.object.blocker(t, k)
+    }
+
+    fn admission(&self, t: u32, k: Operation) -> Admission {
+        self.object.admission(t, k)
     }
 
     fn amount_kept(&self, t: u32, place: u8, u: u32) -> Option<u32> {

@@ -1,6 +1,7 @@
 //! What an object of any kind of recovery means, what its calls do, and the events of a history.
 #![tactic(auto)]
 
+mod admission;
 mod any_object;
 mod bits;
 mod event;
@@ -10,6 +11,7 @@ mod recovery;
 mod renew;
 mod wrong_kind;
 
+pub use admission::{Admission, admitted_by};
 pub use any_object::AnyObject;
 pub use bits::with_bit;
 pub use event::{Event, EventKind};

@@ -5,8 +5,10 @@ ghost use Rattle.table_checker.specs.Checked.{IsChecked};
 ghost use Rattle.declared_types.specs.Declarations.{file_of, IsDeclaredFor};
 ghost use Rattle.object_trait.specs.Meaning.{Meaning, state_of, view_of, open_of};
 ghost use Rattle.object_trait.specs.Committed.{committed_of};
+ghost use Rattle.object_trait.specs.Admissions.{admission_of};
 ghost use Rattle.object_trait.specs.Steps.{IsLegalFor, TellsKept, open_transactions, IsFresh, stopper, MayApply, applied, IsCommit, IsStrike, IsAbort};
 
+use crate::admission::{Admission, admitted_by};
 use crate::log_entry::LogEntry;
 use declared_types::DeclaredType;
 use std::alloc::AllocError;
@@ -57,6 +59,17 @@ pub trait Recovery: Send + Drop {
         requires operation { k < length (meaning self.now).checked.file.table.ops }
         requires legal { IsLegalFor (meaning self.now) t k }
         ensures { result ≡ stopper (meaning self.now) t k };
+
+    /// What transaction t meets that asks for operation k: what `legal` and `blocker` say, in one look.
+    fn admission(&self, t: u32, k: Operation) -> Admission
+        requires { k < length (meaning self.now).checked.file.table.ops }
+        ensures { result ≡ admission_of (meaning self.now) t k }
+    {
+        if !self.legal(t, k) {
+            return Admission::Illegal;
+        }
+        admitted_by(self.blocker(t, k))
+    }
 
     /// Whether u keeps t from an operation of a number's line. This place is the first one of the line, the next
     /// one is that of the other reply. The answer is an amount: at one of the two places the operation with this

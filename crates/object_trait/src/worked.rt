@@ -8,6 +8,8 @@ ghost use Rattle.object_trait.specs.Meaning.{state_of, view_of};
 ghost use Rattle.object_trait.specs.Committed.{committed_of};
 ghost use Rattle.object_trait.specs.Sound.{IsSound};
 ghost use Rattle.object_trait.specs.Steps.{IsLegalFor, open_transactions, MayApply, IsCommit, IsStrike, IsAbort, IsIntentionsCommit, ShowsTheSame};
+ghost use Rattle.object_trait.specs.Admissions.{admission_of};
+ghost use Rattle.object_trait.specs.declared.admission.Admission.TheVariants as admission;
 ghost use Rattle.object_trait.specs.Examples.{held, done_entry, counter_at, two_ups, up_and_down, down_on_up, up_behind_open, two_alike};
 
 use crate::laws::untouched_shows_the_same;
@@ -63,6 +65,14 @@ pub fn what_commutes_may_be_applied()
     ensures up { MayApply (counter_at Kind.Undo 0 (held 1 0 ∷ [])) 2 0 }
     ensures down { MayApply (counter_at Kind.Undo 0 (held 1 0 ∷ [])) 2 1 → ⊥ }
     ensures own { MayApply (counter_at Kind.Undo 0 (held 1 0 ∷ [])) 1 1 }
+{}
+
+/// So the other meets nobody at the one and the first at the other. At the greatest number nobody may count up.
+pub fn who_asks_is_told_what_it_meets()
+    ensures free { admission_of (counter_at Kind.Undo 0 (held 1 0 ∷ [])) 2 0 ≡ admission.Free }
+    ensures blocked { admission_of (counter_at Kind.Undo 0 (held 1 0 ∷ [])) 2 1 ≡ admission.Blocked 1 }
+    ensures own { admission_of (counter_at Kind.Undo 0 (held 1 0 ∷ [])) 1 1 ≡ admission.Free }
+    ensures illegal { admission_of two_ups 3 0 ≡ admission.Illegal }
 {}
 
 /// A commit in place marks the entries, and may move done ones at the front of the log into the base.

@@ -3,7 +3,7 @@ ghost use Rattle.std.specs.Prelude.{◌≡◌};
 use declared_types::DeclaredType;
 use escrow_manager::EscrowManager;
 use intentions_manager::IntentionsManager;
-use object_trait::{LogEntry, Recovery, Renew};
+use object_trait::{Admission, LogEntry, Recovery, Renew};
 use std::alloc::{AllocError, Global};
 use std::sync::Arc;
 use table_checker::CheckedType;
@@ -70,6 +70,15 @@ impl Recovery for Object {
         }
     }
 
+    #[inline(always)]
+    fn admission(&self, t: u32, k: Operation) -> Admission {
+        match self {
+            Object::Undo(manager) => manager.admission(t, k),
+            Object::Intentions(manager) => manager.admission(t, k),
+            Object::Escrow(manager) => manager.admission(t, k),
+        }
+    }
+
     fn amount_kept(&self, t: u32, place: u8, u: u32) -> Option<u32> {
         match self {
             Object::Undo(manager) => manager.amount_kept(t, place, u),
@@ -112,6 +121,7 @@ impl Recovery for Object {
         }
     }
 
+    #[inline(always)]
     fn commit(&mut self, t: u32) {
         match self {
             Object::Undo(manager) => manager.commit(t),

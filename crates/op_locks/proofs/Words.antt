@@ -1,8 +1,9 @@
 -- Words with the bits of held operations.
-use Rattle.std.proofs.Common.{◌≡◌, ℕ, ◌*◌, ◌^◌, ◌%◌, ◌<◌, Bool, not, eqb, List, [], ◌∷◌, ◌++◌, length, None, bit_and, bit_or, w64, sym, ap, ◌∙◌, get_or, inl, inr, All}
+use Rattle.std.proofs.Common.{◌≡◌, ℕ, ◌+◌, ◌*◌, ◌^◌, ◌%◌, ◌<◌, ◌&&◌, Bool, false, not, eqb, List, [], ◌∷◌, ◌++◌, length, None, bit_and, bit_or, w64, drop, refl, sym, ap, ◌∙◌, get_or, inl, inr, All}
 use Rattle.std.specs.Int.{bit_at}
 use Rattle.std.specs.Option.{option_map}
-use Rattle.std.proofs.lemmas.Bool.{cases_eq, and_right}
+use Rattle.std.proofs.lemmas.Bool.{cases_eq, and_right, eq-eqb}
+use Rattle.std.proofs.lemmas.List.{drop_more}
 use Rattle.std.proofs.lemmas.List.Elements.{All-push, All-weaker}
 use Rattle.std.proofs.lemmas.Nat.Bits.{bit_at_set_same, bit_at_set_other}
 use Rattle.type_table.specs.ConflictTable.{conflicts}
@@ -43,3 +44,12 @@ nobody_blocks rows t k row word held shows apart within bits =
     (λ i d i_in. let e : Held = get_or held i d in
     let clear = bits_apart row word e.op apart (bits i d i_in).1 in
     and_right (not (is_held_by t e)) (conflicts rows k e.op) (sym (shows e.op (within i d i_in)) ∙ ap (λ b. eqb b 1) clear)))
+
+-- an entry that doesn't block is passed
+pub passed : (rows : List (List Bool)) (t k i : ℕ) (held : List Held) (e : Held) → i < length held → e ≡ get_or held i e → blocks rows t k e ≡ false →
+    blocking_holder rows t k (drop (i + 1) held) ≡ blocking_holder rows t k (drop i held)
+passed rows t k i held e inside is stays = rw (drop_more held i e inside, ← is, stays) refl
+
+-- one of t's own doesn't
+pub own-passes : (rows : List (List Bool)) (t k : ℕ) (e : Held) → e.by ≡ t → blocks rows t k e ≡ false
+own-passes rows t k e own = ap (λ b. not b && conflicts rows k e.op) (eq-eqb e.by t own)

@@ -1,8 +1,9 @@
-ghost use Rattle.std.specs.Prelude.{◌≡◌, ◌≤◌, ◌<◌, ◌+◌, ◌++◌, ◌∷◌, [], All, length, IsOk, OnOk, OnErr};
+ghost use Rattle.std.specs.Prelude.{◌≡◌, ◌==◌, ◌≤◌, ◌<◌, ◌+◌, ◌++◌, ◌∷◌, [], All, length, IsOk, OnOk, OnErr};
+ghost use Rattle.std.specs.Int.{bit_at};
 ghost use Rattle.op_locks.specs.Locks.{blocking_holder, is_held_by, held_without};
 ghost use Rattle.object_trait.specs.Strike.{keep_first};
 
-use crate::compacting::compact;
+use crate::compacting::{compact, take_last};
 use crate::held::Held;
 use object_trait::keeps_none;
 use smallvec::SmallVec;
@@ -49,11 +50,12 @@ impl OpLocks {
         requires held { All (λ e. e.op < length table.now) self.now.held }
         ensures { result ≡ blocking_holder table.now t k self.now.held }
     {
-        if table.row(k) & self.word == 0 {
+        let row = table.row(k);
+        if row & self.word == 0 {
             return None;
         }
         for held in self.held.as_slice() {
-            if held.by != t && table.conflicts(k, held.op) {
+            if held.by != t && has_bit(row, held.op) {
                 return Some(held.by);
             }
         }
@@ -109,7 +111,15 @@ impl OpLocks {
         ensures room { self.old.room ≤ self.new.room }
     {
         let kept = compact(self.held.as_mut_slice(), t, first);
-        self.held.truncate(kept.count);
+        take_last(&mut self.held, kept.gone);
         self.word = kept.word;
     }
+}
+
+/// Whether a word has the bit of an operation.
+fn has_bit(word: u64, k: u8) -> bool
+    requires { k < 64 }
+    ensures { result ≡ (bit_at word k == 1) }
+{
+    word >> k & 1 == 1
 }

@@ -15,13 +15,16 @@ use Rattle.object_trait.specs.Laws.{KeepsFirst, KeepsNone, KeepsParts, KeepsOthe
 use Rattle.object_trait.specs.declared.log_entry.LogEntry.{LogEntry}
 use Rattle.object_trait.proofs.Striking.{keep_first-all}
 use Rattle.object_trait.proofs.Runs.{ops-append, open-apart}
+use Rattle.op_locks.specs.Locks.{is_held_by}
+use Rattle.undo_manager.specs.Held.{held_in}
 use Rattle.undo_manager.specs.Kept.{IsKeptInPlace}
 use Rattle.undo_manager.specs.Log.{entries, LeadsTo, start_of, unsettled}
 use Rattle.undo_manager.specs.Opened.{IsRecounted}
-use Rattle.undo_manager.specs.Rerun.{IsRerun}
+use Rattle.undo_manager.specs.Rerun.{IsRerun, IsTakenBack}
 use Rattle.undo_manager.specs.declared.opened.Opened.{Opened}
 use Rattle.undo_manager.specs.declared.undo_entry.UndoEntry.{UndoEntry}
 use Rattle.undo_manager.proofs.Keeping.{meaning_of, recounted, IsLeft, settled-kept}
+use Rattle.undo_manager.proofs.Holding.{held-left, held-settled}
 use Rattle.undo_manager.proofs.InPlace.{sound_in, sound_out, strike_in}
 use Rattle.undo_manager.proofs.Passing.{opens, opens-split}
 use Rattle.undo_manager.proofs.Rerunning.{left_of}
@@ -73,7 +76,7 @@ strike-legal along none parts legal c base state log counts t m place kept passe
 -- ---- after it
 
 -- the entries of a log that was run again
-pub rerun-entries : KeepsNone LogEntry → KeepsParts LogEntry → (c : Checked) (t m place : ℕ) (log : List UndoEntry) (start : ℕ) (new : List UndoEntry) (end : ℕ) →
+rerun-entries : KeepsNone LogEntry → KeepsParts LogEntry → (c : Checked) (t m place : ℕ) (log : List UndoEntry) (start : ℕ) (new : List UndoEntry) (end : ℕ) →
     IsRerun c.file.table t place log start new end → opens t (drop place log) ≡ m → entries new ≡ keep_first (is_open_of t) (opens t log - m) (entries log)
 rerun-entries none parts c t m place log start new end r passed =
     ap entries r.items ∙ (entries-append (take place log) r.rest ∙ (ap (λ l. entries (take place log) ++ l) r.left ∙ sym (strike-log none parts t m place log passed)))
@@ -119,20 +122,22 @@ struck-is none parts c base log t m place start new end new_counts left passed r
 -- what a strike leaves
 pub record IsStruck (c : Checked) (base : ℕ) (log : List UndoEntry) (t m : ℕ) (new : List UndoEntry) (end : ℕ) (new_counts : List Opened) : Type 0 where
   pub kept : IsKeptInPlace c (start_of (unsettled new) end) end (unsettled new) new_counts
+  pub held : held_in (entries (unsettled new)) ≡ keep_first (is_held_by t) (opens t log - m) (held_in (entries log))
   pub strike : IsStrike (meaning_of c base log) t m (meaning_of c (start_of (unsettled new) end) (unsettled new))
 
 -- all is kept
 pub struck : EndsWithin → SoundAfterStrike → KeepsFirst LogEntry → KeepsNone LogEntry → KeepsParts LogEntry → KeepsOthers LogEntry →
-    (c : Checked) (base state : ℕ) (log : List UndoEntry) (counts : List Opened) (t m place : ℕ) (new : List UndoEntry) (end : ℕ) (new_counts : List Opened) →
-    IsKeptInPlace c base state log counts → opens t (drop place log) ≡ m → IsRerun c.file.table t place log (start_of (drop place log) state) new end →
-    IsRecounted t (opens t log - m) counts new_counts → IsStruck c base log t m new end new_counts
-struck ends sound first none parts others c base state log counts t m place new end new_counts kept passed r recount =
-    let left = struck-left first none parts others c base state log counts t m place new end new_counts kept passed r recount in
+    (c : Checked) (base state : ℕ) (log : List UndoEntry) (counts : List Opened) (t m : ℕ) (new : List UndoEntry) (end : ℕ) (new_counts : List Opened) →
+    IsKeptInPlace c base state log counts → IsTakenBack c.file.table t m log state new end → IsRecounted t (opens t log - m) counts new_counts → IsStruck c base log t m new end new_counts
+struck ends sound first none parts others c base state log counts t m new end new_counts kept back recount =
+    let left = struck-left first none parts others c base state log counts t m back.place new end new_counts kept back.passed back.rerun recount in
     let new_base : ℕ = start_of (unsettled new) end in
-    let strike = struck-is none parts c base log t m place (start_of (drop place log) state) new end new_counts left passed r in
+    let n : ℕ = opens t log - m in
+    let strike = struck-is none parts c base log t m back.place (start_of (drop back.place log) state) new end new_counts left back.passed back.rerun in
     record {
       kept = settled-kept ends c base end new new_counts left
           (sound_out c.kind kept.in_place (object_of c) new_base (entries (unsettled new))
-          (sound (meaning_of c base log) (meaning_of c new_base (unsettled new)) t (opens t log - m) kept.covered (sound_in c.kind kept.in_place (object_of c) base (entries log) kept.sound) strike));
+          (sound (meaning_of c base log) (meaning_of c new_base (unsettled new)) t n kept.covered (sound_in c.kind kept.in_place (object_of c) base (entries log) kept.sound) strike));
+      held = held-settled new ∙ ap held_in (rerun-entries none parts c t m back.place log (start_of (drop back.place log) state) new end back.rerun back.passed) ∙ held-left (entries log) t n;
       strike = strike;
     }

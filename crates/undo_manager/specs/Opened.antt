@@ -1,5 +1,5 @@
 -- How many open entries each transaction has, as a list of those that have any.
-use Rattle.std.specs.Prelude.{◌≡◌, ℕ, ◌<◌, List, [], ◌∷◌, length, false, ◌==◌, if◌then◌else◌}
+use Rattle.std.specs.Prelude.{◌≡◌, ℕ, ◌<◌, List, [], ◌∷◌, length, slice_index_or, false, ◌==◌, if◌then◌else◌}
 use Rattle.std.specs.List.{AllByRecursion}
 use Rattle.object_trait.specs.Meaning.{open_of}
 use Rattle.object_trait.specs.Orders.{Pairs}
@@ -15,6 +15,12 @@ count_of t (o ∷ counts) = if o.by == t then o.count else count_of t counts
 pub record AreListedOnce (counts : List Opened) : Type 0 where
   pub once : Pairs (λ a b. (b.by == a.by) ≡ false) counts
   pub some : AllByRecursion (λ o. 0 < o.count) counts
+
+-- t is listed at this place, with its count
+pub record IsPlaceOf (t : ℕ) (counts : List Opened) (place : ℕ) : Type 0 where
+  pub inside : place < length counts
+  pub mine : (d : Opened) → (slice_index_or counts place d).by ≡ t
+  pub count : (d : Opened) → (slice_index_or counts place d).count ≡ count_of t counts
 
 -- t's count is n, and each other one is as it was
 pub record IsRecounted (t n : ℕ) (old new : List Opened) : Type 0 where

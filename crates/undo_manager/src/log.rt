@@ -14,6 +14,7 @@ use std::alloc::AllocError;
 /// # Errors
 ///
 /// Memory was refused, and both lists are as they were.
+#[inline(always)]
 pub fn append(
     log: &mut Vec<UndoEntry>,
     counts: &mut Vec<Opened>,

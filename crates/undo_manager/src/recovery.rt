@@ -4,9 +4,9 @@ ghost use Rattle.std.specs.Prelude.{◌≡◌, [], length};
 ghost use Rattle.object_trait.specs.Meaning.{open_of};
 ghost use Rattle.object_trait.specs.Steps.{MayApply, applied, IsCommit};
 
-use crate::log::{append, mark, place_of, settle, state_before};
-use crate::opened::{count_of, leave_count};
-use crate::stepping::{committed_after, next_state, rerun};
+use crate::log::{append, mark, settle};
+use crate::opened::{count_fewer, take_count};
+use crate::stepping::{committed_after, next_state, take_back};
 use crate::undo_entry::UndoEntry;
 use crate::undo_manager::UndoManager;
 use declared_types::DeclaredType;
@@ -21,13 +21,6 @@ use table_checker::CheckedType;
 use type_table::{Operation, TableKind, ends_within, runs_along, steps_within};
 
 impl UndoManager {
-    /// The number of t's open entries.
-    fn count_of(&self, t: u32) -> u32
-        ensures { result ≡ length (open_of t self.now.log) }
-    {
-        count_of(&self.opened, t)
-    }
-
     /// Executes operation k for t, which commits, where no transaction is open: base and state are the state after it.
     fn commit_alone(&mut self, t: u32, k: Operation)
         requires may { MayApply self.old t k }
@@ -83,11 +76,13 @@ impl Recovery for UndoManager {
         None
     }
 
+    #[inline(always)]
     fn apply(&mut self, t: u32, k: Operation) -> Result<(), AllocError> {
         sound_after_apply();
         steps_within();
-        let column = self.checked.table().column(k);
-        let state = next_state(self.checked.table(), self.state, k);
+        let table = self.checked.table();
+        let column = table.column(k);
+        let state = next_state(table, self.state, k);
         let entry = LogEntry {
             by: t,
             op: k,
@@ -101,12 +96,12 @@ impl Recovery for UndoManager {
         Ok(())
     }
 
+    #[inline(always)]
     fn commit(&mut self, t: u32) {
         sound_after_commit();
         ends_within();
-        let count = count_of(&self.opened, t);
+        let count = take_count(&mut self.opened, t);
         mark(&mut self.log, t, count);
-        leave_count(&mut self.opened, t, 0);
         self.base = settle(&mut self.log, self.state);
         self.held.release(t);
     }
@@ -123,8 +118,18 @@ impl Recovery for UndoManager {
     }
 
     fn abort(&mut self, t: u32) {
-        let count = self.count_of(t);
-        self.strike(t, count);
+        keeps_first::<LogEntry>();
+        keeps_none::<LogEntry>();
+        keeps_parts::<LogEntry>();
+        keeps_others::<LogEntry>();
+        runs_along();
+        ends_within();
+        struck_log_is_legal();
+        sound_after_strike();
+        let count = take_count(&mut self.opened, t);
+        self.state = take_back(self.checked.table(), &mut self.log, t, count, self.state);
+        self.base = settle(&mut self.log, self.state);
+        self.held.release_behind(t, 0);
     }
 
     fn strike(&mut self, t: u32, m: u32) {
@@ -136,11 +141,8 @@ impl Recovery for UndoManager {
         ends_within();
         struck_log_is_legal();
         sound_after_strike();
-        let position = place_of(&self.log, t, m);
-        let start = state_before(&self.log, position, self.state);
-        let left = count_of(&self.opened, t) - m;
-        self.state = rerun(self.checked.table(), &mut self.log, position, t, start);
-        leave_count(&mut self.opened, t, left);
+        self.state = take_back(self.checked.table(), &mut self.log, t, m, self.state);
+        let left = count_fewer(&mut self.opened, t, m);
         self.base = settle(&mut self.log, self.state);
         self.held.release_behind(t, left);
     }

@@ -1,28 +1,42 @@
-use Rattle.std.proofs.Common.{arith, cond, set, sym, ap, subst, ◌∙◌}
+use Rattle.std.proofs.Common.{◌≡◌, ℕ, List, arith, cond, set, sym, ap, ◌∙◌}
 use Rattle.std.specs.List.{insert}
-use Rattle.intentions_manager.specs.Views.{view_owner, view_index, IsViewAt}
+use Rattle.std.proofs.lemmas.List.Edits.{insert_end}
+use Rattle.intentions_manager.specs.Views.{view_owner, ViewsAscend, view_index, IsViewAt, seen_by}
 use Rattle.intentions_manager.specs.declared.views.View.{View}
 use Rattle.object_trait.proofs.Rows.{place-within, put_there, put_before}
 use Rattle.intentions_manager.proofs.Seeing.{seen_nowhere}
 use Rattle.intentions_manager.proofs.views.put_view.Goals as goal
 
+-- who has no view sees no entries
+none : (t : ℕ) (views : List View) → ViewsAscend views → (IsViewAt t (view_index t views) views → ⊥) → (seen_by t 0 views).count ≡ 0
+none t views ordered free = ap (λ (v : View). v.count) (seen_nowhere t 0 views ordered free)
+
+pub push_reserved-requires : goal.push_reserved-requires
+push_reserved-requires c = c.requires.room (none c.args.view.by c.args.views.now.items c.requires.ordered (c.requires.place.elsewhere c.if-place.false))
+
 pub insert-requires : goal.insert-requires
 insert-requires c =
     let within = place-within view_owner c.args.view.by c.args.views.now.items in
-    let position = c.requires.place in
+    let index = c.requires.place.index in
     let long = c.args.views.now.ok.0 in
-    omega (arith, within, position, long)
+    omega (arith, within, index, long)
 
-pub returns-then-is_at : goal.returns-then-is_at
-returns-then-is_at c =
+pub returns-then-place : goal.returns-then-place
+returns-then-place c =
     let views = c.args.views.now.items in
     let view = c.args.view in
-    ap (λ n. set views n view) c.requires.place ∙ put_there view_owner view views (subst (λ n. IsViewAt view.by n views) c.requires.place (c.is_at.ensures.there c.if-is_at.true))
+    ap (λ n. set views n view) c.requires.place.index ∙ put_there view_owner view views (c.requires.place.there c.if-place.true)
 
-pub returns-else-is_at : goal.returns-else-is_at
-returns-else-is_at c =
+pub returns-then-place-len : goal.returns-then-place-len
+returns-then-place-len c =
     let views = c.args.views.now.items in
     let view = c.args.view in
-    let none : IsViewAt view.by (view_index view.by views) views → ⊥ = λ here. c.is_at.ensures.elsewhere c.if-is_at.false (subst (λ n. IsViewAt view.by n views) (sym c.requires.place) here) in
-    let room = c.requires.room (ap (λ (v : View). v.count) (seen_nowhere view.by 0 views c.requires.ordered none)) in
-    c.insert.ensures.items ∙ ap (λ b. cond b (insert views c.args.at view) views) (c.insert.ensures.succeeds room) ∙ ap (λ n. insert views n view) c.requires.place ∙ put_before view_owner view views none
+    let last = sym (c.if-place-len.true ∙ c.len.ensures ∙ c.args.views.now.ok.0) ∙ c.requires.place.index in
+    c.push_reserved.ensures.items ∙ sym (insert_end views view) ∙ ap (λ n. insert views n view) last ∙ put_before view_owner view views (c.requires.place.elsewhere c.if-place.false)
+
+pub returns-else-place-len : goal.returns-else-place-len
+returns-else-place-len c =
+    let views = c.args.views.now.items in
+    let view = c.args.view in
+    c.insert.ensures.items ∙ ap (λ b. cond b (insert views c.args.place.at view) views) (c.insert.ensures.succeeds (c.requires.room (none view.by views c.requires.ordered (c.requires.place.elsewhere c.if-place.false)))) ∙ ap (λ n. insert views n view) c.requires.place.index
+    ∙ put_before view_owner view views (c.requires.place.elsewhere c.if-place.false)

@@ -1,17 +1,12 @@
-use Rattle.std.proofs.Common.{get_or, sym, ap, subst, ◌∙◌}
-use Rattle.intentions_manager.specs.Views.{IsViewAt}
+use Rattle.std.proofs.Common.{get_or, sym, ap, ◌∙◌}
 use Rattle.intentions_manager.proofs.Seeing.{seen_there, seen_nowhere}
 use Rattle.intentions_manager.proofs.views.seen_at.Goals as goal
 
-pub returns-then-is_at : goal.returns-then-is_at
-returns-then-is_at c =
-    let t = c.args.t in
+pub returns-then-place : goal.returns-then-place
+returns-then-place c =
     let views = c.args.views.now.items in
-    let here = subst (λ n. IsViewAt t n views) c.requires.place (c.is_at.ensures.there c.if-is_at.true) in
-    c.index.ensures ∙ ap (λ n. get_or views n c.index.result.now) c.requires.place ∙ seen_there t c.args.base views c.index.result.now here
+    c.index.ensures ∙ ap (λ n. get_or views n c.index.result.now) c.requires.place.index ∙ seen_there c.args.t c.args.base views c.index.result.now (c.requires.place.there c.if-place.true)
 
-pub returns-else-is_at : goal.returns-else-is_at
-returns-else-is_at c =
-    let t = c.args.t in
-    let views = c.args.views.now.items in
-    sym (seen_nowhere t c.args.base views c.requires.ordered (λ here. c.is_at.ensures.elsewhere c.if-is_at.false (subst (λ n. IsViewAt t n views) (sym c.requires.place) here)))
+pub returns-else-place : goal.returns-else-place
+returns-else-place c =
+    sym (seen_nowhere c.args.t c.args.base c.args.views.now.items c.requires.ordered (c.requires.place.elsewhere c.if-place.false))

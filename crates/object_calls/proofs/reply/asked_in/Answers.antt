@@ -5,7 +5,7 @@ use Rattle.number_types.specs.declared.number_call.NumberCall.TheVariants.{Value
 use Rattle.type_table.specs.Limits.{most_ops}
 use Rattle.type_table.specs.Table.{Table}
 use Rattle.number_types.specs.Operations.{number_table}
-use Rattle.declared_types.specs.Declarations.{file_of, table_of}
+use Rattle.declared_types.specs.Declarations.{file_of}
 use Rattle.object_calls.specs.Replies.{idle_at}
 use Rattle.object_calls.proofs.LookUps.{table_inside, table_asked, called_inside, called_asked, other_inside, other_asked}
 use Rattle.object_calls.proofs.reply.asked_in.Goals as goal

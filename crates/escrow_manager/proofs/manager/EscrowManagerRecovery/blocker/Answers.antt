@@ -1,126 +1,23 @@
-use Rattle.std.proofs.Common.{◌≡◌, ◌<◌, true, Some, sym, ap, subst, ◌∙◌, arith}
+use Rattle.std.proofs.Common.{◌≡◌, Some, ap, subst, ◌∙◌}
 use Rattle.std.specs.Prelude.{slice_get}
-use Rattle.escrow_laws.specs.Marks.{mark_after, is_legal_from}
-use Rattle.escrow_laws.specs.declared.bounded.Bounded.{Bounded}
-use Rattle.escrow_laws.specs.declared.mark.Mark.{Mark}
-use Rattle.table_checker.specs.Checked.{Checked}
 use Rattle.object_trait.specs.Meaning.{Meaning}
-use Rattle.object_trait.specs.Steps.{IsLegalFor}
-use Rattle.escrow_manager.specs.Numeric.{bounds_in, greatest}
-use Rattle.escrow_manager.specs.Marks.{IsSmall}
-use Rattle.escrow_manager.specs.Totals.{totals_with, AreFirm}
-use Rattle.escrow_manager.specs.declared.totals.Totals.{Totals}
-use Rattle.escrow_manager.proofs.Telling.{more-short, with-small}
-use Rattle.escrow_manager.proofs.Keeping.{meant, mark_at, op-found, top-small, small-of, legal-with, sums-of, short-of}
-use Rattle.escrow_manager.proofs.Blocking.{mark_with, totals_after, first_of, stopper-none, stopper-marks}
+use Rattle.escrow_manager.specs.Numeric.{bounds_in}
+use Rattle.escrow_manager.specs.Kept.{IsKeptInEscrow}
+use Rattle.escrow_manager.proofs.Keeping.{op-found}
+use Rattle.escrow_manager.proofs.Admitting.{small-with, legal-then}
 use Rattle.escrow_manager.proofs.manager.EscrowManagerRecovery.blocker.Goals as goal
 
--- the bounds of k
-abbrev op : goal.After-bounded → Bounded
-op c = c.bounded.result
+-- what the manager keeps, and the bounds of k in it
+kept : (c : goal.After-mark_of) → IsKeptInEscrow c.args.self.now c.self.inside.marks.items c.self.inside.totals
+kept c = subst (λ (m : Meaning). IsKeptInEscrow m c.self.inside.marks.items c.self.inside.totals) c.self.view_is c.self.invariant
 
-found : (c : goal.After-bounded) → slice_get (bounds_in c.self.inside.checked.value) c.args.k ≡ Some (op c)
-found c =
-    let checked : Checked = c.self.inside.checked.value in
-    op-found checked c.deref.result.now c.args.k c.bounded.result c.deref.ensures c.bounded.ensures
+found : (c : goal.After-mark_of) → slice_get (bounds_in c.args.self.now.checked) c.args.k ≡ Some c.bounded-op.result
+found c = op-found c.args.self.now.checked c.deref.result.now c.args.k c.bounded-op.result (c.deref.ensures ∙ ap (λ (m : Meaning). m.checked) c.self.view_is) c.bounded-op.ensures
 
-exact : (c : goal.After-bounded) → c.mark_of-old.result ≡ mark_at (meant c.self.inside) c.args.t
-exact c = c.mark_of-old.ensures ∙ ap (λ (m : Meaning). mark_at m c.args.t) (sym c.self.view_is)
+pub keeper_of-requires-clause-small : goal.keeper_of-requires-clause-small
+keeper_of-requires-clause-small c =
+    small-with (kept c) c.marks_are_exact.ensures c.marks_fit.ensures c.firm_is_legal.ensures c.args.t c.mark_of.result c.mark_of.ensures c.args.k c.bounded-op.result (found c) c.requires.legal
 
-small : (c : goal.After-bounded) → IsSmall (greatest c.self.inside.checked.value) c.mark_of-old.result (op c)
-small c =
-    subst (λ x. IsSmall (greatest c.self.inside.checked.value) x (op c)) (sym (exact c))
-    (small-of c.self.invariant c.marks_are_exact.ensures c.marks_fit.ensures c.firm_is_legal.ensures c.args.t c.args.k (op c) (found c)
-    (subst (λ (m : Meaning). IsLegalFor m c.args.t c.args.k) (sym c.self.view_is) c.requires.legal))
-
-pub marked-mark-requires-clause-fall : goal.marked-mark-requires-clause-fall
-marked-mark-requires-clause-fall c =
-    let one = small c in
-    let fall = one.fall in
-    let top = top-small c.self.invariant in
-    omega (arith, fall, top)
-
-pub marked-mark-requires-clause-above : goal.marked-mark-requires-clause-above
-marked-mark-requires-clause-above c =
-    let one = small c in
-    let above = one.above in
-    let top = top-small c.self.invariant in
-    omega (arith, above, top)
-
-pub with-totals-requires-clause-short : goal.with-totals-requires-clause-short
-with-totals-requires-clause-short c =
-    more-short (greatest c.self.inside.checked.value) c.mark_of-old.result c.marked-mark.result (op c.before.before) (top-small c.self.invariant) (small c.before.before) c.marked-mark.ensures
-
-pub with-totals-requires-clause-fallen : goal.with-totals-requires-clause-fallen
-with-totals-requires-clause-fallen c =
-    let all = sums-of c.self.invariant c.extremes_tell_firm.ensures in
-    let fallen = all.fallen in
-    let same = ap (λ (x : Totals). x.fallen) c.self.invariant.summed in
-    let top = top-small c.self.invariant in
-    omega (arith, fallen, same, top)
-
-pub with-totals-requires-clause-risen : goal.with-totals-requires-clause-risen
-with-totals-requires-clause-risen c =
-    let all = sums-of c.self.invariant c.extremes_tell_firm.ensures in
-    let risen = all.risen in
-    let same = ap (λ (x : Totals). x.risen) c.self.invariant.summed in
-    let top = top-small c.self.invariant in
-    omega (arith, risen, same, top)
-
--- the totals with the new mark are small
-bounded : (c : goal.After-with-totals) → (c.with-totals.result.fallen < 17179869184) × (c.with-totals.result.risen < 17179869184) × (c.with-totals.result.needed < 17179869184)
-bounded c =
-    let h = c.self.invariant in
-    with-small (greatest c.self.inside.checked.value) c.self.inside.marks.items c.self.inside.totals c.with-totals.result c.mark_of-old.result c.marked-mark.result (op c.before.before.before)
-    (top-small h) h.summed (sums-of h c.extremes_tell_firm.ensures) (small c.before.before.before) c.marked-mark.ensures c.with-totals.ensures
-
-pub are_firm-requires-clause-fallen : goal.are_firm-requires-clause-fallen
-are_firm-requires-clause-fallen c = let few = (bounded c).0 in omega (arith, few)
-
-pub are_firm-requires-clause-risen : goal.are_firm-requires-clause-risen
-are_firm-requires-clause-risen c = let few = (bounded c).1 in omega (arith, few)
-
-pub are_firm-requires-clause-needed : goal.are_firm-requires-clause-needed
-are_firm-requires-clause-needed c = let few = (bounded c).2 in omega (arith, few)
-
-pub named_keeper-requires-clause-risen : goal.named_keeper-requires-clause-risen
-named_keeper-requires-clause-risen c = let few = (bounded c.before.before.before.before).1 in omega (arith, few)
-
-pub named_keeper-requires-clause-short : goal.named_keeper-requires-clause-short
-named_keeper-requires-clause-short c = short-of c.self.invariant c.marks_fit.ensures c.firm_is_legal.ensures
-
--- they are the totals after k
-same_mark : (c : goal.After-with-totals) → c.marked-mark.result ≡ mark_with (meant c.self.inside) c.args.t (op c.before.before.before)
-same_mark c = c.marked-mark.ensures ∙ ap (λ (x : Mark). mark_after x (op c.before.before.before)) (exact c.before.before.before)
-
-pub named_keeper-requires-clause-legal : goal.named_keeper-requires-clause-legal
-named_keeper-requires-clause-legal c =
-    subst (λ x. is_legal_from x c.self.inside.base ≡ true) (sym (same_mark c.before.before.before.before))
-    (legal-with c.self.invariant c.marks_are_exact.ensures c.marks_fit.ensures c.firm_is_legal.ensures c.args.t c.args.k (op c.before.before.before.before.before.before.before) (found c.before.before.before.before.before.before.before) (subst (λ (m : Meaning). IsLegalFor m c.args.t c.args.k) (sym c.self.view_is) c.requires.legal))
-
-same_totals : (c : goal.After-with-totals) → c.with-totals.result ≡ totals_after (meant c.self.inside) c.self.inside.totals c.args.t (op c.before.before.before)
-same_totals c =
-    c.with-totals.ensures ∙ ap (λ (x : Mark). totals_with c.self.inside.totals c.mark_of-old.result x) (same_mark c)
-    ∙ ap (λ (x : Mark). totals_with c.self.inside.totals x (mark_with (meant c.self.inside) c.args.t (op c.before.before.before))) (exact c.before.before.before)
-
-pub returns-then-are_firm : goal.returns-then-are_firm
-returns-then-are_firm c =
-    rw (← c.self.view_is)
-    (sym
-    (stopper-none c.self.invariant c.args.t c.args.k (op c.before.before.before.before.before) (found c.before.before.before.before.before) c.extremes_tell_firm.ensures c.firm_keeps_nobody.ensures
-    (subst (λ x. AreFirm c.self.inside.base x) (same_totals c.before.before) (c.are_firm.ensures.0 c.if-are_firm.true))))
-
-pub returns : goal.returns
-returns c =
-    let inside = c.self.inside in
-    let m = meant inside in
-    let t = c.args.t in
-    let log = inside.log.items in
-    let marks = inside.marks.items in
-    rw (← c.self.view_is)
-    (c.named_keeper.ensures ∙ ap (λ x. first_of log marks inside.base x c.marked-mark.result c.greatest-top.result t) (same_totals c.before.before.before.before.before)
-    ∙ ap (λ x. first_of log marks inside.base (totals_after m inside.totals t (op c.before.before.before.before.before.before.before.before)) x c.greatest-top.result t) (same_mark c.before.before.before.before.before)
-    ∙ ap (λ x. first_of log marks inside.base (totals_after m inside.totals t (op c.before.before.before.before.before.before.before.before)) (mark_with m t (op c.before.before.before.before.before.before.before.before)) x t) (c.greatest-top.ensures.exact ∙ ap greatest c.deref-2.ensures)
-    ∙ sym
-    (stopper-marks c.self.invariant t c.args.k (op c.before.before.before.before.before.before.before.before) (found c.before.before.before.before.before.before.before.before) c.marks_are_exact.ensures c.marks_fit.ensures c.firm_is_legal.ensures
-    c.marks_tell.ensures))
+pub keeper_of-requires-clause-legal : goal.keeper_of-requires-clause-legal
+keeper_of-requires-clause-legal c =
+    legal-then (kept c) c.marks_are_exact.ensures c.marks_fit.ensures c.firm_is_legal.ensures c.args.t c.mark_of.result c.mark_of.ensures c.args.k c.bounded-op.result (found c) c.requires.legal

@@ -14,7 +14,7 @@ returns-clause-exact c =
     let inside = c.self.inside in
     let T : Table = inside.checked.value.file.table in
     let table : c.table.result.now ≡ T = c.table.ensures ∙ ap (λ (x : Checked). x.file.table) c.deref.ensures in
-    let state : c.from.result ≡ walked T c.args.t inside.base inside.log.items = c.from.ensures ∙ c.walked.ensures.exact ∙ ap (λ x. walked x c.args.t inside.base inside.log.items) table in
+    let state : c.from.result ≡ walked T c.args.t inside.base inside.log.items = c.from.ensures ∙ c.walked.ensures.exact ∙ ap (λ x. walked x c.args.t inside.base c.deref-2.result.now) table ∙ ap (walked T c.args.t inside.base) c.deref-2.ensures.value in
     rw (← c.self.view_is) (view-told c.args.t c.self.invariant.0 ∙ ap Some (sym state))
 
 pub returns-clause-inside : goal.returns-clause-inside

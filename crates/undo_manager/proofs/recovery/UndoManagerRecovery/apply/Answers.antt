@@ -14,14 +14,14 @@ use Rattle.table_checker.specs.Checked.{Checked}
 use Rattle.declared_types.specs.Declarations.{IsByTable}
 use Rattle.undo_manager.proofs.recovery.UndoManagerRecovery.apply.Goals as goal
 
-pub table-requires : goal.table-requires
-table-requires c = subst IsByTable (sym (ap (λ (x : Checked). x.kind) c.deref.ensures ∙ c.self.invariant.0.in_place)) tt
+pub table-table-requires : goal.table-table-requires
+table-table-requires c = subst IsByTable (sym (ap (λ (x : Checked). x.kind) c.deref.ensures ∙ c.self.invariant.0.in_place)) tt
 
 pub next_state-state-requires-clause-legal : goal.next_state-state-requires-clause-legal
 next_state-state-requires-clause-legal c =
     let m = c.self.inside in
     let may = rw (← c.self.view_is) at c.requires in
-    rw (c.table-2.ensures, c.deref-2.ensures) (legal-next (m.checked.value) m.base m.state m.log.items m.opened.items c.args.t c.args.k c.self.invariant.0 may.legal)
+    rw (c.table-table.ensures, c.deref.ensures) (legal-next (m.checked.value) m.base m.state m.log.items m.opened.items c.args.t c.args.k c.self.invariant.0 may.legal)
 
 pub append-requires-clause-fits : goal.append-requires-clause-fits
 append-requires-clause-fits c =
@@ -33,7 +33,7 @@ pub invariant_of-self-2 : goal.invariant_of-self-2
 invariant_of-self-2 c =
     let m = c.self.inside in
     let may = rw (← c.self.view_is) at c.requires in
-    let step = rw (c.table-2.ensures, c.deref-2.ensures) at c.next_state-state.ensures in
+    let step = rw (c.table-table.ensures, c.deref.ensures) at c.next_state-state.ensures in
     let one : UndoEntry = record { entry = record { by = c.args.t; op = c.args.k; done = false }; before = m.state } in
     rw c.in_ok-append.ensures.log (
       applied-kept c.steps_within.ensures c.sound_after_apply.ensures m.checked.value m.base m.state m.log.items m.opened.items c.append.new.counts.items c.args.t c.args.k c.next_state-state.result
